@@ -1,0 +1,21 @@
+-- Names as texts, by a table of them. A number past the table has a list that is no text, so that the names of all numbers differ.
+use Rattle.std.specs.Prelude.{ℕ, ◌+◌, ◌<◌, nat_lt, List, [], ◌∷◌, if◌then◌else◌, length, slice_index_or}
+use Rattle.op_logic.specs.Term.{Term, var, int, node, Args, no_args, arg, rename}
+
+abbrev pub name_at : List (List ℕ) → ℕ → List ℕ
+name_at names n = if nat_lt n (length names) then slice_index_or names n [] else (256 + n) ∷ []
+
+-- a term over texts
+abbrev pub named : List (List ℕ) → Term ℕ → Term (List ℕ)
+named names t = rename (name_at names) t
+
+-- each name is in the table
+abbrev mutual
+  pub HasNames : ℕ → Term ℕ → Type 0
+  HasNames n (var v) = Unit {0}
+  HasNames n (int i) = Unit {0}
+  HasNames n (node f ts) = (f < n) × ArgsHaveNames n ts
+
+  pub ArgsHaveNames : ℕ → Args ℕ → Type 0
+  ArgsHaveNames n no_args = Unit {0}
+  ArgsHaveNames n (arg t ts) = HasNames n t × ArgsHaveNames n ts
