@@ -1,0 +1,103 @@
+-- Fuel doesn't matter: the walk has one equation, by its rows.
+use Rattle.std.proofs.Common.{◌≡◌, ℕ, zero, suc, ◌+◌, ◌-◌, ◌≤◌, ◌<◌, nat_le, Bool, true, false, List, [], ◌∷◌, Option, Some, None, refl, ap, ◌∙◌, arith}
+use Rattle.std.proofs.lemmas.Bool.Decides.{nat_tests}
+use Rattle.op_logic.specs.Term.{Term, shift}
+use Rattle.op_logic.specs.Bind.{Bindings, Solved as Result, solve}
+use Rattle.op_trace.specs.declared.port.Port.TheVariants as port
+use Rattle.op_trace.specs.World.{Text, text_eq, Clause, World, Setup, Barrier, Item, Goal, Exit, Shown, procedure}
+use Rattle.op_trace.specs.Visit.{Verdict, Failed, Stopped, Spent, Visited, with_turns, and_then, on_failed, with_event, event_of, pays, spends, Control, Succeed, Give_up, Both, Invoke, Visitor, Choice, Redo, More, Fail, matched, tries, alternatives, after, boxed, selected, visit_with, visit_by, visit}
+use Rattle.op_trace.proofs.Later.{VisitsLater, Later, IsLess, within-less, tries-later, visit_with-later, visit_by-later}
+
+-- two visitors that agree wherever more than n steps were made, and no more than b
+abbrev pub Agree : ℕ → ℕ → Visitor → Visitor → Type 0
+Agree b n f g = (I : List Item) (σ : Bindings Text) (w : World) → n < w.steps → w.steps ≤ b → f I σ w ≡ g I σ w
+
+pub pays-same : (t : Bool) (s : Setup) (n : ℕ) (w : World) (h i : World → Visited) → nat_le (w.steps + n) s.budget ≡ t
+    → (w.steps + n ≤ s.budget → h (record w { steps = w.steps + n }) ≡ i (record w { steps = w.steps + n }))
+    → pays t s n w h ≡ pays t s n w i
+pays-same true s n w h i test e = let fits : w.steps + n ≤ s.budget = grind (arith, nat_tests) in e fits
+pays-same false s n w h i test e = refl
+
+pub spends-same : (s : Setup) (n : ℕ) (w : World) (h i : World → Visited)
+    → (w.steps + n ≤ s.budget → h (record w { steps = w.steps + n }) ≡ i (record w { steps = w.steps + n }))
+    → spends s n w h ≡ spends s n w i
+spends-same s n w h i e = pays-same (nat_le (w.steps + n) s.budget) s n w h i refl e
+
+pub on_failed-same : (h i : World → Visited) (r : Verdict) (w : World) → h w ≡ i w → on_failed h r w ≡ on_failed i r w
+on_failed-same h i Failed w e = e
+on_failed-same h i Stopped w e = refl
+on_failed-same h i Spent w e = refl
+
+pub and_then-same : (v u : Visited) (h i : Verdict → World → Visited) → v ≡ u → h v.verdict v.world ≡ i v.verdict v.world → and_then v h ≡ and_then u i
+and_then-same v u h i e k = ap (with_turns v.turns) k ∙ ap (λ (x : Visited). and_then x i) e
+
+module _ (f g : Visitor) (s : Setup) (n : ℕ) (agree : Agree s.budget n f g) (later : VisitsLater s.budget f) where
+  pub matched-same : (c : Clause) (k : ℕ) (t : Term Text) (J : List Item) (w : World) (o : Option (Result Text))
+      → n < w.steps → w.steps ≤ s.budget → IsLess (s.budget - w.steps) o → matched f s c k t J w o ≡ matched g s c k t J w o
+  matched-same c k t J w None low high less = refl
+  matched-same c k t J w (Some (None, left)) low high less = refl
+  matched-same c k t J w (Some (Some τ, left)) low high less =
+      spends-same s c.variables (record w { steps = s.budget - left }) _ _ (λ fits. agree _ _ _ (omega arith) fits)
+
+  pub tries-same : (c : Clause) (k : ℕ) (t : Term Text) (σ : Bindings Text) (J : List Item) (w : World)
+      → n ≤ w.steps → w.steps ≤ s.budget → tries f s c k t σ J w ≡ tries g s c k t σ J w
+  tries-same c k t σ J w low high =
+      spends-same s 1 w _ _ (λ fits. matched-same c k t J (record w { steps = w.steps + 1 }) _ (omega arith) fits
+      (within-less {A = Option (Bindings Text)} (s.budget - (w.steps + 1)) (solve text_eq (s.budget - (w.steps + 1)) σ ((t, shift {N = Text} w.variables c.head) ∷ []))))
+
+  pub alternatives-same : (cs : List Clause) (k : ℕ) (t : Term Text) (σ : Bindings Text) (J : List Item) (r : Verdict) (w : World)
+      → n ≤ w.steps → w.steps ≤ s.budget → alternatives f s cs k t σ J r w ≡ alternatives g s cs k t σ J r w
+  alternatives-same [] k t σ J r w low high = refl
+  alternatives-same (c ∷ cs) k t σ J r w low high =
+      let tried : Later s.budget w.steps (tries f s c k t σ J w) = tries-later f s c k t σ J w later high in
+      on_failed-same _ _ r w (and_then-same (tries f s c k t σ J w) (tries g s c k t σ J w) (alternatives f s cs k t σ J) (alternatives g s cs k t σ J) (tries-same c k t σ J w low high)
+      (alternatives-same cs k t σ J (tries f s c k t σ J w).verdict (tries f s c k t σ J w).world (omega (arith, tried.0)) tried.1))
+
+  pub after-same : (c : Choice) (r : Verdict) (w : World) → n ≤ w.steps → w.steps ≤ s.budget → after f s c r w ≡ after g s c r w
+  after-same (Redo k t σ J) r w low high = refl
+  after-same (More cs k t σ J) r w low high = alternatives-same cs k t σ J r w low high
+  after-same (Fail k t σ J) r w low high = refl
+
+  pub boxed-same : (t : Term Text) (J : List Item) (σ : Bindings Text) (w : World) → n ≤ w.steps → w.steps ≤ s.budget → boxed f s t J σ w ≡ boxed g s t J σ w
+  boxed-same t J σ w low high =
+      let u : World = with_event (record w { calls = w.calls + 1 }) in
+      ap (with_turns (Shown (event_of port.Call (w.calls + 1) t σ J (record w { calls = w.calls + 1 })) u ∷ []))
+      (and_then-same (alternatives f s (procedure w.clauses t) (w.calls + 1) t σ J Failed u) (alternatives g s (procedure w.clauses t) (w.calls + 1) t σ J Failed u)
+      (after f s (Fail (w.calls + 1) t σ J)) (after g s (Fail (w.calls + 1) t σ J))
+      (alternatives-same (procedure w.clauses t) (w.calls + 1) t σ J Failed (with_event (record w { calls = w.calls + 1 })) low high) refl)
+
+  pub selected-same : (q : Control) (t : Term Text) (m : Barrier) (J : List Item) (σ : Bindings Text) (w : World)
+      → n < w.steps → w.steps ≤ s.budget → selected f s q t m J σ w ≡ selected g s q t m J σ w
+  selected-same Succeed t m J σ w low high = agree _ _ _ low high
+  selected-same Give_up t m J σ w low high = refl
+  selected-same (Both a b) t m J σ w low high = agree _ _ _ low high
+  selected-same Invoke t m J σ w low high = boxed-same t J σ w (omega arith) high
+
+  pub visit_with-same : (I : List Item) (σ : Bindings Text) (w : World) → n ≤ w.steps → w.steps ≤ s.budget → visit_with f s I σ w ≡ visit_with g s I σ w
+  unfolding visit_with
+  visit_with-same [] σ w low high = refl
+  visit_with-same (Exit k t ∷ J) σ w low high =
+      let inner : Later s.budget w.steps (visit_with f s J σ (with_event w)) = visit_with-later f s later J σ (with_event w) high in
+      ap (with_turns (Shown (event_of port.Exit k t σ J w) (with_event w) ∷ []))
+      (and_then-same (visit_with f s J σ (with_event w)) (visit_with g s J σ (with_event w)) (after f s (Redo k t σ J)) (after g s (Redo k t σ J)) (visit_with-same J σ (with_event w) low high)
+      (after-same (Redo k t σ J) (visit_with f s J σ (with_event w)).verdict (visit_with f s J σ (with_event w)).world (omega (arith, inner.0)) inner.1))
+  visit_with-same (Goal t m ∷ J) σ w low high =
+      spends-same s 1 w _ _ (λ fits. selected-same _ t m J σ (record w { steps = w.steps + 1 }) (omega arith) fits)
+
+-- more fuel than steps are left gives the same
+pub visit_by-same : (f g : ℕ) (s : Setup) (I : List Item) (σ : Bindings Text) (w : World)
+    → w.steps ≤ s.budget → s.budget - w.steps < f → s.budget - w.steps < g → visit_by f s I σ w ≡ visit_by g s I σ w
+unfolding visit_by
+visit_by-same zero g s I σ w below a b = absurd (omega arith)
+visit_by-same (suc f) zero s I σ w below a b = absurd (omega arith)
+visit_by-same (suc f) (suc g) s I σ w below a b =
+    visit_with-same (visit_by f s) (visit_by g s) s w.steps (λ I τ u low high. visit_by-same f g s I τ u high (omega arith) (omega arith))
+    (visit_by-later f s) I σ w (omega arith) below
+
+-- the walk, by its rows
+pub visit_rows : (s : Setup) (I : List Item) (σ : Bindings Text) (w : World) → w.steps ≤ s.budget → visit s I σ w ≡ visit_with (visit s) s I σ w
+unfolding visit visit_by
+visit_rows s I σ w below =
+    visit_with-same (visit_by (s.budget - w.steps) s) (visit s) s w.steps
+    (λ I τ u low high. visit_by-same (s.budget - w.steps) (suc (s.budget - u.steps)) s I τ u high (omega arith) (omega arith))
+    (visit_by-later (s.budget - w.steps) s) I σ w (omega arith) below

@@ -1,0 +1,116 @@
+-- A walk leaves no fewer steps than it found, and no more than the budget.
+use Rattle.std.proofs.Common.{◌≡◌, ℕ, zero, suc, ◌+◌, ◌-◌, ◌≤◌, nat_le, Bool, true, false, List, [], ◌∷◌, Option, Some, None, refl, arith, if◌then◌else◌}
+use Rattle.std.proofs.lemmas.Bool.Decides.{nat_tests}
+use Rattle.op_logic.specs.Term.{Term, shift}
+use Rattle.op_logic.specs.Bind.{Bindings, Solved as Result, within, solve}
+use Rattle.op_trace.specs.World.{Text, text_eq, Clause, World, Setup, Barrier, Item, Goal, Exit, procedure}
+use Rattle.op_trace.specs.Visit.{Verdict, Failed, Stopped, Spent, Visited, and_then, on_failed, with_event, pays, spends, Control, Succeed, Give_up, Both, Invoke, control, Visitor, Choice, Redo, More, Fail, matched, tries, alternatives, after, boxed, selected, visit_with, visit_by, visit}
+
+-- a walk from n steps on, with a budget of b
+abbrev pub Later : ℕ → ℕ → Visited → Type 0
+Later b n v = (n ≤ v.world.steps) × (v.world.steps ≤ b)
+
+abbrev pub VisitsLater : ℕ → Visitor → Type 0
+VisitsLater b visit = (I : List Item) (σ : Bindings Text) (w : World) → w.steps ≤ b → Later b w.steps (visit I σ w)
+
+pub later_from : (b m n x : ℕ) → m ≤ n → (n ≤ x) × (x ≤ b) → (m ≤ x) × (x ≤ b)
+later_from b m n x h l = (omega arith, l.1)
+
+pub pays-later : (t : Bool) (s : Setup) (n : ℕ) (w : World) (h : World → Visited) → nat_le (w.steps + n) s.budget ≡ t → w.steps ≤ s.budget
+    → (w.steps + n ≤ s.budget → Later s.budget w.steps (h (record w { steps = w.steps + n })))
+    → Later s.budget w.steps (pays t s n w h)
+pays-later true s n w h test below l = let fits : w.steps + n ≤ s.budget = grind (arith, nat_tests) in l fits
+pays-later false s n w h test below l = (below, omega arith)
+
+pub spends-later : (s : Setup) (n : ℕ) (w : World) (h : World → Visited) → w.steps ≤ s.budget
+    → (w.steps + n ≤ s.budget → Later s.budget w.steps (h (record w { steps = w.steps + n })))
+    → Later s.budget w.steps (spends s n w h)
+spends-later s n w h below l = pays-later (nat_le (w.steps + n) s.budget) s n w h refl below l
+
+pub on_failed-later : (b n : ℕ) (h : World → Visited) (r : Verdict) (w : World) → n ≤ w.steps → w.steps ≤ b → Later b n (h w) → Later b n (on_failed h r w)
+on_failed-later b n h Failed w low high l = l
+on_failed-later b n h Stopped w low high l = (low, high)
+on_failed-later b n h Spent w low high l = (low, high)
+
+pub and_then-later : (b n : ℕ) (v : Visited) (h : Verdict → World → Visited) → Later b n v
+    → ((r : Verdict) (u : World) → n ≤ u.steps → u.steps ≤ b → Later b n (h r u)) → Later b n (and_then v h)
+and_then-later b n v h l k = k v.verdict v.world l.0 l.1
+
+-- what is left after a budgeted result is no more than before it
+abbrev pub IsLess : {A : Type 0} → ℕ → Option (A × ℕ) → Type 0
+IsLess left None = Unit {0}
+IsLess left (Some r) = r.1 ≤ left
+
+pub within-less : {A : Type 0} (left : ℕ) (o : Option (A × ℕ)) → IsLess left (within left o)
+within-less left None = tt
+within-less {A} left (Some r) = go (nat_le r.1 left)
+  where
+    go : (t : Bool) → IsLess {A = A} left (if t then Some (r.0, left - r.1) else None)
+    go true = omega arith
+    go false = tt
+
+pub matched-later : (visit : Visitor) (s : Setup) (c : Clause) (k : ℕ) (g : Term Text) (J : List Item) (w : World) (o : Option (Result Text))
+    → VisitsLater s.budget visit → w.steps ≤ s.budget → IsLess (s.budget - w.steps) o → Later s.budget w.steps (matched visit s c k g J w o)
+matched-later visit s c k g J w None lv below less = (below, omega arith)
+matched-later visit s c k g J w (Some (None, left)) lv below less = (omega arith, omega arith)
+matched-later visit s c k g J w (Some (Some τ, left)) lv below less =
+    let up : w.steps ≤ s.budget - left = omega arith in
+    let in_budget : s.budget - left ≤ s.budget = omega arith in
+    later_from s.budget w.steps (s.budget - left) _ up
+    (spends-later s c.variables (record w { steps = s.budget - left }) _ in_budget
+    (λ fits. later_from s.budget (s.budget - left) (s.budget - left + c.variables) _ (omega arith) (lv _ _ _ fits)))
+
+pub tries-later : (visit : Visitor) (s : Setup) (c : Clause) (k : ℕ) (g : Term Text) (σ : Bindings Text) (J : List Item) (w : World)
+    → VisitsLater s.budget visit → w.steps ≤ s.budget → Later s.budget w.steps (tries visit s c k g σ J w)
+tries-later visit s c k g σ J w lv below =
+    spends-later s 1 w _ below (λ fits. later_from s.budget w.steps (w.steps + 1) _ (omega arith)
+    (matched-later visit s c k g J (record w { steps = w.steps + 1 }) _ lv fits
+    (within-less {A = Option (Bindings Text)} (s.budget - (w.steps + 1)) (solve text_eq (s.budget - (w.steps + 1)) σ ((g, shift {N = Text} w.variables c.head) ∷ [])))))
+
+pub alternatives-later : (visit : Visitor) (s : Setup) (cs : List Clause) (k : ℕ) (g : Term Text) (σ : Bindings Text) (J : List Item) (n : ℕ) (r : Verdict) (w : World)
+    → VisitsLater s.budget visit → n ≤ w.steps → w.steps ≤ s.budget → Later s.budget n (alternatives visit s cs k g σ J r w)
+alternatives-later visit s [] k g σ J n r w lv low high = (low, high)
+alternatives-later visit s (c ∷ cs) k g σ J n r w lv low high =
+    on_failed-later s.budget n _ r w low high
+    (and_then-later s.budget n (tries visit s c k g σ J w) (alternatives visit s cs k g σ J)
+    (later_from s.budget n w.steps _ low (tries-later visit s c k g σ J w lv high))
+    (λ q u l h. alternatives-later visit s cs k g σ J n q u lv l h))
+
+pub after-later : (visit : Visitor) (s : Setup) (c : Choice) (n : ℕ) (r : Verdict) (w : World)
+    → VisitsLater s.budget visit → n ≤ w.steps → w.steps ≤ s.budget → Later s.budget n (after visit s c r w)
+after-later visit s (Redo k g σ J) n r w lv low high = on_failed-later s.budget n _ r w low high (low, high)
+after-later visit s (More cs k g σ J) n r w lv low high = alternatives-later visit s cs k g σ J n r w lv low high
+after-later visit s (Fail k g σ J) n r w lv low high = on_failed-later s.budget n _ r w low high (low, high)
+
+pub boxed-later : (visit : Visitor) (s : Setup) (g : Term Text) (J : List Item) (σ : Bindings Text) (w : World)
+    → VisitsLater s.budget visit → w.steps ≤ s.budget → Later s.budget w.steps (boxed visit s g J σ w)
+boxed-later visit s g J σ w lv below =
+    and_then-later s.budget w.steps (alternatives visit s (procedure w.clauses g) (w.calls + 1) g σ J Failed (with_event (record w { calls = w.calls + 1 }))) (after visit s (Fail (w.calls + 1) g σ J))
+    (alternatives-later visit s (procedure w.clauses g) (w.calls + 1) g σ J w.steps Failed (with_event (record w { calls = w.calls + 1 })) lv (omega arith) below)
+    (λ r u l h. after-later visit s (Fail (w.calls + 1) g σ J) w.steps r u lv l h)
+
+pub selected-later : (visit : Visitor) (s : Setup) (q : Control) (t : Term Text) (m : Barrier) (J : List Item) (σ : Bindings Text) (w : World)
+    → VisitsLater s.budget visit → w.steps ≤ s.budget → Later s.budget w.steps (selected visit s q t m J σ w)
+selected-later visit s Succeed t m J σ w lv below = lv J σ w below
+selected-later visit s Give_up t m J σ w lv below = (omega arith, below)
+selected-later visit s (Both a b) t m J σ w lv below = lv _ σ w below
+selected-later visit s Invoke t m J σ w lv below = boxed-later visit s t J σ w lv below
+
+pub visit_with-later : (visit : Visitor) (s : Setup) → VisitsLater s.budget visit → VisitsLater s.budget (visit_with visit s)
+unfolding visit_with
+visit_with-later visit s lv [] σ w below = (omega arith, below)
+visit_with-later visit s lv (Exit k g ∷ J) σ w below =
+    and_then-later s.budget w.steps (visit_with visit s J σ (with_event w)) (after visit s (Redo k g σ J)) (visit_with-later visit s lv J σ (with_event w) below)
+    (λ r u l h. after-later visit s (Redo k g σ J) w.steps r u lv l h)
+visit_with-later visit s lv (Goal t m ∷ J) σ w below =
+    spends-later s 1 w _ below (λ fits. later_from s.budget w.steps (w.steps + 1) _ (omega arith)
+    (selected-later visit s (control t) t m J σ (record w { steps = w.steps + 1 }) lv fits))
+
+pub visit_by-later : (f : ℕ) (s : Setup) → VisitsLater s.budget (visit_by f s)
+unfolding visit_by
+visit_by-later zero s I σ w below = (omega arith, below)
+visit_by-later (suc f) s I σ w below = visit_with-later (visit_by f s) s (visit_by-later f s) I σ w below
+
+pub visit-later : (s : Setup) → VisitsLater s.budget (visit s)
+unfolding visit
+visit-later s I σ w below = visit_by-later (suc (s.budget - w.steps)) s I σ w below

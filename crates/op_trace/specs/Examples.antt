@@ -1,0 +1,78 @@
+-- Small runs by computation.
+use Rattle.std.specs.Prelude.{◌≡◌, ℕ, [], ◌∷◌, codes, refl}
+use Rattle.op_logic.specs.Term.{Term, node, no_args, arg, atom}
+use Rattle.op_trace.specs.declared.port.Port.{Port}
+use Rattle.op_trace.specs.declared.port.Port.TheVariants as port
+use Rattle.op_trace.specs.World.{Text, Clause, World, loaded, Setup, Event}
+use Rattle.op_trace.specs.Visit.{Failed, Stopped, Spent, visit, visit_by, visit_with}
+use Rattle.op_trace.specs.Run.{run, events_of}
+
+abbrev name : Text → Term Text
+name f = atom f
+
+abbrev both : Term Text → Term Text → Term Text
+both a b = node (codes ",") (arg a (arg b no_args))
+
+abbrev clause : ℕ → Text → Term Text → Clause
+clause i f b = record { id = i; head = name f; body = b; variables = 0 }
+
+abbrev event : ℕ → ℕ → ℕ → ℕ → Port → Text → Event
+event n k p d q f = record { chrono = n; call = k; parent = p; depth = d; port = q; goal = name f }
+
+abbrev setup : Setup
+setup = record { budget = 100; wanted = 1 }
+
+-- a :- b, c. b. c.
+abbrev first_program : World
+first_program = loaded (clause 0 (codes "a") (both (name (codes "b")) (name (codes "c"))) ∷ clause 1 (codes "b") (name (codes "true")) ∷ clause 2 (codes "c") (name (codes "true")) ∷ [])
+
+pub first_events : events_of (run setup (name (codes "a")) first_program).turns
+    ≡ event 1 1 0 1 port.Call (codes "a") ∷ event 2 2 1 2 port.Call (codes "b") ∷ event 3 2 1 2 port.Exit (codes "b")
+    ∷ event 4 3 1 2 port.Call (codes "c") ∷ event 5 3 1 2 port.Exit (codes "c") ∷ event 6 1 0 1 port.Exit (codes "a") ∷ []
+unfolding visit visit_by visit_with
+first_events = refl
+
+pub first_ending : (run setup (name (codes "a")) first_program).verdict ≡ Stopped
+unfolding visit visit_by visit_with
+first_ending = refl
+
+pub first_steps : (run setup (name (codes "a")) first_program).world.steps ≡ 10
+unfolding visit visit_by visit_with
+first_steps = refl
+
+-- p :- q, r. q. q. r :- fail.
+abbrev second_program : World
+second_program = loaded (clause 0 (codes "p") (both (name (codes "q")) (name (codes "r"))) ∷ clause 1 (codes "q") (name (codes "true"))
+    ∷ clause 2 (codes "q") (name (codes "true")) ∷ clause 3 (codes "r") (name (codes "fail")) ∷ [])
+
+pub second_events : events_of (run setup (name (codes "p")) second_program).turns
+    ≡ event 1 1 0 1 port.Call (codes "p") ∷ event 2 2 1 2 port.Call (codes "q") ∷ event 3 2 1 2 port.Exit (codes "q")
+    ∷ event 4 3 1 2 port.Call (codes "r") ∷ event 5 3 1 2 port.Fail (codes "r") ∷ event 6 2 1 2 port.Redo (codes "q")
+    ∷ event 7 2 1 2 port.Exit (codes "q") ∷ event 8 4 1 2 port.Call (codes "r") ∷ event 9 4 1 2 port.Fail (codes "r")
+    ∷ event 10 2 1 2 port.Redo (codes "q") ∷ event 11 2 1 2 port.Fail (codes "q") ∷ event 12 1 0 1 port.Fail (codes "p") ∷ []
+unfolding visit visit_by visit_with
+second_events = refl
+
+pub second_ending : (run setup (name (codes "p")) second_program).verdict ≡ Failed
+unfolding visit visit_by visit_with
+second_ending = refl
+
+-- p :- p.
+abbrev loop_program : World
+loop_program = loaded (clause 0 (codes "p") (name (codes "p")) ∷ [])
+
+abbrev ten : Setup
+ten = record { budget = 10; wanted = 1 }
+
+pub loop_events : events_of (run ten (name (codes "p")) loop_program).turns
+    ≡ event 1 1 0 1 port.Call (codes "p") ∷ event 2 2 1 2 port.Call (codes "p") ∷ event 3 3 2 3 port.Call (codes "p") ∷ event 4 4 3 4 port.Call (codes "p") ∷ []
+unfolding visit visit_by visit_with
+loop_events = refl
+
+pub loop_ending : (run ten (name (codes "p")) loop_program).verdict ≡ Spent
+unfolding visit visit_by visit_with
+loop_ending = refl
+
+pub loop_steps : (run ten (name (codes "p")) loop_program).world.steps ≡ 10
+unfolding visit visit_by visit_with
+loop_steps = refl

@@ -1,0 +1,4 @@
+pub mod World
+pub mod Visit
+pub mod Run
+pub mod Examples

@@ -1,0 +1,36 @@
+-- A run: its turns in order, its ending, and the world at its end.
+use Rattle.std.specs.Prelude.{ℕ, ◌-◌, nat_le, List, [], ◌∷◌, if◌then◌else◌, slice_index_or}
+use Rattle.op_logic.specs.Term.{Term}
+use Rattle.op_trace.specs.World.{Text, World, Setup, Call, Goal, Event, Turn, Shown, Solved}
+use Rattle.op_trace.specs.Visit.{Visited, visit}
+
+-- the run of a goal, converted and with its variables numbered from 0, from a world
+abbrev pub run : Setup → Term Text → World → Visited
+run s g w = visit s (Goal g (Call 0) ∷ []) [] w
+
+-- the events, and the worlds at them
+abbrev pub events_of : List Turn → List Event
+events_of [] = []
+events_of (Shown e w ∷ ts) = e ∷ events_of ts
+events_of (Solved σ w ∷ ts) = events_of ts
+
+abbrev pub worlds_of : List Turn → List World
+worlds_of [] = []
+worlds_of (Shown e w ∷ ts) = w ∷ worlds_of ts
+worlds_of (Solved σ w ∷ ts) = worlds_of ts
+
+-- The places of a run with n events: 0 before the first event, i at event i, and n + 1 for the end.
+-- The world at a place of a run from a world: that world at 0, the event's at an event, and the whole run's at the end.
+abbrev pub world_at : World → Visited → ℕ → World
+world_at w v i =
+    if nat_le i 0 then w else (slice_index_or (worlds_of v.turns) (i - 1) v.world)
+
+-- how much was written, looked at and counted up to a place
+abbrev pub output_at : World → Visited → ℕ → List ℕ
+output_at w v i = (world_at w v i).output
+
+abbrev pub looked_at : World → Visited → ℕ → ℕ
+looked_at w v i = (world_at w v i).looked
+
+abbrev pub steps_at : World → Visited → ℕ → ℕ
+steps_at w v i = (world_at w v i).steps

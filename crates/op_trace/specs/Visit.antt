@@ -1,0 +1,158 @@
+-- The walk over the search tree of a goal, in the order of Prolog (ISO/IEC 13211-1, 7.7 and 7.8), with the events of the
+-- box model. Success is the rest of a list of items, and failure the return of the recursion. Bindings only grow, and
+-- nothing is undone. Each step is taken before what it pays for; where it isn't there, the walk is Spent.
+use Rattle.std.specs.Prelude.{ℕ, zero, suc, ◌+◌, ◌-◌, ◌==◌, nat_le, Bool, true, false, List, [], ◌∷◌, ◌++◌, length, codes, if◌then◌else◌, Option, Some, None}
+use Rattle.op_logic.specs.Term.{Term, node, no_args, arg, shift}
+use Rattle.op_logic.specs.Bind.{Bindings, apply, unify, Solved as Result}
+use Rattle.op_trace.specs.declared.port.Port.{Port}
+use Rattle.op_trace.specs.declared.port.Port.TheVariants as port
+use Rattle.op_trace.specs.World.{Text, text_eq, Clause, World, Setup, Barrier, Call, Item, Goal, Exit, open_boxes, head_number, Event, Turn, Shown, Solved, procedure}
+
+-- how a walk ends: no solution is left, the wanted solution was found, or one more step would pass the budget
+pub data Verdict : Type 0 where
+  Failed : Verdict
+  Stopped : Verdict
+  Spent : Verdict
+
+-- what a walk shows, how it ends, and the world that it leaves
+pub record Visited : Type 0 where
+  pub turns : List Turn
+  pub verdict : Verdict
+  pub world : World
+
+abbrev pub gives : Verdict → World → Visited
+gives r w = record { turns = []; verdict = r; world = w }
+
+abbrev pub with_turns : List Turn → Visited → Visited
+with_turns ts v = record { turns = ts ++ v.turns; verdict = v.verdict; world = v.world }
+
+-- a walk, and then what its result leads to
+abbrev pub and_then : Visited → (Verdict → World → Visited) → Visited
+and_then v h = with_turns v.turns (h v.verdict v.world)
+
+-- only after Failed; other results are handed on
+abbrev pub on_failed : (World → Visited) → Verdict → World → Visited
+on_failed h Failed w = h w
+on_failed h Stopped w = gives Stopped w
+on_failed h Spent w = gives Spent w
+
+-- the event of a box that was called before these items
+abbrev pub event_of : Port → ℕ → Term Text → Bindings Text → List Item → World → Event
+event_of p k g σ J w =
+    record { chrono = w.events + 1; call = k; parent = head_number (open_boxes J); depth = 1 + length (open_boxes J); port = p; goal = apply σ g }
+
+abbrev pub with_event : World → World
+with_event w = record w { events = w.events + 1 }
+
+-- an event, and what comes after it
+abbrev pub shows : Port → ℕ → Term Text → Bindings Text → List Item → World → (World → Visited) → Visited
+shows p k g σ J w h = with_turns (Shown (event_of p k g σ J w) (with_event w) ∷ []) (h (with_event w))
+
+-- where all is spent, the count of steps is the budget
+abbrev pub spent : Setup → World → Visited
+spent s w = gives Spent (record w { steps = s.budget })
+
+abbrev pub pays : Bool → Setup → ℕ → World → (World → Visited) → Visited
+pays true s n w h = h (record w { steps = w.steps + n })
+pays false s n w h = spent s w
+
+-- n steps, and what they pay for
+abbrev pub spends : Setup → ℕ → World → (World → Visited) → Visited
+spends s n w h = pays (nat_le (w.steps + n) s.budget) s n w h
+
+-- what kind of goal a term is (7.6.2, 7.8): a control construct, or a goal that has a box
+pub data Control : Type 0 where
+  Succeed : Control
+  Give_up : Control
+  Both : Term Text → Term Text → Control
+  Invoke : Control
+
+abbrev pub control_of_atom : Text → Control
+control_of_atom f =
+    if text_eq f (codes "true") then Succeed else (if text_eq f (codes "fail") then Give_up else (if text_eq f (codes "false") then Give_up else Invoke))
+
+abbrev pub control_of_pair : Text → Term Text → Term Text → Control
+control_of_pair f a b = if text_eq f (codes ",") then Both a b else Invoke
+
+abbrev pub control : Term Text → Control
+control (node f no_args) = control_of_atom f
+control (node f (arg a (arg b no_args))) = control_of_pair f a b
+control _ = Invoke
+
+abbrev pub is_true : Term Text → Bool
+is_true (node f no_args) = text_eq f (codes "true")
+is_true _ = false
+
+-- what is to be done in a box once a clause's head has matched: its body, then the exit; nothing but the exit for a fact
+abbrev pub entered : ℕ → Clause → ℕ → Term Text → List Item → List Item
+entered first c k g J =
+    if is_true c.body then Exit k g ∷ J else Goal (shift first c.body) (Call k) ∷ Exit k g ∷ J
+
+abbrev pub Visitor : Type 0
+Visitor = List Item → Bindings Text → World → Visited
+
+-- what is left to do on backtracking, and after each other result, by a row of the walk that was entered:
+-- an exit is redone; a box has further clauses; a box has no further alternative
+pub data Choice : Type 0 where
+  Redo : ℕ → Term Text → Bindings Text → List Item → Choice
+  More : List Clause → ℕ → Term Text → Bindings Text → List Item → Choice
+  Fail : ℕ → Term Text → Bindings Text → List Item → Choice
+
+-- a head that was unified with the goal, or not, or whose steps were not there
+abbrev pub matched : Visitor → Setup → Clause → ℕ → Term Text → List Item → World → Option (Result Text) → Visited
+matched visit s c k g J w None = spent s w
+matched visit s c k g J w (Some (None, left)) = gives Failed (record w { steps = s.budget - left })
+matched visit s c k g J w (Some (Some τ, left)) =
+    spends s c.variables (record w { steps = s.budget - left }) (λ u. visit (entered w.variables c k g J) τ (record u { variables = u.variables + c.variables }))
+
+-- a clause that is tried: one step, and those of the head's unification with the goal; one for each variable once it matched
+abbrev pub tries : Visitor → Setup → Clause → ℕ → Term Text → Bindings Text → List Item → World → Visited
+tries visit s c k g σ J w =
+    spends s 1 w (λ u. matched visit s c k g J u (unify text_eq (s.budget - u.steps) σ ((g, shift u.variables c.head) ∷ [])))
+
+-- the clauses one after the other, each from the same bindings, until a result isn't Failed
+abbrev pub alternatives : Visitor → Setup → List Clause → ℕ → Term Text → Bindings Text → List Item → Verdict → World → Visited
+alternatives visit s [] k g σ J r w = gives r w
+alternatives visit s (c ∷ cs) k g σ J r w =
+    on_failed (λ u. and_then (tries visit s c k g σ J u) (alternatives visit s cs k g σ J)) r w
+
+-- what each kind of choice does after a result
+abbrev pub after : Visitor → Setup → Choice → Verdict → World → Visited
+after visit s (Redo k g σ J) r w = on_failed (λ u. shows port.Redo k g σ J u (gives Failed)) r w
+after visit s (More cs k g σ J) r w = alternatives visit s cs k g σ J r w
+after visit s (Fail k g σ J) r w = on_failed (λ u. shows port.Fail k g σ J u (gives Failed)) r w
+
+-- a goal with a box: the next call number, the event call, its alternatives, and the event fail after them
+abbrev pub boxed : Visitor → Setup → Term Text → List Item → Bindings Text → World → Visited
+boxed visit s g J σ w =
+    let k : ℕ = w.calls + 1 in
+    shows port.Call k g σ J (record w { calls = k }) (λ u.
+    and_then (alternatives visit s (procedure u.clauses g) k g σ J Failed u) (after visit s (Fail k g σ J)))
+
+abbrev pub selected : Visitor → Setup → Control → Term Text → Barrier → List Item → Bindings Text → World → Visited
+selected visit s Succeed t m J σ w = visit J σ w
+selected visit s Give_up t m J σ w = gives Failed w
+selected visit s (Both a b) t m J σ w = visit (Goal a m ∷ Goal b m ∷ J) σ w
+selected visit s Invoke t m J σ w = boxed visit s t J σ w
+
+-- a solution, which ends the walk if it is the wanted one
+abbrev pub solved : Setup → Bindings Text → World → Visited
+solved s σ w =
+    let u : World = record w { solutions = w.solutions + 1 } in
+    with_turns (Solved σ u ∷ []) (gives (if u.solutions == s.wanted then Stopped else Failed) u)
+
+-- one row for each kind of first item; `visit` is called after a step
+unfoldable pub visit_with : Visitor → Setup → List Item → Bindings Text → World → Visited
+visit_with visit s [] σ w = solved s σ w
+visit_with visit s (Exit k g ∷ J) σ w =
+    shows port.Exit k g σ J w (λ u. and_then (visit_with visit s J σ u) (after visit s (Redo k g σ J)))
+visit_with visit s (Goal t m ∷ J) σ w = spends s 1 w (selected visit s (control t) t m J σ)
+
+-- the walk of at most so many steps in a row
+unfoldable pub visit_by : ℕ → Setup → List Item → Bindings Text → World → Visited
+visit_by zero s I σ w = gives Spent w
+visit_by (suc f) s I σ w = visit_with (visit_by f s) s I σ w
+
+-- the walk of the search tree of these items
+unfoldable pub visit : Setup → List Item → Bindings Text → World → Visited
+visit s I σ w = visit_by (suc (s.budget - w.steps)) s I σ w

@@ -1,0 +1,85 @@
+-- What a run is made of. Names are texts, as lists of bytes.
+use Rattle.std.specs.Prelude.{ℕ, ◌==◌, Bool, true, false, ◌&&◌, List, [], ◌∷◌, filter}
+use Rattle.op_logic.specs.Term.{Term, node, arity}
+use Rattle.op_logic.specs.Bind.{Bindings}
+use Rattle.op_trace.specs.declared.port.Port.{Port}
+
+abbrev pub Text : Type 0
+Text = List ℕ
+
+abbrev pub text_eq : Text → Text → Bool
+text_eq [] [] = true
+text_eq (x ∷ xs) (y ∷ ys) = (x == y) && text_eq xs ys
+text_eq _ _ = false
+
+-- a clause, its variables numbered from 0; its number is given once (7.4, 7.5)
+pub record Clause : Type 0 where
+  pub id : ℕ
+  pub head : Term Text
+  pub body : Term Text
+  pub variables : ℕ
+
+-- all that a run changes but its bindings, so that nothing of it is undone on backtracking
+pub record World : Type 0 where
+  -- in their order
+  pub clauses : List Clause
+  -- what the program has written, and how many bytes of its input it has looked at
+  pub output : List ℕ
+  pub looked : ℕ
+  -- how many variables and call numbers were given out
+  pub variables : ℕ
+  pub calls : ℕ
+  -- how many steps were made, how many events and solutions were shown
+  pub steps : ℕ
+  pub events : ℕ
+  pub solutions : ℕ
+
+-- the world of a program that was loaded and not run
+abbrev pub loaded : List Clause → World
+loaded cs = record { clauses = cs; output = []; looked = 0; variables = 0; calls = 0; steps = 0; events = 0; solutions = 0 }
+
+-- what is fixed for a whole run: it may take so many steps, and ends at this solution (0: at none)
+pub record Setup : Type 0 where
+  pub budget : ℕ
+  pub wanted : ℕ
+
+-- where a cut in a goal cuts to (7.8.4)
+pub data Barrier : Type 0 where
+  Call : ℕ → Barrier
+
+-- what is still to be done: a goal, or the exit of a box that was called with a goal
+pub data Item : Type 0 where
+  Goal : Term Text → Barrier → Item
+  Exit : ℕ → Term Text → Item
+
+-- the call numbers of the boxes that are open, the innermost first
+abbrev pub open_boxes : List Item → List ℕ
+open_boxes [] = []
+open_boxes (Goal t m ∷ J) = open_boxes J
+open_boxes (Exit k g ∷ J) = k ∷ open_boxes J
+
+-- an event of the box model: its place in the order of events, its box's call number, parent and depth, and the goal as the port shows it
+pub record Event : Type 0 where
+  pub chrono : ℕ
+  pub call : ℕ
+  pub parent : ℕ
+  pub depth : ℕ
+  pub port : Port
+  pub goal : Term Text
+
+-- what a run shows, with the world of that moment
+pub data Turn : Type 0 where
+  Shown : Event → World → Turn
+  Solved : Bindings Text → World → Turn
+
+abbrev pub has_head : Term Text → Term Text → Bool
+has_head (node f ts) (node g us) = text_eq f g && (arity ts == arity us)
+has_head _ _ = false
+
+-- the clauses of a goal's procedure, in order: those whose head has its name and arity
+abbrev pub procedure : List Clause → Term Text → List Clause
+procedure cs g = filter (λ (c : Clause). has_head g c.head) cs
+
+abbrev pub head_number : List ℕ → ℕ
+head_number [] = 0
+head_number (k ∷ ks) = k

@@ -1,0 +1,12 @@
+//! Laws of the definitions, each as the contract of a function that does nothing.
+
+ghost use Rattle.std.specs.Prelude.{◌≡◌, ◌≤◌, List};
+ghost use Rattle.op_logic.specs.Bind.{Bindings};
+ghost use Rattle.op_trace.specs.World.{Text, World, Setup, Item};
+ghost use Rattle.op_trace.specs.Visit.{visit, visit_with};
+
+/// The walk is what its rows say: how many steps are left decides nothing but where it is spent.
+pub fn visit_rows()
+    ensures { (s : Setup) (I : List Item) (σ : Bindings Text) (w : World) → w.steps ≤ s.budget
+        → visit s I σ w ≡ visit_with (visit s) s I σ w }
+{}

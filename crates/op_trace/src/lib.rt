@@ -1,0 +1,7 @@
+//! What a run of a program is: its worlds, the walk over its search tree, its turns and its ending, and the places in it.
+#![tactic(auto)]
+
+pub mod laws;
+mod port;
+
+pub use port::Port;
