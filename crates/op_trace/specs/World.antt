@@ -1,5 +1,5 @@
 -- What a run is made of. Names are texts, as lists of bytes.
-use Rattle.std.specs.Prelude.{ℕ, ◌==◌, Bool, true, false, ◌&&◌, List, [], ◌∷◌, filter}
+use Rattle.std.specs.Prelude.{ℕ, ◌==◌, Bool, false, ◌&&◌, List, [], ◌∷◌, filter, bytes_eq}
 use Rattle.op_logic.specs.Term.{Term, node, arity}
 use Rattle.op_logic.specs.Bind.{Bindings}
 use Rattle.op_trace.specs.declared.port.Port.{Port}
@@ -8,9 +8,7 @@ abbrev pub Text : Type 0
 Text = List ℕ
 
 abbrev pub text_eq : Text → Text → Bool
-text_eq [] [] = true
-text_eq (x ∷ xs) (y ∷ ys) = (x == y) && text_eq xs ys
-text_eq _ _ = false
+text_eq = bytes_eq
 
 -- a clause, its variables numbered from 0; its number is given once (7.4, 7.5)
 pub record Clause : Type 0 where
