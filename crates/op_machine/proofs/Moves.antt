@@ -1,0 +1,124 @@
+-- Each move keeps what is owed.
+use Rattle.std.proofs.Common.{◌≡◌, ℕ, ◌+◌, ◌-◌, ◌≤◌, ◌==◌, nat_le, Bool, true, false, List, [], ◌∷◌, Option, Some, None, refl, sym, ap, ◌∙◌, append_assoc, if◌then◌else◌}
+use Rattle.op_logic.specs.Term.{Term, shift}
+use Rattle.op_logic.specs.Bind.{Bindings, unify, Solved as Result}
+use Rattle.op_trace.specs.declared.port.Port.TheVariants as port
+use Rattle.op_trace.specs.World.{Text, text_eq, Clause, World, Setup, Barrier, Item, Goal, Exit, Turn, Shown, Solved, procedure}
+use Rattle.op_trace.specs.Visit.{Verdict, Failed, Stopped, Spent, Visited, gives, with_turns, and_then, event_of, with_event, pays, Control, Succeed, Give_up, Both, Invoke, control, entered, Choice, Redo, More, Fail, matched, tries, alternatives, after, boxed, selected, solved, visit, visit_with}
+use Rattle.op_trace.proofs.Agree.{visit_rows}
+use Rattle.op_machine.specs.Resume.{resume, State, Going, Back, Over, owed, Moved, silent, paid, invoked, chosen, met, tried, at_solution, move, world_of}
+
+-- a walk that leads to another, and then to a third
+pub and_then-assoc : (v : Visited) (h i : Verdict → World → Visited)
+    → and_then (and_then v h) i ≡ and_then v (λ r w. and_then (h r w) i)
+and_then-assoc v h i =
+    ap (λ (ts : List Turn). record { turns = ts; verdict = (i (h v.verdict v.world).verdict (h v.verdict v.world).world).verdict; world = (i (h v.verdict v.world).verdict (h v.verdict v.world).world).world }) (append_assoc v.turns (h v.verdict v.world).turns (i (h v.verdict v.world).verdict (h v.verdict v.world).world).turns)
+
+-- the results that no choice changes
+pub resume-Stopped : (s : Setup) (K : List Choice) (w : World) → resume s K Stopped w ≡ gives Stopped w
+unfolding resume
+resume-Stopped s [] w = refl
+resume-Stopped s (Redo k g σ J ∷ K) w = resume-Stopped s K w
+resume-Stopped s (More [] k g σ J ∷ K) w = resume-Stopped s K w
+resume-Stopped s (More (c ∷ cs) k g σ J ∷ K) w = resume-Stopped s K w
+resume-Stopped s (Fail k g σ J ∷ K) w = resume-Stopped s K w
+
+pub resume-Spent : (s : Setup) (K : List Choice) (w : World) → resume s K Spent w ≡ gives Spent w
+unfolding resume
+resume-Spent s [] w = refl
+resume-Spent s (Redo k g σ J ∷ K) w = resume-Spent s K w
+resume-Spent s (More [] k g σ J ∷ K) w = resume-Spent s K w
+resume-Spent s (More (c ∷ cs) k g σ J ∷ K) w = resume-Spent s K w
+resume-Spent s (Fail k g σ J ∷ K) w = resume-Spent s K w
+
+-- what a move comes to
+abbrev pub comes : Setup → Moved → Visited
+comes s m = with_turns m.turns (owed s m.state)
+
+pub paid-row : (t : Bool) (s : Setup) (n : ℕ) (w : World) (h : World → Visited) (m : World → Moved) (K : List Choice)
+    → (and_then (h (record w { steps = w.steps + n })) (resume s K) ≡ comes s (m (record w { steps = w.steps + n })))
+    → and_then (pays t s n w h) (resume s K) ≡ comes s (paid t s n w m)
+unfolding owed
+paid-row true s n w h m K e = e
+paid-row false s n w h m K e = resume-Spent s K _
+
+pub matched-row : (s : Setup) (c : Clause) (k : ℕ) (g : Term Text) (J : List Item) (w : World) (o : Option (Result Text)) (K : List Choice)
+    → and_then (matched (visit s) s c k g J w o) (resume s K) ≡ comes s (met s c k g J K w o)
+unfolding owed
+matched-row s c k g J w None K = resume-Spent s K _
+matched-row s c k g J w (Some (None, left)) K = refl
+matched-row s c k g J w (Some (Some τ, left)) K =
+    paid-row (nat_le (s.budget - left + c.variables) s.budget) s c.variables (record w { steps = s.budget - left })
+    (λ u. visit s (entered w.variables c k g J) τ (record u { variables = u.variables + c.variables }))
+    (λ u. silent (Going (entered w.variables c k g J) K τ (record u { variables = u.variables + c.variables }))) K refl
+
+pub tried-row : (s : Setup) (c : Clause) (k : ℕ) (g : Term Text) (σ : Bindings Text) (J : List Item) (w : World) (K : List Choice)
+    → and_then (tries (visit s) s c k g σ J w) (resume s K) ≡ comes s (tried s c k g σ J K w)
+tried-row s c k g σ J w K =
+    let pairs : World → List (Term Text × Term Text) = λ u. (g, shift u.variables c.head) ∷ [] in
+    paid-row (nat_le (w.steps + 1) s.budget) s 1 w
+    (λ u. matched (visit s) s c k g J u (unify text_eq (s.budget - u.steps) σ ((g, shift u.variables c.head) ∷ [])))
+    (λ u. met s c k g J K u (unify text_eq (s.budget - u.steps) σ ((g, shift u.variables c.head) ∷ []))) K
+    (matched-row s c k g J (record w { steps = w.steps + 1 }) (unify text_eq (s.budget - (w.steps + 1)) σ ((g, shift w.variables c.head) ∷ [])) K)
+
+-- a walk whose row makes a choice
+pub push-row : (s : Setup) (v : Visited) (c : Choice) (K : List Choice)
+    → and_then (and_then v (after (visit s) s c)) (resume s K) ≡ and_then v (resume s (c ∷ K))
+unfolding resume
+push-row s v c K = and_then-assoc v (after (visit s) s c) (resume s K)
+
+pub boxed-row : (s : Setup) (g : Term Text) (J : List Item) (σ : Bindings Text) (w : World) (K : List Choice)
+    → and_then (boxed (visit s) s g J σ w) (resume s K) ≡ comes s (invoked g J K σ w)
+unfolding owed resume
+boxed-row s g J σ w K =
+    let k : ℕ = w.calls + 1 in
+    let u : World = record w { calls = k } in
+    ap (with_turns (Shown (event_of port.Call k g σ J u) (with_event u) ∷ []))
+    (and_then-assoc (alternatives (visit s) s (procedure w.clauses g) k g σ J Failed (with_event u)) (after (visit s) s (Fail k g σ J)) (resume s K))
+
+pub selected-row : (s : Setup) (q : Control) (t : Term Text) (m : Barrier) (J : List Item) (σ : Bindings Text) (w : World) (K : List Choice)
+    → and_then (selected (visit s) s q t m J σ w) (resume s K) ≡ comes s (chosen q t m J K σ w)
+unfolding owed
+selected-row s Succeed t m J σ w K = refl
+selected-row s Give_up t m J σ w K = refl
+selected-row s (Both a b) t m J σ w K = refl
+selected-row s Invoke t m J σ w K = boxed-row s t J σ w K
+
+pub solved-row : (s : Setup) (σ : Bindings Text) (w : World) (K : List Choice)
+    → and_then (solved s σ w) (resume s K) ≡ comes s (at_solution s K σ w)
+unfolding owed
+solved-row s σ w K = go (w.solutions + 1 == s.wanted)
+  where
+    u : World
+    u = record w { solutions = w.solutions + 1 }
+
+    go : (b : Bool) → and_then (with_turns (Solved σ (record w { solutions = w.solutions + 1 }) ∷ []) (gives (if b then Stopped else Failed) (record w { solutions = w.solutions + 1 }))) (resume s K)
+        ≡ comes s (record { turns = Solved σ (record w { solutions = w.solutions + 1 }) ∷ []; state = if b then Over Stopped (record w { solutions = w.solutions + 1 }) else Back K (record w { solutions = w.solutions + 1 }) })
+    go true = ap (with_turns (Solved σ (record w { solutions = w.solutions + 1 }) ∷ [])) (resume-Stopped s K (record w { solutions = w.solutions + 1 }))
+    go false = refl
+
+pub exit-row : (s : Setup) (k : ℕ) (g : Term Text) (J : List Item) (σ : Bindings Text) (w : World) (K : List Choice) → w.steps ≤ s.budget
+    → and_then (visit_with (visit s) s (Exit k g ∷ J) σ w) (resume s K) ≡ comes s (move s (Going (Exit k g ∷ J) K σ w))
+unfolding owed visit_with resume
+exit-row s k g J σ w K below =
+    ap (with_turns (Shown (event_of port.Exit k g σ J w) (with_event w) ∷ []))
+    (push-row s (visit_with (visit s) s J σ (with_event w)) (Redo k g σ J) K
+    ∙ ap (λ (v : Visited). and_then v (resume s (Redo k g σ J ∷ K))) (sym (visit_rows s J σ (with_event w) below)))
+
+-- what is owed before a move is the turn that it shows and what is owed after it
+pub move-row : (s : Setup) (t : State) → (world_of t).steps ≤ s.budget → owed s t ≡ comes s (move s t)
+unfolding owed resume visit_with
+move-row s (Going [] K σ w) below = ap (λ (v : Visited). and_then v (resume s K)) (visit_rows s [] σ w below) ∙ solved-row s σ w K
+move-row s (Going (Exit k g ∷ J) K σ w) below =
+    ap (λ (v : Visited). and_then v (resume s K)) (visit_rows s (Exit k g ∷ J) σ w below) ∙ exit-row s k g J σ w K below
+move-row s (Going (Goal t m ∷ J) K σ w) below =
+    ap (λ (v : Visited). and_then v (resume s K)) (visit_rows s (Goal t m ∷ J) σ w below)
+    ∙ paid-row (nat_le (w.steps + 1) s.budget) s 1 w (selected (visit s) s (control t) t m J σ) (chosen (control t) t m J K σ) K
+    (selected-row s (control t) t m J σ (record w { steps = w.steps + 1 }) K)
+move-row s (Back [] w) below = refl
+move-row s (Back (Redo k g σ J ∷ K) w) below = refl
+move-row s (Back (Fail k g σ J ∷ K) w) below = refl
+move-row s (Back (More [] k g σ J ∷ K) w) below = refl
+move-row s (Back (More (c ∷ cs) k g σ J ∷ K) w) below =
+    push-row s (tries (visit s) s c k g σ J w) (More cs k g σ J) K ∙ tried-row s c k g σ J w (More cs k g σ J ∷ K)
+move-row s (Over r w) below = refl

@@ -1,0 +1,87 @@
+-- What a machine in the middle of a walk still owes: its items and the choices that it keeps say which turns are to come.
+use Rattle.std.specs.Prelude.{ℕ, ◌+◌, ◌-◌, ◌==◌, nat_le, Bool, true, false, List, [], ◌∷◌, if◌then◌else◌, Option, Some, None}
+use Rattle.op_logic.specs.Term.{Term, shift}
+use Rattle.op_logic.specs.Bind.{Bindings, unify, Solved as Result}
+use Rattle.op_trace.specs.declared.port.Port.{Port}
+use Rattle.op_trace.specs.declared.port.Port.TheVariants as port
+use Rattle.op_trace.specs.World.{Text, text_eq, Clause, World, Setup, Barrier, Item, Goal, Exit, Turn, Shown, Solved, procedure}
+use Rattle.op_trace.specs.Visit.{Verdict, Failed, Stopped, Spent, Visited, gives, and_then, event_of, with_event, Control, Succeed, Give_up, Both, Invoke, control, entered, Choice, Redo, More, Fail, after, visit}
+
+-- what is left to do after a result: what the last choice does, then what is left by the others
+unfoldable pub resume : Setup → List Choice → Verdict → World → Visited
+resume s [] r w = gives r w
+resume s (c ∷ K) r w = and_then (after (visit s) s c r w) (resume s K)
+
+-- a machine goes on with its items, or goes back to its last choice, or is at the end
+pub data State : Type 0 where
+  Going : List Item → List Choice → Bindings Text → World → State
+  Back : List Choice → World → State
+  Over : Verdict → World → State
+
+-- the turns to come, the verdict and the world at the end
+unfoldable pub owed : Setup → State → Visited
+owed s (Going I K σ w) = and_then (visit s I σ w) (resume s K)
+owed s (Back K w) = resume s K Failed w
+owed s (Over r w) = gives r w
+
+-- One small move, with the turn that it shows, if it shows one.
+pub record Moved : Type 0 where
+  pub turns : List Turn
+  pub state : State
+
+abbrev pub silent : State → Moved
+silent t = record { turns = []; state = t }
+
+abbrev pub showing : Port → ℕ → Term Text → Bindings Text → List Item → World → State → Moved
+showing p k g σ J w t = record { turns = Shown (event_of p k g σ J w) (with_event w) ∷ []; state = t }
+
+abbrev pub paid : Bool → Setup → ℕ → World → (World → Moved) → Moved
+paid true s n w h = h (record w { steps = w.steps + n })
+paid false s n w h = silent (Over Spent (record w { steps = s.budget }))
+
+abbrev pub pay : Setup → ℕ → World → (World → Moved) → Moved
+pay s n w h = paid (nat_le (w.steps + n) s.budget) s n w h
+
+abbrev pub invoked : Term Text → List Item → List Choice → Bindings Text → World → Moved
+invoked g J K σ w =
+    let k : ℕ = w.calls + 1 in
+    let u : World = record w { calls = k } in
+    showing port.Call k g σ J u (Back (More (procedure w.clauses g) k g σ J ∷ Fail k g σ J ∷ K) (with_event u))
+
+abbrev pub chosen : Control → Term Text → Barrier → List Item → List Choice → Bindings Text → World → Moved
+chosen Succeed t m J K σ w = silent (Going J K σ w)
+chosen Give_up t m J K σ w = silent (Back K w)
+chosen (Both a b) t m J K σ w = silent (Going (Goal a m ∷ Goal b m ∷ J) K σ w)
+chosen Invoke t m J K σ w = invoked t J K σ w
+
+abbrev pub met : Setup → Clause → ℕ → Term Text → List Item → List Choice → World → Option (Result Text) → Moved
+met s c k g J K w None = silent (Over Spent (record w { steps = s.budget }))
+met s c k g J K w (Some (None, left)) = silent (Back K (record w { steps = s.budget - left }))
+met s c k g J K w (Some (Some τ, left)) =
+    pay s c.variables (record w { steps = s.budget - left }) (λ u. silent (Going (entered w.variables c k g J) K τ (record u { variables = u.variables + c.variables })))
+
+-- a clause is tried, with these choices below it
+abbrev pub tried : Setup → Clause → ℕ → Term Text → Bindings Text → List Item → List Choice → World → Moved
+tried s c k g σ J K w =
+    pay s 1 w (λ u. met s c k g J K u (unify text_eq (s.budget - u.steps) σ ((g, shift u.variables c.head) ∷ [])))
+
+abbrev pub at_solution : Setup → List Choice → Bindings Text → World → Moved
+at_solution s K σ w =
+    let u : World = record w { solutions = w.solutions + 1 } in
+    record { turns = Solved σ u ∷ []; state = if u.solutions == s.wanted then Over Stopped u else Back K u }
+
+abbrev pub move : Setup → State → Moved
+move s (Going [] K σ w) = at_solution s K σ w
+move s (Going (Exit k g ∷ J) K σ w) = showing port.Exit k g σ J w (Going J (Redo k g σ J ∷ K) σ (with_event w))
+move s (Going (Goal t m ∷ J) K σ w) = pay s 1 w (chosen (control t) t m J K σ)
+move s (Back [] w) = silent (Over Failed w)
+move s (Back (Redo k g σ J ∷ K) w) = showing port.Redo k g σ J w (Back K (with_event w))
+move s (Back (Fail k g σ J ∷ K) w) = showing port.Fail k g σ J w (Back K (with_event w))
+move s (Back (More [] k g σ J ∷ K) w) = silent (Back K w)
+move s (Back (More (c ∷ cs) k g σ J ∷ K) w) = tried s c k g σ J (More cs k g σ J ∷ K) w
+move s (Over r w) = silent (Over r w)
+
+abbrev pub world_of : State → World
+world_of (Going I K σ w) = w
+world_of (Back K w) = w
+world_of (Over r w) = w

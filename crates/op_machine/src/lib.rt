@@ -1,0 +1,2 @@
+//! The machine that walks the search tree of a goal, a turn at a time.
+#![tactic(auto)]
