@@ -1,2 +1,4 @@
 //! The machine that walks the search tree of a goal, a turn at a time.
 #![tactic(auto)]
+
+mod lists;

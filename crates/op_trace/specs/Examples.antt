@@ -1,10 +1,11 @@
 -- Small runs by computation.
 use Rattle.std.specs.Prelude.{◌≡◌, ℕ, [], ◌∷◌, codes, refl}
-use Rattle.op_logic.specs.Term.{Term, node, no_args, arg, atom}
+use Rattle.op_logic.specs.Term.{Term, var, node, no_args, arg, atom}
 use Rattle.op_trace.specs.declared.port.Port.{Port}
 use Rattle.op_trace.specs.declared.port.Port.TheVariants as port
 use Rattle.op_trace.specs.World.{Text, Clause, World, loaded, Setup, Event}
-use Rattle.op_trace.specs.Visit.{Failed, Stopped, Spent, visit, visit_by, visit_with}
+use Rattle.op_trace.specs.Ending.{Failed, Stopped, Spent}
+use Rattle.op_trace.specs.Visit.{visit, visit_by, visit_with}
 use Rattle.op_trace.specs.Run.{run, events_of}
 
 abbrev name : Text → Term Text
@@ -32,7 +33,7 @@ pub first_events : events_of (run setup (name (codes "a")) first_program).turns
 unfolding visit visit_by visit_with
 first_events = refl
 
-pub first_ending : (run setup (name (codes "a")) first_program).verdict ≡ Stopped
+pub first_ending : (run setup (name (codes "a")) first_program).ending ≡ Stopped
 unfolding visit visit_by visit_with
 first_ending = refl
 
@@ -53,7 +54,7 @@ pub second_events : events_of (run setup (name (codes "p")) second_program).turn
 unfolding visit visit_by visit_with
 second_events = refl
 
-pub second_ending : (run setup (name (codes "p")) second_program).verdict ≡ Failed
+pub second_ending : (run setup (name (codes "p")) second_program).ending ≡ Failed
 unfolding visit visit_by visit_with
 second_ending = refl
 
@@ -69,10 +70,48 @@ pub loop_events : events_of (run ten (name (codes "p")) loop_program).turns
 unfolding visit visit_by visit_with
 loop_events = refl
 
-pub loop_ending : (run ten (name (codes "p")) loop_program).verdict ≡ Spent
+pub loop_ending : (run ten (name (codes "p")) loop_program).ending ≡ Spent
 unfolding visit visit_by visit_with
 loop_ending = refl
 
 pub loop_steps : (run ten (name (codes "p")) loop_program).world.steps ≡ 10
 unfolding visit visit_by visit_with
 loop_steps = refl
+
+-- e(a,b). e(b,c). p(X,Z) :- e(X,Y), e(Y,Z).
+abbrev two : Text → Term Text → Term Text → Term Text
+two f a b = node f (arg a (arg b no_args))
+
+abbrev edges : World
+edges = loaded (record { id = 0; head = two (codes "e") (name (codes "a")) (name (codes "b")); body = name (codes "true"); variables = 0 }
+    ∷ record { id = 1; head = two (codes "e") (name (codes "b")) (name (codes "c")); body = name (codes "true"); variables = 0 }
+    ∷ record { id = 2; head = two (codes "p") (var 0) (var 1); body = both (two (codes "e") (var 0) (var 2)) (two (codes "e") (var 2) (var 1)); variables = 3 } ∷ [])
+
+abbrev shown : ℕ → ℕ → ℕ → ℕ → Port → Term Text → Event
+shown n k p d q g = record { chrono = n; call = k; parent = p; depth = d; port = q; goal = g }
+
+-- p(a,W): the goal's variable is _0, those of p's clause are _1 to _3
+pub edge_events : events_of (run setup (two (codes "p") (name (codes "a")) (var 0)) edges).turns
+    ≡ shown 1 1 0 1 port.Call (two (codes "p") (name (codes "a")) (var 0))
+    ∷ shown 2 2 1 2 port.Call (two (codes "e") (name (codes "a")) (var 3))
+    ∷ shown 3 2 1 2 port.Exit (two (codes "e") (name (codes "a")) (name (codes "b")))
+    ∷ shown 4 3 1 2 port.Call (two (codes "e") (name (codes "b")) (var 0))
+    ∷ shown 5 3 1 2 port.Exit (two (codes "e") (name (codes "b")) (name (codes "c")))
+    ∷ shown 6 1 0 1 port.Exit (two (codes "p") (name (codes "a")) (name (codes "c"))) ∷ []
+unfolding visit visit_by visit_with
+edge_events = refl
+
+pub edge_steps : (run setup (two (codes "p") (name (codes "a")) (var 0)) edges).world.steps ≡ 26
+unfolding visit visit_by visit_with
+edge_steps = refl
+
+-- s(X,f(X)). p :- s(Y,Y).
+abbrev circle : World
+circle = loaded (record { id = 0; head = two (codes "s") (var 0) (node (codes "f") (arg (var 0) no_args)); body = name (codes "true"); variables = 1 }
+    ∷ record { id = 1; head = name (codes "p"); body = two (codes "s") (var 0) (var 0); variables = 1 } ∷ [])
+
+pub circle_events : events_of (run setup (name (codes "p")) circle).turns
+    ≡ shown 1 1 0 1 port.Call (name (codes "p")) ∷ shown 2 2 1 2 port.Call (two (codes "s") (var 0) (var 0))
+    ∷ shown 3 2 1 2 port.Fail (two (codes "s") (var 0) (var 0)) ∷ shown 4 1 0 1 port.Fail (name (codes "p")) ∷ []
+unfolding visit visit_by visit_with
+circle_events = refl

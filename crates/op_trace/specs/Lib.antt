@@ -1,3 +1,4 @@
+pub mod Ending
 pub mod World
 pub mod Visit
 pub mod Run

@@ -1,12 +1,31 @@
 -- A run: its turns in order, its ending, and the world at its end.
 use Rattle.std.specs.Prelude.{ℕ, ◌-◌, nat_le, List, [], ◌∷◌, if◌then◌else◌, slice_index_or}
-use Rattle.op_logic.specs.Term.{Term}
+use Rattle.op_logic.specs.Term.{Term, variable_count}
 use Rattle.op_trace.specs.World.{Text, World, Setup, Call, Goal, Event, Turn, Shown, Solved}
-use Rattle.op_trace.specs.Visit.{Visited, visit}
+use Rattle.op_trace.specs.Visit.{Verdict, Visited, visit}
+use Rattle.op_trace.specs.Visit as verdict
+use Rattle.op_trace.specs.Ending.{Ending, Stopped, Failed, Spent}
 
--- the run of a goal, converted and with its variables numbered from 0, from a world
-abbrev pub run : Setup → Term Text → World → Visited
-run s g w = visit s (Goal g (Call 0) ∷ []) [] w
+abbrev pub ending_of : Verdict → Ending
+ending_of verdict.Failed = Failed
+ending_of verdict.Stopped = Stopped
+ending_of verdict.Spent = Spent
+
+pub record Run : Type 0 where
+  pub turns : List Turn
+  pub ending : Ending
+  pub world : World
+
+abbrev pub ran : Visited → Run
+ran v = record { turns = v.turns; ending = ending_of v.verdict; world = v.world }
+
+-- a world in which the goal's variables alone were given out
+abbrev pub started : Term Text → World → World
+started g w = record w { variables = variable_count g }
+
+-- the run of a converted goal, its variables numbered from 0 in order of first occurrence, from a world in which nothing was run yet
+abbrev pub run : Setup → Term Text → World → Run
+run s g w = ran (visit s (Goal g (Call 0) ∷ []) [] (started g w))
 
 -- the events, and the worlds at them
 abbrev pub events_of : List Turn → List Event
@@ -21,16 +40,16 @@ worlds_of (Solved σ w ∷ ts) = worlds_of ts
 
 -- The places of a run with n events: 0 before the first event, i at event i, and n + 1 for the end.
 -- The world at a place of a run from a world: that world at 0, the event's at an event, and the whole run's at the end.
-abbrev pub world_at : World → Visited → ℕ → World
+abbrev pub world_at : World → Run → ℕ → World
 world_at w v i =
     if nat_le i 0 then w else (slice_index_or (worlds_of v.turns) (i - 1) v.world)
 
 -- how much was written, looked at and counted up to a place
-abbrev pub output_at : World → Visited → ℕ → List ℕ
+abbrev pub output_at : World → Run → ℕ → List ℕ
 output_at w v i = (world_at w v i).output
 
-abbrev pub looked_at : World → Visited → ℕ → ℕ
+abbrev pub looked_at : World → Run → ℕ → ℕ
 looked_at w v i = (world_at w v i).looked
 
-abbrev pub steps_at : World → Visited → ℕ → ℕ
+abbrev pub steps_at : World → Run → ℕ → ℕ
 steps_at w v i = (world_at w v i).steps

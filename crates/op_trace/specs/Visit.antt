@@ -60,7 +60,7 @@ pays false s n w h = spent s w
 abbrev pub spends : Setup → ℕ → World → (World → Visited) → Visited
 spends s n w h = pays (nat_le (w.steps + n) s.budget) s n w h
 
--- what kind of goal a term is (7.6.2, 7.8): a control construct, or a goal that has a box
+-- what kind of goal a converted term is (7.6.2): one of the control constructs that have no box, by this project's own list, or a goal with a box
 pub data Control : Type 0 where
   Succeed : Control
   Give_up : Control

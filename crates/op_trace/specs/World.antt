@@ -10,7 +10,8 @@ Text = List ℕ
 abbrev pub text_eq : Text → Text → Bool
 text_eq = bytes_eq
 
--- a clause, its variables numbered from 0; its number is given once (7.4, 7.5)
+-- a clause (7.4, 7.5), its variables numbered from 0 in order of first occurrence in head and body, and how many there are; its own number is
+-- given once
 pub record Clause : Type 0 where
   pub id : ℕ
   pub head : Term Text

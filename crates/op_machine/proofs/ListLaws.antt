@@ -1,0 +1,96 @@
+-- Laws of lists that share their ends.
+use Rattle.std.proofs.Common.{◌≡◌, ℕ, zero, suc, ◌+◌, ◌-◌, ◌<◌, ◌≤◌, ◌⊎◌, inl, inr, List, [], ◌∷◌, ◌++◌, length, get_or, refl, sym, ap, ◌∙◌, subst, arith, length-append, append_assoc}
+use Rattle.std.proofs.lemmas.List.{get_or_append_left}
+use Rattle.std.proofs.Math.Seq.{get_or-append_seam}
+use Rattle.op_trace.specs.World.{head_number}
+use Rattle.op_machine.specs.declared.lists.Item.{Item}
+use Rattle.op_machine.specs.declared.lists.Item.TheVariants as item
+use Rattle.op_machine.specs.declared.lists.Cell.{Cell}
+use Rattle.op_machine.specs.Lists.{list_in, only_empty, lists_after, lists_of, opened, AreLinked, Begins}
+
+abbrev pub joined : List (List Item) → Cell → List (List Item)
+joined L c = L ++ (c.item ∷ list_in L c.rest) ∷ []
+
+pub length-joined : (L : List (List Item)) (c : Cell) → length (joined L c) ≡ length L + 1
+length-joined L c = length-append L ((c.item ∷ list_in L c.rest) ∷ [])
+
+pub length-lists_after : (L : List (List Item)) (cs : List Cell) → length (lists_after L cs) ≡ length L + length cs
+length-lists_after L [] = omega arith
+length-lists_after L (c ∷ cs) = length-lists_after (joined L c) cs ∙ omega (arith, length-joined L c)
+
+pub list_in-joined : (L : List (List Item)) (c : Cell) (n : ℕ) → n < length L → list_in (joined L c) n ≡ list_in L n
+list_in-joined L c n h = get_or_append_left L ((c.item ∷ list_in L c.rest) ∷ []) [] n h
+
+pub list_in-lists_after : (L : List (List Item)) (cs : List Cell) (n : ℕ) → n < length L → list_in (lists_after L cs) n ≡ list_in L n
+list_in-lists_after L [] n h = refl
+list_in-lists_after L (c ∷ cs) n h =
+    let l : n < length (joined L c) = omega (arith, length-joined L c) in
+    list_in-lists_after (joined L c) cs n l ∙ list_in-joined L c n h
+
+pub lists_after-push : (L : List (List Item)) (cs : List Cell) (c : Cell) → lists_after L (cs ++ c ∷ []) ≡ joined (lists_after L cs) c
+lists_after-push L [] c = refl
+lists_after-push L (b ∷ cs) c = lists_after-push (joined L b) cs c
+
+pub AreLinked-push : (L : List (List Item)) (cs : List Cell) (c : Cell) → AreLinked L cs
+  → c.rest < length (lists_after L cs)
+  → c.parent ≡ head_number (opened (c.item ∷ list_in (lists_after L cs) c.rest))
+  → c.depth ≡ length (opened (c.item ∷ list_in (lists_after L cs) c.rest))
+  → AreLinked L (cs ++ c ∷ [])
+AreLinked-push L [] c l r p d = (r, p, d, tt)
+AreLinked-push L (b ∷ cs) c l r p d = (l.0, l.1, l.2, AreLinked-push (joined L b) cs c l.3 r p d)
+
+abbrev pub AreShallow : List (List Item) → Type 0
+AreShallow L = (m : ℕ) → m < length L → length (opened (list_in L m)) ≤ m
+
+pub only_empty-shallow : AreShallow only_empty
+only_empty-shallow zero h = omega arith
+only_empty-shallow (suc m) h = absurd (omega arith)
+
+pub opened-cons : (i : Item) (I : List Item) → length (opened (i ∷ I)) ≤ suc (length (opened I))
+opened-cons (item.Body r j m) I = omega arith
+opened-cons (item.Goal f m) I = omega arith
+opened-cons (item.Exit k g) I = omega arith
+
+pub joined-shallow : (L : List (List Item)) (c : Cell) → c.rest < length L → AreShallow L → AreShallow (joined L c)
+joined-shallow L c r s m h =
+    let two : (m < length L) ⊎ (m ≡ length L) = omega (arith, length-joined L c) in
+    elim two [
+      inl l ↦ subst (λ (I : List Item). length (opened I) ≤ m) (sym (list_in-joined L c m l)) (s m l)
+    | inr e ↦
+        let at_end : list_in (joined L c) m ≡ c.item ∷ list_in L c.rest = ap (λ n. list_in (joined L c) n) e ∙ get_or-append_seam L (c.item ∷ list_in L c.rest) [] [] in
+        let small : length (opened (c.item ∷ list_in L c.rest)) ≤ m = omega (arith, opened-cons c.item (list_in L c.rest), s c.rest r) in
+        subst (λ (I : List Item). length (opened I) ≤ m) (sym at_end) small ]
+
+pub cell-begins : (L : List (List Item)) (cs : List Cell) (i : ℕ) (d : Cell) → AreShallow L → AreLinked L cs → i < length cs
+  → Begins (lists_after L cs) (length L + i) (get_or cs i d)
+cell-begins L [] i d s l h = absurd (omega arith)
+cell-begins L (c ∷ cs) zero d s l h =
+    let M : List (List Item) = lists_after (joined L c) cs in
+    let here : length L < length (joined L c) = omega (arith, length-joined L c) in
+    let there : c.rest < length (joined L c) = omega (arith, length-joined L c, l.0) in
+    let at_end : list_in M (length L) ≡ c.item ∷ list_in L c.rest = list_in-lists_after (joined L c) cs (length L) here ∙ get_or-append_seam L (c.item ∷ list_in L c.rest) [] [] in
+    let rest : list_in M c.rest ≡ list_in L c.rest = list_in-lists_after (joined L c) cs c.rest there ∙ list_in-joined L c c.rest l.0 in
+    let small : length (opened (c.item ∷ list_in L c.rest)) ≤ length L = omega (arith, opened-cons c.item (list_in L c.rest), s c.rest l.0) in
+    let e : length L + 0 ≡ length L = omega arith in
+    subst (λ n. Begins M n c) (sym e) (record {
+      list = at_end ∙ ap (λ (I : List Item). c.item ∷ I) (sym rest);
+      below = l.0;
+      parent = l.1 ∙ ap (λ (I : List Item). head_number (opened I)) (sym at_end);
+      depth = l.2 ∙ ap (λ (I : List Item). length (opened I)) (sym at_end);
+      shallow = subst (λ (I : List Item). length (opened I) ≤ length L) (sym at_end) small;
+    })
+cell-begins L (c ∷ cs) (suc i) d s l h =
+    let e : length (joined L c) + i ≡ length L + suc i = omega (arith, length-joined L c) in
+    subst (λ n. Begins (lists_after (joined L c) cs) n (get_or cs i d)) e (cell-begins (joined L c) cs i d (joined-shallow L c l.0 s) l.3 (omega arith))
+
+pub length_lists_of : (cs : List Cell) → length (lists_of cs) ≡ suc (length cs)
+length_lists_of cs = length-lists_after only_empty cs ∙ omega arith
+
+pub first_list : (cs : List Cell) → list_in (lists_of cs) 0 ≡ []
+first_list cs = list_in-lists_after only_empty cs 0 (omega arith)
+
+pub list_begins : (cs : List Cell) (n : ℕ) (d : Cell) → AreLinked only_empty cs → 0 < n → n < length (lists_of cs) → Begins (lists_of cs) n (get_or cs (n - 1) d)
+list_begins cs n d l p h =
+    let e : 1 + (n - 1) ≡ n = omega arith in
+    let i : n - 1 < length cs = omega (arith, length_lists_of cs) in
+    subst (λ m. Begins (lists_of cs) m (get_or cs (n - 1) d)) e (cell-begins only_empty cs (n - 1) d only_empty-shallow l i)

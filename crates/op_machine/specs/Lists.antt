@@ -1,0 +1,44 @@
+-- Lists of items that share their ends.
+use Rattle.std.specs.Prelude.{◌≡◌, ℕ, ◌<◌, ◌≤◌, List, [], ◌∷◌, ◌++◌, length, slice_index_or}
+use Rattle.op_trace.specs.World.{head_number}
+use Rattle.op_machine.specs.declared.lists.Item.{Item}
+use Rattle.op_machine.specs.declared.lists.Item.TheVariants as item
+use Rattle.op_machine.specs.declared.lists.Cell.{Cell}
+
+-- the list at a number
+abbrev pub list_in : List (List Item) → ℕ → List Item
+list_in L n = slice_index_or L n []
+
+abbrev pub only_empty : List (List Item)
+only_empty = [] ∷ []
+
+-- the lists that these cells make, after those that are there
+abbrev pub lists_after : List (List Item) → List Cell → List (List Item)
+lists_after L [] = L
+lists_after L (c ∷ cs) = lists_after (L ++ (c.item ∷ list_in L c.rest) ∷ []) cs
+
+abbrev pub lists_of : List Cell → List (List Item)
+lists_of cs = lists_after only_empty cs
+
+-- the boxes that are open in a list, the innermost first
+abbrev pub opened : List Item → List ℕ
+opened [] = []
+opened (item.Body r j m ∷ I) = opened I
+opened (item.Goal f m ∷ I) = opened I
+opened (item.Exit k g ∷ I) = k ∷ opened I
+
+-- each cell leads to a list that is there, and knows what is open in its own
+abbrev pub AreLinked : List (List Item) → List Cell → Type 0
+AreLinked L [] = Unit {0}
+AreLinked L (c ∷ cs) =
+    (c.rest < length L) × (c.parent ≡ head_number (opened (c.item ∷ list_in L c.rest))) × (c.depth ≡ length (opened (c.item ∷ list_in L c.rest)))
+    × AreLinked (L ++ (c.item ∷ list_in L c.rest) ∷ []) cs
+
+-- a cell is where the list at a number begins
+pub record Begins (L : List (List Item)) (n : ℕ) (c : Cell) : Type 0 where
+  pub list : list_in L n ≡ c.item ∷ list_in L c.rest
+  pub below : c.rest < n
+  pub parent : c.parent ≡ head_number (opened (list_in L n))
+  pub depth : c.depth ≡ length (opened (list_in L n))
+  -- no more boxes are open than lists come before
+  pub shallow : length (opened (list_in L n)) ≤ n

@@ -1,0 +1,144 @@
+ghost use Rattle.std.specs.Prelude.{◌≡◌, ◌<◌, ◌≤◌, [], ◌∷◌, ◌++◌, length, OnOk, OnErr, IfOk, IfSome, IfNone, MatchOption};
+ghost use Rattle.op_machine.specs.Lists.{list_in, lists_of, only_empty, opened, AreLinked, Begins};
+ghost use Rattle.op_trace.specs.World.{head_number};
+
+use op_base::Memory;
+use op_term::Sym;
+use std::alloc::Global;
+use std::marker::Model;
+
+/// What is still to be done.
+#[derive(Clone, Copy, Debug, PartialEq, Eq)]
+pub enum Item {
+    /// The goals of a rule's body from one on, each joined to the rest by a comma; a cut in them cuts to this box.
+    Body { rule: u64, from: u64, barrier: u64 },
+    /// One goal.
+    Goal { name: Sym, barrier: u64 },
+    /// The exit of a box that was called with a goal.
+    Exit { call: u64, goal: Sym },
+}
+
+/// An item before a list, with the innermost box that is open behind it and how many there are.
+#[derive(Clone, Copy)]
+pub struct Cell {
+    pub item: Item,
+    pub rest: u64,
+    pub parent: u64,
+    pub depth: u64,
+}
+
+/// Lists of items that share their ends. A clause sees them one after another, each at its number; list 0 is empty.
+#[derive(Drop)]
+pub struct Lists {
+    cells: Vec<Cell>,
+}
+
+impl Model for Lists {
+    ghost use Rattle.std.specs.Prelude.{List, ℕ};
+    ghost use Rattle.op_machine.specs.declared.lists.Item.{Item};
+
+    ghost Value = { List (List Item) };
+
+    ghost use Rattle.op_machine.specs.Lists.{lists_of, AreLinked, only_empty};
+
+    ghost view = { λ l. lists_of l.cells.items };
+
+    ghost invariant = { λ l. AreLinked only_empty l.cells.items };
+}
+
+impl Lists {
+    /// The empty list alone.
+    pub fn new(alloc: Global) -> Lists
+        ensures { result ≡ [] ∷ [] }
+    {
+        Lists {
+            cells: Vec::new(alloc),
+        }
+    }
+
+    /// Puts an item before a list, and gives the number of the list that begins with it.
+    pub fn add(&mut self, item: Item, rest: u64) -> Result<u64, Memory>
+        requires { rest < length self.old }
+        ensures number { IfOk result (λ n. n ≡ length self.old) }
+        ensures ok { OnOk result (self.new ≡ self.old ++ (item ∷ list_in self.old rest) ∷ []) }
+        ensures err { OnErr result (self.new ≡ self.old) }
+    {
+        let (parent, depth) = opened_before(&self.cells, item, rest);
+        self.cells.push(Cell {
+            item,
+            rest,
+            parent,
+            depth,
+        })?;
+        Ok(self.cells.len() as u64)
+    }
+
+    /// The first item of a list, and the number of the list behind it.
+    pub fn first(&self, n: u64) -> Option<(Item, u64)>
+        requires { n < length self.now }
+        ensures there { MatchOption result (list_in self.now n ≡ []) (λ p. list_in self.now n ≡ p.0 ∷ list_in self.now p.1) }
+        ensures within { IfSome result (λ p. p.1 < n) }
+    {
+        match cell_at(&self.cells, n) {
+            Some(cell) => Some((cell.item, cell.rest)),
+            None => None,
+        }
+    }
+
+    /// The innermost box that is open in a list, or 0.
+    pub fn parent(&self, n: u64) -> u64
+        requires { n < length self.now }
+        ensures { result ≡ head_number (opened (list_in self.now n)) }
+    {
+        opened_at(&self.cells, n).0
+    }
+
+    /// How many boxes are open in a list.
+    pub fn depth(&self, n: u64) -> u64
+        requires { n < length self.now }
+        ensures count { result ≡ length (opened (list_in self.now n)) }
+        ensures within { result ≤ n }
+    {
+        opened_at(&self.cells, n).1
+    }
+}
+
+fn cell_at(cells: &[Cell], n: u64) -> Option<Cell>
+    requires there { n < length (lists_of cells.now) }
+    requires linked { AreLinked only_empty cells.now }
+    ensures empty { IfNone result (list_in (lists_of cells.now) n ≡ []) }
+    ensures begins { IfSome result (Begins (lists_of cells.now) n) }
+{
+    if n == 0 {
+        return None;
+    }
+    Some(cells[n as usize - 1])
+}
+
+// the innermost open box, and how many are open
+fn opened_at(cells: &[Cell], n: u64) -> (u64, u64)
+    requires there { n < length (lists_of cells.now) }
+    requires linked { AreLinked only_empty cells.now }
+    ensures parent { result.0 ≡ head_number (opened (list_in (lists_of cells.now) n)) }
+    ensures depth { result.1 ≡ length (opened (list_in (lists_of cells.now) n)) }
+    ensures shallow { result.1 ≤ n }
+{
+    match cell_at(cells, n) {
+        Some(cell) => (cell.parent, cell.depth),
+        None => (0, 0),
+    }
+}
+
+fn opened_before(cells: &Vec<Cell>, item: Item, rest: u64) -> (u64, u64)
+    requires there { rest < length (lists_of cells.now.items) }
+    requires linked { AreLinked only_empty cells.now.items }
+    ensures parent { result.0 ≡ head_number (opened (item ∷ list_in (lists_of cells.now.items) rest)) }
+    ensures depth { result.1 ≡ length (opened (item ∷ list_in (lists_of cells.now.items) rest)) }
+{
+    let (parent, depth) = opened_at(cells, rest);
+    match item {
+        Item::Body { .. } => (parent, depth),
+        Item::Goal { .. } => (parent, depth),
+        Item::Exit { call, .. } => (call, depth + 1),
+    }
+}
