@@ -1,7 +1,8 @@
 -- Laws of lists that share their ends.
-use Rattle.std.proofs.Common.{◌≡◌, ℕ, zero, suc, ◌+◌, ◌-◌, ◌<◌, ◌≤◌, ◌⊎◌, inl, inr, List, [], ◌∷◌, ◌++◌, length, get_or, refl, sym, ap, ◌∙◌, subst, arith, length-append, append_assoc}
+use Rattle.std.proofs.Common.{◌≡◌, ℕ, zero, suc, ◌+◌, ◌-◌, ◌<◌, ◌≤◌, List, [], ◌∷◌, ◌++◌, length, get_or, refl, sym, ap, ◌∙◌, subst, arith, length-append, append_assoc}
 use Rattle.std.proofs.lemmas.List.{get_or_append_left}
 use Rattle.std.proofs.Math.Seq.{get_or-append_seam}
+use Rattle.op_logic.proofs.Tests.{by_order}
 use Rattle.op_trace.specs.World.{head_number}
 use Rattle.op_machine.specs.declared.lists.Item.{Item}
 use Rattle.op_machine.specs.declared.lists.Item.TheVariants as item
@@ -53,13 +54,13 @@ opened-cons (item.Exit k g) I = omega arith
 
 pub joined-shallow : (L : List (List Item)) (c : Cell) → c.rest < length L → AreShallow L → AreShallow (joined L c)
 joined-shallow L c r s m h =
-    let two : (m < length L) ⊎ (m ≡ length L) = omega (arith, length-joined L c) in
-    elim two [
-      inl l ↦ subst (λ (I : List Item). length (opened I) ≤ m) (sym (list_in-joined L c m l)) (s m l)
-    | inr e ↦
+    by_order m (length L)
+      (λ l. subst (λ (I : List Item). length (opened I) ≤ m) (sym (list_in-joined L c m l)) (s m l))
+      (λ g.
+        let e : m ≡ length L = omega (arith, length-joined L c) in
         let at_end : list_in (joined L c) m ≡ c.item ∷ list_in L c.rest = ap (λ n. list_in (joined L c) n) e ∙ get_or-append_seam L (c.item ∷ list_in L c.rest) [] [] in
         let small : length (opened (c.item ∷ list_in L c.rest)) ≤ m = omega (arith, opened-cons c.item (list_in L c.rest), s c.rest r) in
-        subst (λ (I : List Item). length (opened I) ≤ m) (sym at_end) small ]
+        subst (λ (I : List Item). length (opened I) ≤ m) (sym at_end) small)
 
 pub cell-begins : (L : List (List Item)) (cs : List Cell) (i : ℕ) (d : Cell) → AreShallow L → AreLinked L cs → i < length cs
   → Begins (lists_after L cs) (length L + i) (get_or cs i d)

@@ -103,11 +103,11 @@ impl Lists {
     }
 }
 
-fn cell_at(cells: &[Cell], n: u64) -> Option<Cell>
-    requires there { n < length (lists_of cells.now) }
-    requires linked { AreLinked only_empty cells.now }
-    ensures empty { IfNone result (list_in (lists_of cells.now) n ≡ []) }
-    ensures begins { IfSome result (Begins (lists_of cells.now) n) }
+fn cell_at(cells: &Vec<Cell>, n: u64) -> Option<Cell>
+    requires there { n < length (lists_of cells.now.items) }
+    requires linked { AreLinked only_empty cells.now.items }
+    ensures empty { IfNone result (list_in (lists_of cells.now.items) n ≡ []) }
+    ensures begins { IfSome result (Begins (lists_of cells.now.items) n) }
 {
     if n == 0 {
         return None;
@@ -116,11 +116,11 @@ fn cell_at(cells: &[Cell], n: u64) -> Option<Cell>
 }
 
 // the innermost open box, and how many are open
-fn opened_at(cells: &[Cell], n: u64) -> (u64, u64)
-    requires there { n < length (lists_of cells.now) }
-    requires linked { AreLinked only_empty cells.now }
-    ensures parent { result.0 ≡ head_number (opened (list_in (lists_of cells.now) n)) }
-    ensures depth { result.1 ≡ length (opened (list_in (lists_of cells.now) n)) }
+fn opened_at(cells: &Vec<Cell>, n: u64) -> (u64, u64)
+    requires there { n < length (lists_of cells.now.items) }
+    requires linked { AreLinked only_empty cells.now.items }
+    ensures parent { result.0 ≡ head_number (opened (list_in (lists_of cells.now.items) n)) }
+    ensures depth { result.1 ≡ length (opened (list_in (lists_of cells.now.items) n)) }
     ensures shallow { result.1 ≤ n }
 {
     match cell_at(cells, n) {

@@ -1,16 +1,22 @@
 use Rattle.std.proofs.Common.{◌≡◌, ◌<◌, ◌+◌, List, [], ◌∷◌, ◌++◌, length, ap, sym, ◌∙◌, subst, arith}
 use Rattle.op_machine.specs.declared.lists.Item.{Item}
-use Rattle.op_machine.specs.Lists.{list_in, lists_of, only_empty}
-use Rattle.op_machine.proofs.ListLaws.{AreLinked-push, lists_after-push, length-lists_after}
+use Rattle.op_machine.specs.declared.lists.Cell.{Cell}
+use Rattle.op_machine.specs.Lists.{list_in, lists_of, only_empty, AreLinked}
+use Rattle.op_machine.proofs.ListLaws.{AreLinked-push, lists_after-push, length_lists_of}
 use Rattle.op_machine.proofs.lists.Lists.add.Goals as goal
 
 pub invariant_of-self-2 : goal.invariant_of-self-2
 invariant_of-self-2 c =
     let there : c.args.rest < length (lists_of c.self.inside.cells.items) = subst (λ (L : List (List Item)). c.args.rest < length L) (sym c.self.view_is) c.requires in
-    rw c.in_ok-push.ensures.items (AreLinked-push only_empty c.self.inside.cells.items _ c.self.invariant there ? ?)
+    subst (λ (cs : List Cell). AreLinked only_empty cs) (sym c.in_ok-push.ensures.items)
+      (AreLinked-push only_empty c.self.inside.cells.items _ c.self.invariant there
+        c.opened_before-parent.ensures.parent c.opened_before-parent.ensures.depth)
 
 pub returns-clause-number : goal.returns-clause-number
-returns-clause-number c = ?
+returns-clause-number c =
+    omega (arith, c.len.ensures, c.in_ok-push.ensures.len, c.self.inside.cells.ok.0, length_lists_of c.self.inside.cells.items, ap length c.self.view_is)
 
 pub returns-clause-ok : goal.returns-clause-ok
-returns-clause-ok c = ?
+returns-clause-ok c =
+    ap lists_of c.in_ok-push.ensures.items ∙ (lists_after-push only_empty c.self.inside.cells.items _
+      ∙ ap (λ (L : List (List Item)). L ++ (c.args.item ∷ list_in L c.args.rest) ∷ []) c.self.view_is)
