@@ -1,3 +1,4 @@
-pub mod Lists
-pub mod Resume
 pub mod Counted
+pub mod Lists
+pub mod Program
+pub mod Resume

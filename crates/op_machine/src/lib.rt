@@ -1,4 +1,5 @@
 //! The machine that walks the search tree of a goal, a turn at a time.
 #![tactic(auto)]
 
+mod index;
 mod lists;
