@@ -2,8 +2,11 @@
 use Rattle.std.specs.Prelude.{◌≡◌, ◌≢◌, ℕ, suc, ◌+◌, ◌<◌, ◌≤◌, List, [], ◌∷◌, length, map, drop, filter, codes, slice_index, slice_index_or, Option, option_map, All}
 use Rattle.op_logic.specs.Term.{Term, node, no_args, arg, atom}
 use Rattle.op_logic.specs.Names.{name_at, IsTable}
-use Rattle.op_reader.specs.Form.{Rule, named_rules, program_of}
+use Rattle.op_reader.specs.Form.{Rule, AreBelow, named_rules, program_of}
 use Rattle.op_trace.specs.World.{Text, Clause, has_head}
+use Rattle.op_trace.specs.Visit.{Control, Succeed, Give_up, Invoke}
+use Rattle.op_machine.specs.declared.kind.Kind.{Kind}
+use Rattle.op_machine.specs.declared.kind.Kind.TheVariants.{Truth, Failure, Boxed}
 
 -- goals joined by commas; none are the goal true
 abbrev pub conjunction : List Text → Term Text
@@ -58,10 +61,10 @@ pub record IsNext (xs : List ℕ) (x i j : ℕ) : Type 0 where
   pub none_between : (k : ℕ) → i ≤ k → k < j → slice_index xs k ≢ x
   pub here : j < length xs → slice_index xs j ≡ x
 
--- each name of the rules is in the table, which begins with the control constructs
+-- the names begin with the control constructs, and each name of the rules is among them
 pub record IsStored (t : Tables) : Type 0 where
   pub table : IsTable t.names
-  pub known : All (λ (r : Rule ℕ). (r.0 < length t.names) × All (λ g. g < length t.names) r.1) t.rules
+  pub known : AreBelow (length t.names) t.rules
   pub truth : name_at t.names 0 ≡ codes "true"
   pub failure : name_at t.names 1 ≡ codes "fail"
   pub falsity : name_at t.names 2 ≡ codes "false"
@@ -75,9 +78,20 @@ AreFirst xs i first = (n : ℕ) → n < length first → IsNext xs n i (slice_in
 abbrev pub AreNext : List ℕ → ℕ → List ℕ → Type 0
 AreNext xs i next = (k : ℕ) → i ≤ k → k < length next → IsNext xs (slice_index xs k) (suc k) (slice_index next k)
 
--- for each name its first rule, and for each rule the next of its name
+-- for each name that heads a rule its first rule, and for each rule the next of its name
 pub record IsIndex (t : Tables) (first next : List ℕ) : Type 0 where
-  pub first_length : length first ≡ length t.names
+  pub first_length : length first ≤ length t.names
   pub next_length : length next ≡ length t.rules
+  pub covered : All (λ x. x < length first) (heads t.rules)
   pub firsts : AreFirst (heads t.rules) 0 first
   pub nexts : AreNext (heads t.rules) 0 next
+
+-- which control construct an atom is, if it is one
+abbrev pub control_of_kind : Kind → Control
+control_of_kind Truth = Succeed
+control_of_kind Failure = Give_up
+control_of_kind Boxed = Invoke
+
+-- nothing was loaded yet
+abbrev pub IsEmpty : Tables → Type 0
+IsEmpty t = t.rules ≡ []

@@ -2,4 +2,8 @@
 #![tactic(auto)]
 
 mod index;
+mod kind;
 mod lists;
+mod store;
+
+pub use store::{Goal, Store};
