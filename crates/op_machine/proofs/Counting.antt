@@ -6,7 +6,7 @@ use Rattle.op_logic.specs.Bind.{Bindings, solve, unify, Solved as Result}
 use Rattle.op_trace.specs.World.{Text, text_eq, Clause, World, Setup, Barrier, Call, Item, Goal, Exit, open_boxes, procedure}
 use Rattle.op_trace.specs.Visit.{Verdict, Stopped, Failed, Spent, with_event, Control, Succeed, Give_up, Both, Invoke, control, is_true, entered, Choice, Redo, More, Fail}
 use Rattle.op_trace.proofs.Later.{IsLess, within-less}
-use Rattle.op_machine.specs.Resume.{State, Going, Back, Over, Moved, silent, paid, pay, invoked, chosen, met, tried, at_solution, move, world_of}
+use Rattle.op_machine.specs.Resume.{with_more, State, Going, Back, Over, Moved, silent, paid, pay, invoked, chosen, met, tried, at_solution, move, world_of}
 use Rattle.op_machine.specs.Counted.{pending, IsNested, AreNested, event_bound, Counts, Counted}
 
 -- the bound rises with the steps
@@ -51,6 +51,15 @@ paid-counted false s n w h test c e q k =
     let more : event_bound w.steps ≤ event_bound s.budget = bound-same w.steps s.budget c.steps in
     (record { steps = omega arith; calls = omega (arith, c.steps, c.calls) }, omega arith, omega (arith, c.steps))
 
+pub more-nested : (n : ℕ) (cs : List Clause) (k : ℕ) (g : Term Text) (σ : Bindings Text) (J : List Item) (K : List Choice)
+  → IsNested n (Exit k g ∷ J) → AreNested n K → AreNested n (with_more cs k g σ J K)
+more-nested n [] k g σ J K i a = a
+more-nested n (c ∷ cs) k g σ J K i a = (i, a)
+
+pub more-pending : (cs : List Clause) (k : ℕ) (g : Term Text) (σ : Bindings Text) (J : List Item) (K : List Choice) → pending (with_more cs k g σ J K) ≡ pending K
+more-pending [] k g σ J K = refl
+more-pending (c ∷ cs) k g σ J K = refl
+
 -- a goal of which a step was paid, from n steps
 pub chosen-counted : (q : Control) (s : Setup) (n : ℕ) (t : Term Text) (m : Barrier) (J : List Item) (K : List Choice) (σ : Bindings Text) (w : World)
   → w.steps ≡ n + 1 → w.steps ≤ s.budget → w.calls ≤ n → w.solutions ≤ n
@@ -68,7 +77,9 @@ chosen-counted q s n t m J K σ w e below c sol ev nest all = go q
         let more : w.calls ≤ w.calls + 1 = omega arith in
         let deep : length (open_boxes J) ≤ w.calls = nested-length w.calls J nest in
         let this : IsNested (w.calls + 1) (Exit (w.calls + 1) t ∷ J) = (omega arith, omega arith, nested-more w.calls (w.calls + 1) J more nest) in
-        (record { steps = below; calls = omega arith }, omega (arith, up), omega arith, (this, (this, all-nested-more w.calls (w.calls + 1) K more all)))
+        let cs : List Clause = procedure w.clauses t in
+        (record { steps = below; calls = omega arith }, omega (arith, up, more-pending cs (w.calls + 1) t σ J (Fail (w.calls + 1) t σ J ∷ K)), omega arith,
+          more-nested (w.calls + 1) cs (w.calls + 1) t σ J (Fail (w.calls + 1) t σ J ∷ K) this (this, all-nested-more w.calls (w.calls + 1) K more all))
 
 pub entered-nested : (f : ℕ) (c : Clause) (k : ℕ) (g : Term Text) (J : List Item) (n : ℕ) → IsNested n (Exit k g ∷ J) → IsNested n (entered f c k g J)
 entered-nested f c k g J n i = go (is_true c.body)
@@ -129,5 +140,5 @@ move-counted s (Back [] w) h = (record { steps = h.0.steps; calls = h.0.calls },
 move-counted s (Back (Redo k g σ J ∷ K) w) h = (record { steps = h.0.steps; calls = h.0.calls }, omega arith, h.2, h.3.1)
 move-counted s (Back (Fail k g σ J ∷ K) w) h = (record { steps = h.0.steps; calls = h.0.calls }, omega arith, h.2, h.3.1)
 move-counted s (Back (More [] k g σ J ∷ K) w) h = (record { steps = h.0.steps; calls = h.0.calls }, h.1, h.2, h.3.1)
-move-counted s (Back (More (c ∷ cs) k g σ J ∷ K) w) h = tried-counted s c k g σ J (More cs k g σ J ∷ K) w h.0 h.2 h.1 h.3.0 h.3
+move-counted s (Back (More (c ∷ cs) k g σ J ∷ K) w) h = tried-counted s c k g σ J (with_more cs k g σ J K) w h.0 h.2 (omega (arith, h.1, more-pending cs k g σ J K)) h.3.0 (more-nested w.calls cs k g σ J K h.3.0 h.3.1)
 move-counted s (Over r w) h = h

@@ -6,7 +6,7 @@ use Rattle.op_trace.specs.declared.port.Port.TheVariants as port
 use Rattle.op_trace.specs.World.{Text, text_eq, Clause, World, Setup, Barrier, Item, Goal, Exit, Turn, Shown, Solved, procedure}
 use Rattle.op_trace.specs.Visit.{Verdict, Failed, Stopped, Spent, Visited, gives, with_turns, and_then, event_of, with_event, pays, Control, Succeed, Give_up, Both, Invoke, control, entered, Choice, Redo, More, Fail, matched, tries, alternatives, after, boxed, selected, solved, visit, visit_with}
 use Rattle.op_trace.proofs.Agree.{visit_rows}
-use Rattle.op_machine.specs.Resume.{resume, State, Going, Back, Over, owed, Moved, silent, paid, invoked, chosen, met, tried, at_solution, move, world_of}
+use Rattle.op_machine.specs.Resume.{with_more, resume, State, Going, Back, Over, owed, Moved, silent, paid, invoked, chosen, met, tried, at_solution, move, world_of}
 
 -- a walk that leads to another, and then to a third
 pub and_then-assoc : (v : Visited) (h i : Verdict → World → Visited)
@@ -67,6 +67,13 @@ pub push-row : (s : Setup) (v : Visited) (c : Choice) (K : List Choice)
 unfolding resume
 push-row s v c K = and_then-assoc v (after (visit s) s c) (resume s K)
 
+-- no further clauses are no choice
+pub resume-with_more : (s : Setup) (cs : List Clause) (k : ℕ) (g : Term Text) (σ : Bindings Text) (J : List Item) (K : List Choice) (r : Verdict) (w : World)
+  → resume s (with_more cs k g σ J K) r w ≡ resume s (More cs k g σ J ∷ K) r w
+unfolding resume
+resume-with_more s [] k g σ J K r w = refl
+resume-with_more s (c ∷ cs) k g σ J K r w = refl
+
 pub boxed-row : (s : Setup) (g : Term Text) (J : List Item) (σ : Bindings Text) (w : World) (K : List Choice)
     → and_then (boxed (visit s) s g J σ w) (resume s K) ≡ comes s (invoked g J K σ w)
 unfolding owed resume
@@ -74,7 +81,8 @@ boxed-row s g J σ w K =
     let k : ℕ = w.calls + 1 in
     let u : World = record w { calls = k } in
     ap (with_turns (Shown (event_of port.Call k g σ J u) (with_event u) ∷ []))
-    (and_then-assoc (alternatives (visit s) s (procedure w.clauses g) k g σ J Failed (with_event u)) (after (visit s) s (Fail k g σ J)) (resume s K))
+    (and_then-assoc (alternatives (visit s) s (procedure w.clauses g) k g σ J Failed (with_event u)) (after (visit s) s (Fail k g σ J)) (resume s K)
+        ∙ sym (resume-with_more s (procedure w.clauses g) k g σ J (Fail k g σ J ∷ K) Failed (with_event u)))
 
 pub selected-row : (s : Setup) (q : Control) (t : Term Text) (m : Barrier) (J : List Item) (σ : Bindings Text) (w : World) (K : List Choice)
     → and_then (selected (visit s) s q t m J σ w) (resume s K) ≡ comes s (chosen q t m J K σ w)
@@ -120,5 +128,7 @@ move-row s (Back (Redo k g σ J ∷ K) w) below = refl
 move-row s (Back (Fail k g σ J ∷ K) w) below = refl
 move-row s (Back (More [] k g σ J ∷ K) w) below = refl
 move-row s (Back (More (c ∷ cs) k g σ J ∷ K) w) below =
-    push-row s (tries (visit s) s c k g σ J w) (More cs k g σ J) K ∙ tried-row s c k g σ J w (More cs k g σ J ∷ K)
+    let v : Visited = tries (visit s) s c k g σ J w in
+    push-row s v (More cs k g σ J) K
+      ∙ (ap (with_turns v.turns) (sym (resume-with_more s cs k g σ J K v.verdict v.world)) ∙ tried-row s c k g σ J w (with_more cs k g σ J K))
 move-row s (Over r w) below = refl

@@ -1,3 +1,4 @@
+pub mod Core
 pub mod Counted
 pub mod Lists
 pub mod Program

@@ -42,11 +42,16 @@ paid false s n w h = silent (Over Spent (record w { steps = s.budget }))
 abbrev pub pay : Setup → ℕ → World → (World → Moved) → Moved
 pay s n w h = paid (nat_le (w.steps + n) s.budget) s n w h
 
+-- a choice of further clauses, where there are any
+abbrev pub with_more : List Clause → ℕ → Term Text → Bindings Text → List Item → List Choice → List Choice
+with_more [] k g σ J K = K
+with_more (c ∷ cs) k g σ J K = More (c ∷ cs) k g σ J ∷ K
+
 abbrev pub invoked : Term Text → List Item → List Choice → Bindings Text → World → Moved
 invoked g J K σ w =
     let k : ℕ = w.calls + 1 in
     let u : World = record w { calls = k } in
-    showing port.Call k g σ J u (Back (More (procedure w.clauses g) k g σ J ∷ Fail k g σ J ∷ K) (with_event u))
+    showing port.Call k g σ J u (Back (with_more (procedure w.clauses g) k g σ J (Fail k g σ J ∷ K)) (with_event u))
 
 abbrev pub chosen : Control → Term Text → Barrier → List Item → List Choice → Bindings Text → World → Moved
 chosen Succeed t m J K σ w = silent (Going J K σ w)
@@ -78,7 +83,7 @@ move s (Back [] w) = silent (Over Failed w)
 move s (Back (Redo k g σ J ∷ K) w) = showing port.Redo k g σ J w (Back K (with_event w))
 move s (Back (Fail k g σ J ∷ K) w) = showing port.Fail k g σ J w (Back K (with_event w))
 move s (Back (More [] k g σ J ∷ K) w) = silent (Back K w)
-move s (Back (More (c ∷ cs) k g σ J ∷ K) w) = tried s c k g σ J (More cs k g σ J ∷ K) w
+move s (Back (More (c ∷ cs) k g σ J ∷ K) w) = tried s c k g σ J (with_more cs k g σ J K) w
 move s (Over r w) = silent (Over r w)
 
 abbrev pub world_of : State → World

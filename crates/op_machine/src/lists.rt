@@ -1,4 +1,4 @@
-ghost use Rattle.std.specs.Prelude.{◌≡◌, ◌<◌, ◌≤◌, [], ◌∷◌, ◌++◌, length, OnOk, OnErr, IfOk, IfSome, IfNone, MatchOption};
+ghost use Rattle.std.specs.Prelude.{◌≡◌, ◌<◌, ◌≤◌, ◌^◌, [], ◌∷◌, ◌++◌, length, OnOk, OnErr, IfOk, IfSome, IfNone, MatchOption};
 ghost use Rattle.op_machine.specs.Lists.{list_in, lists_of, only_empty, opened, AreLinked, Begins};
 ghost use Rattle.op_trace.specs.World.{head_number};
 
@@ -97,7 +97,7 @@ impl Lists {
     pub fn depth(&self, n: u64) -> u64
         requires { n < length self.now }
         ensures count { result ≡ length (opened (list_in self.now n)) }
-        ensures within { result ≤ n }
+        ensures small { result < 2 ^ 63 }
     {
         opened_at(&self.cells, n).1
     }
@@ -122,6 +122,7 @@ fn opened_at(cells: &Vec<Cell>, n: u64) -> (u64, u64)
     ensures parent { result.0 ≡ head_number (opened (list_in (lists_of cells.now.items) n)) }
     ensures depth { result.1 ≡ length (opened (list_in (lists_of cells.now.items) n)) }
     ensures shallow { result.1 ≤ n }
+    ensures small { result.1 < 2 ^ 63 }
 {
     match cell_at(cells, n) {
         Some(cell) => (cell.parent, cell.depth),

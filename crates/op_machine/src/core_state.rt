@@ -1,0 +1,54 @@
+use crate::frame::Frame;
+use crate::lists::Lists;
+use crate::store::Store;
+use op_term::Sym;
+use op_trace::Port;
+
+/// How a run ended.
+#[derive(Clone, Copy, Debug, PartialEq, Eq)]
+pub enum Ending {
+    /// The wanted solution was found.
+    Stopped,
+    /// No alternative was left.
+    Failed,
+    /// One more step would have passed the budget.
+    Spent,
+}
+
+/// What is done next.
+#[derive(Clone, Copy, Debug)]
+pub enum Mode {
+    /// The items of a list, from its number.
+    Forward { items: u64 },
+    /// The last choice.
+    Backward,
+    /// Nothing.
+    Over { ending: Ending },
+}
+
+/// The last event that was shown.
+#[derive(Clone, Copy, Debug)]
+pub struct Seen {
+    pub chrono: u64,
+    pub call: u64,
+    pub parent: u64,
+    pub depth: u64,
+    pub port: Port,
+    pub goal: Sym,
+}
+
+/// All that a machine keeps.
+#[derive(Drop)]
+pub struct Core {
+    pub store: Store,
+    pub lists: Lists,
+    pub frames: Vec<Frame>,
+    pub mode: Mode,
+    pub seen: Seen,
+    pub calls: u64,
+    pub steps: u64,
+    pub events: u64,
+    pub solutions: u64,
+    pub budget: u64,
+    pub wanted: u64,
+}
