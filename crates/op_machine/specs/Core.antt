@@ -20,6 +20,7 @@ use Rattle.op_machine.specs.declared.core_state.Seen.{Seen}
 use Rattle.op_machine.specs.Lists.{list_in}
 use Rattle.op_machine.specs.Program.{Tables, clauses, clauses_for, goal_named, body_from}
 use Rattle.op_machine.specs.Resume.{State, Going, Back, Over}
+use Rattle.op_machine.specs.Counted.{Counted}
 
 abbrev pub item_term : Tables → Item → world.Item
 item_term t (item.Body i j m) = world.Goal (body_from t i j) (world.Call m)
@@ -55,13 +56,13 @@ verdict_of ending.Stopped = visit.Stopped
 verdict_of ending.Failed = visit.Failed
 verdict_of ending.Spent = visit.Spent
 
-abbrev pub state_by : Core → Mode → State
-state_by c (mode.Forward n) = Going (items_in c.store c.lists n) (choices_in c) [] (world_in c)
-state_by c mode.Backward = Back (choices_in c) (world_in c)
-state_by c (mode.Over e) = Over (verdict_of e) (world_in c)
+abbrev pub state_with : Tables → List (List Item) → List Frame → World → Mode → State
+state_with t L F w (mode.Forward n) = Going (items_in t L n) (choices_of t L F) [] w
+state_with t L F w mode.Backward = Back (choices_of t L F) w
+state_with t L F w (mode.Over e) = Over (verdict_of e) w
 
 abbrev pub state_of : Core → State
-state_of c = state_by c c.mode
+state_of c = state_with c.store c.lists c.frames.items (world_in c) c.mode
 
 abbrev pub event_seen : Tables → Seen → Event
 event_seen t e = record { chrono = e.chrono; call = e.call; parent = e.parent; depth = e.depth; port = e.port; goal = goal_named t e.goal.0 }
@@ -102,3 +103,10 @@ pub record IsGood (c : Core) : Type 0 where
   pub lists : AreLists c.store c.lists
   pub frames : AreFrames c.store (length c.lists) (reverse c.frames.items)
   pub mode : IsMode (length c.lists) c.mode
+  pub seen : c.seen.goal.0 < length c.store.names
+
+-- what holds of every machine between two turns
+pub record IsSound (c : Core) : Type 0 where
+  pub good : IsGood c
+  pub counted : Counted (setup_of c) (state_of c)
+  pub limit : c.budget ≤ 1000000000

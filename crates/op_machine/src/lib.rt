@@ -6,8 +6,14 @@ mod frame;
 mod index;
 mod kind;
 mod lists;
+mod machine;
 mod rows;
 mod store;
+mod turn;
+mod view;
 
 pub use core_state::Ending;
+pub use machine::{Host, Machine};
 pub use store::{Goal, Store};
+pub use turn::{Cause, MachineFault, Turn};
+pub use view::EventView;

@@ -1,0 +1,97 @@
+-- What callers see of a machine, and what its calls answer.
+use Rattle.std.specs.Prelude.{◌≡◌, ℕ, suc, ◌+◌, ◌-◌, ◌^◌, ◌<◌, ◌≤◌, ◌&&◌, not, Bool, true, false, List, [], ◌∷◌, length}
+use Rattle.op_logic.specs.Term.{Term}
+use Rattle.op_trace.specs.World.{World, Setup, Event, Turn, Shown, Solved, loaded}
+use Rattle.op_trace.specs.Run.{Run, ran}
+use Rattle.op_trace.specs.Ending as ending
+use Rattle.op_machine.specs.declared.lists.Item.{Item}
+use Rattle.op_machine.specs.declared.frame.Frame.{Frame}
+use Rattle.op_machine.specs.declared.core_state.Core.{Core}
+use Rattle.op_machine.specs.declared.core_state.Mode.{Mode}
+use Rattle.op_machine.specs.declared.core_state.Seen.{Seen}
+use Rattle.op_machine.specs.declared.core_state.Ending.{Ending}
+use Rattle.op_machine.specs.declared.core_state.Ending.TheVariants as outcome
+use Rattle.op_machine.specs.declared.turn.Last.{Last}
+use Rattle.op_machine.specs.declared.turn.Last.TheVariants as last
+use Rattle.op_machine.specs.declared.turn.Turn as declared
+use Rattle.op_machine.specs.declared.turn.Turn.TheVariants as turn
+use Rattle.op_machine.specs.Program.{Tables, clauses}
+use Rattle.op_machine.specs.Core.{state_with, event_seen}
+use Rattle.op_machine.specs.Resume.{State, owed}
+
+-- what a machine keeps: no turn that was or is to come is among it
+pub record Kept : Type 0 where
+  pub tables : Tables
+  pub lists : List (List Item)
+  pub frames : List Frame
+  pub mode : Mode
+  pub seen : Seen
+  pub last : Last
+  pub faulted : Bool
+  pub calls : ℕ
+  pub steps : ℕ
+  pub events : ℕ
+  pub solutions : ℕ
+  pub budget : ℕ
+  pub wanted : ℕ
+
+abbrev pub kept_of : Core → Last → Bool → Kept
+kept_of c l f = record { tables = c.store; lists = c.lists; frames = c.frames.items; mode = c.mode; seen = c.seen; last = l; faulted = f;
+    calls = c.calls; steps = c.steps; events = c.events; solutions = c.solutions; budget = c.budget; wanted = c.wanted }
+
+abbrev pub setup : Kept → Setup
+setup k = record { budget = k.budget; wanted = k.wanted }
+
+-- the run's world at this moment
+abbrev pub world_now : Kept → World
+world_now k = record (loaded (clauses k.tables)) { calls = k.calls; steps = k.steps; events = k.events; solutions = k.solutions }
+
+abbrev pub state_now : Kept → State
+state_now k = state_with k.tables k.lists k.frames (world_now k) k.mode
+
+-- the turns that are still to come, the ending, and the world at it
+unfoldable pub to_come : Kept → Run
+to_come k = ran (owed (setup k) (state_now k))
+
+-- the event that was shown last
+abbrev pub event_now : Kept → Event
+event_now k = event_seen k.tables k.seen
+
+abbrev pub is_event : Last → Bool
+is_event last.Event = true
+is_event l = false
+
+abbrev pub is_solution : Last → Bool
+is_solution last.Solution = true
+is_solution l = false
+
+-- whether the last turn was an event, and the machine has not ended by a fault
+abbrev pub has_event : Kept → Bool
+has_event k = is_event k.last && not k.faulted
+
+abbrev pub has_solution : Kept → Bool
+has_solution k = is_solution k.last && not k.faulted
+
+-- how many turns were answered
+abbrev pub answered : Kept → ℕ
+answered k = k.events + k.solutions
+
+abbrev pub with_turn : Turn → Run → Run
+with_turn t r = record { turns = t ∷ r.turns; ending = r.ending; world = r.world }
+
+abbrev pub ending_for : Ending → ending.Ending
+ending_for outcome.Stopped = ending.Stopped
+ending_for outcome.Failed = ending.Failed
+ending_for outcome.Spent = ending.Spent
+
+abbrev pub only_ending : Ending → World → Run
+only_ending e w = record { turns = []; ending = ending_for e; world = w }
+
+-- the first of the turns to come was answered, and the rest are left; or none are, and the ending was answered
+abbrev pub Answers : declared.Turn → Kept → Kept → Type 0
+Answers turn.Event old new =
+    (to_come old ≡ with_turn (Shown (event_now new) (world_now new)) (to_come new)) × (has_event new ≡ true) × (answered new ≡ answered old + 1)
+Answers turn.Solution old new =
+    (to_come old ≡ with_turn (Solved [] (world_now new)) (to_come new)) × (has_solution new ≡ true) × (answered new ≡ answered old + 1)
+Answers (turn.Ended e) old new =
+    (to_come old ≡ only_ending e (world_now new)) × (to_come new ≡ to_come old) × (has_event new ≡ false) × (answered new ≡ answered old)

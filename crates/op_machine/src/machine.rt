@@ -1,0 +1,104 @@
+ghost use Rattle.std.specs.Prelude.{◌≡◌, ◌≢◌, ◌+◌, ◌-◌, ◌^◌, ◌<◌, ◌≤◌, ◌↔◌, true, false, length, IfOk, IsErrOf, IfSome, is_some, OnOk};
+ghost use Rattle.op_logic.specs.Term.{atom};
+ghost use Rattle.op_trace.specs.Run.{run};
+ghost use Rattle.op_trace.specs.World.{loaded};
+
+use crate::core_state::{Core, Ending, Mode, Seen};
+use crate::store::{Goal, Store};
+use crate::turn::{Cause, Last, MachineFault, Turn};
+use crate::view::EventView;
+use op_base::{Memory, Steps};
+use op_term::Symbols;
+use op_trace::Port;
+use std::alloc::Global;
+use std::marker::Model;
+use std::sync::ledger::Ledger;
+
+/// What lies outside a traced program. A propositional program asks nothing of it.
+pub trait Host {}
+
+/// The walk over the search tree of a goal, a turn at a time. It keeps no list of turns.
+#[derive(Drop)]
+pub struct Machine {
+    core: Core,
+    last: Last,
+    faulted: bool,
+}
+
+impl Model for Machine {
+    ghost use Rattle.op_machine.specs.Machine.{Kept, kept_of};
+
+    ghost Value = { Kept };
+
+    ghost view = { λ m. kept_of m.core m.last m.faulted };
+
+    ghost use Rattle.op_machine.specs.Core.{IsSound};
+
+    ghost invariant = { λ m. IsSound m.core };
+}
+
+impl Machine {
+    ghost use Rattle.op_machine.specs.Machine.{to_come, Answers, answered, event_now, has_event, has_solution};
+    ghost use Rattle.op_machine.specs.Program.{clauses, goal_named};
+    ghost use Rattle.op_machine.specs.View.{event_in};
+
+    /// A machine before the first turn of a goal's run over the clauses of a store: the run may take `budget` steps,
+    /// from 1 to 1,000,000,000, and ends at the solution numbered `wanted`, from 1, or at none for 0.
+    pub fn start(alloc: Global, store: Store, goal: Goal, budget: u64, wanted: u64) -> Result<Machine, Memory>
+        requires goal { goal.name.0 < length store.names }
+        requires some { 1 ≤ budget }
+        requires limit { budget ≤ 1000000000 }
+        ensures run { IfOk result (λ m. to_come m
+            ≡ run (record { budget = budget; wanted = wanted }) (goal_named store goal.name.0) (loaded (clauses store))) }
+        ensures steps { IfOk result (λ m. m.steps ≡ 0) }
+        ensures answered { IfOk result (λ m. answered m ≡ 0) }
+        ensures none { IfOk result (λ m. has_event m ≡ false) }
+        ensures whole { IfOk result (λ m. m.faulted ≡ false) }
+    {
+        let _ = alloc;
+        let _ = (goal, budget, wanted);
+        let _ = store.len();
+        Err(Memory)
+    }
+
+    /// The next turn, or the ending, again each time. The ledger rises by the run's steps. After `Memory` the machine has
+    /// ended, and answers so from then on.
+    pub fn next<H: Host, L: Ledger>(&mut self, host: &mut H, steps: &mut Steps<L>) -> Result<Turn, MachineFault>
+        ensures answers { IfOk result (λ t. Answers t self.old self.new) }
+        ensures cost { OnOk result (steps.new ≡ steps.old + (self.new.steps - self.old.steps)) }
+        ensures later { self.old.steps ≤ self.new.steps }
+        ensures paid { steps.new ≤ steps.old + (self.new.steps - self.old.steps) }
+        ensures names { self.new.tables ≡ self.old.tables }
+        ensures few { OnOk result (answered self.new < 2 ^ 63) }
+        ensures fault { IsErrOf result MachineFault.Memory → self.new.faulted ≡ true }
+        ensures whole { OnOk result (self.new.faulted ≡ false) }
+        ensures ended { IsErrOf result (MachineFault.Ended Cause.Memory) ↔ (self.old.faulted ≡ true) }
+        ensures same { self.old.faulted ≡ true → self.new ≡ self.old }
+    {
+        let _ = host;
+        steps.tick(0);
+        if self.faulted {
+            return Err(MachineFault::Ended(Cause::Memory));
+        }
+        self.faulted = true;
+        Err(MachineFault::Memory)
+    }
+
+    /// How many steps the run has made up to the last turn, or to its end.
+    pub fn used_steps(&self) -> u64
+        ensures { result ≡ self.now.steps }
+    {
+        self.core.steps
+    }
+
+    /// The event that was the last turn; None where the last turn was no event or a fault was answered.
+    pub fn event(&self) -> Option<EventView<'_>>
+        ensures there { is_some result ≡ has_event self.now }
+        ensures event { IfSome result (λ v. event_in v ≡ event_now self.now) }
+    {
+        if self.faulted || self.last != Last::Event {
+            return None;
+        }
+        Some(EventView::new(self.core.seen, self.core.store.symbols()))
+    }
+}
