@@ -1,0 +1,19 @@
+//! The outside of a run: named files and five channels of bytes, over memory or over the system.
+#![tactic(auto)]
+
+mod by_chan;
+mod bytes;
+mod chan;
+mod desk;
+mod fault;
+mod shelf;
+mod source;
+mod sources;
+mod whole;
+
+pub use bytes::Bytes;
+pub use chan::Chan;
+pub use desk::Desk;
+pub use fault::{DeskFault, TakeFault};
+pub use shelf::Shelf;
+pub use whole::{put_all, take_all};
