@@ -5,3 +5,4 @@ pub mod Answer
 pub mod Entries
 pub mod Channels
 pub mod Source
+pub mod Memory

@@ -1,8 +1,10 @@
-ghost use Rattle.std.specs.Prelude.{◌≡◌};
+ghost use Rattle.std.specs.Prelude.{◌≡◌, ◌++◌, OnOk, OnErr};
 ghost use Rattle.op_desk.specs.Channels.{at};
-ghost use Rattle.op_desk.specs.Frame.{Becomes};
+ghost use Rattle.op_desk.specs.Frame.{Becomes, Same};
 
+use crate::bytes::Bytes;
 use crate::chan::Chan;
+use op_base::Memory;
 
 /// A value for each channel.
 #[derive(Drop)]
@@ -56,6 +58,22 @@ impl<T> ByChan<T> {
             Chan::Output => self.output = value,
             Chan::Talk => self.talk = value,
             Chan::Note => self.note = value,
+        }
+    }
+}
+
+impl ByChan<Bytes> {
+    /// Adds bytes at the end of the channel's.
+    pub fn append(&mut self, chan: Chan, bytes: &[u8]) -> Result<(), Memory>
+        ensures ok { OnOk result (Becomes chan (at self.old chan ++ bytes.now) (at self.old) (at self.new)) }
+        ensures err { OnErr result (Same (at self.old) (at self.new)) }
+    {
+        match chan {
+            Chan::Commands => self.commands.append(bytes),
+            Chan::Input => self.input.append(bytes),
+            Chan::Output => self.output.append(bytes),
+            Chan::Talk => self.talk.append(bytes),
+            Chan::Note => self.note.append(bytes),
         }
     }
 }

@@ -1,8 +1,9 @@
-ghost use Rattle.std.specs.Prelude.{◌≡◌, ◌<◌, [], ◌++◌, ◌∷◌, None, Some, OnOk, OnErr, IfOk, IfSome, MatchOption, vec_len, length, string_bytes, slice_index_or, slice_set};
-ghost use Rattle.op_desk.specs.Contents.{IsNamedOnce, bytes_of, with_file};
+ghost use Rattle.std.specs.Prelude.{◌≡◌, ◌<◌, ◌≤◌, [], ◌++◌, ◌∷◌, None, Some, OnOk, OnErr, IfOk, IfSome, IfNone, MatchOption, vec_len, length, string_bytes, slice_index_or, slice_set};
+ghost use Rattle.op_desk.specs.Contents.{FileGives, Gives, IsNamedOnce, bytes_of, with_file};
 ghost use Rattle.op_desk.specs.Entries.{files_of, Holds};
 
 use crate::bytes::Bytes;
+use crate::source::copy_front;
 use op_base::Memory;
 use std::alloc::Global;
 use std::marker::Model;
@@ -61,6 +62,27 @@ impl Shelf {
         let place = place_of(&self.entries, name.as_bytes())?;
         Some(&self.entries[place].bytes)
     }
+
+    /// Reads a file from a place on, or answers None where the name is not there.
+    pub fn read(&self, name: &str, from: u64, into: &mut [u8]) -> Option<usize>
+        ensures missing { IfNone result (bytes_of self.now name.now ≡ None) }
+        ensures within { IfSome result (λ n. n ≤ length into.new) }
+        ensures gives { IfSome result (λ n. Gives (Some self.now) name.now from into.new n) }
+    {
+        match self.find(name) {
+            None => None,
+            Some(bytes) => Some(copy_from(bytes.as_slice(), from, into)),
+        }
+    }
+}
+
+// Copies bytes from a place on into the buffer, as many as there are and fit.
+fn copy_from(bytes: &[u8], from: u64, into: &mut [u8]) -> usize
+    ensures within { result ≤ length into.new }
+    ensures gives { FileGives bytes.now from into.new result }
+{
+    let start = from.min(bytes.len() as u64) as usize;
+    copy_front(&bytes[start..], into)
 }
 
 fn entry_of(alloc: Global, name: &str, bytes: &[u8]) -> Result<Entry, Memory>
