@@ -6,3 +6,4 @@ pub mod Entries
 pub mod Channels
 pub mod Source
 pub mod Memory
+pub mod System

@@ -1,4 +1,4 @@
-ghost use Rattle.std.specs.Prelude.{◌≡◌, ℕ, ◌<◌, ◌⊎◌, ◌↔◌, Bool, true, false, Some, [], ◌++◌, IsTrue, IsErr, IsErrOf, OnOk, OnErr, IfOk, Contains, List, length};
+ghost use Rattle.std.specs.Prelude.{◌≡◌, ℕ, ◌<◌, ◌⊎◌, ◌↔◌, Bool, true, false, Some, [], ◌++◌, refl, IsTrue, IsErr, IsErrOf, OnOk, OnErr, IfOk, Contains, List, length};
 ghost use Rattle.std.specs.Io.{ReadsAtMost, WritesAtMost};
 ghost use Rattle.std.specs.Io.KnownBytes.{ReadConsumes, WriteAppends};
 ghost use Rattle.op_desk.specs.Answer.{Counts, Steady, own_count, other_count};
@@ -270,5 +270,5 @@ impl Desk for MemoryDesk {
         }
     }
 
-    ghost tells = { λ d h. Prim.search };
+    ghost tells = { λ d h. refl };
 }
