@@ -65,7 +65,7 @@ SameBut-at_other chan f g c other p = Becomes-at_other chan (g chan) f g c other
 pub Becomes-then : {A : Type 0} (chan : Chan) (value : A) (f g h : Chan → A) → SameBut chan f g → Becomes chan value g h → Becomes chan value f h
 Becomes-then chan value f g h p q =
     Each-from (λ c. Each-at q c ∙ (pick (same_chan c chan) value (g c) (g chan) (f c) (Each-at p c)))
-    where
-      pick : {A : Type 0} (b : Bool) (value x y z : A) → x ≡ cond b y z → cond b value x ≡ cond b value z
-      pick true value x y z e = refl
-      pick false value x y z e = e
+  where
+    pick : {A : Type 0} (b : Bool) (value x y z : A) → x ≡ cond b y z → cond b value x ≡ cond b value z
+    pick true value x y z e = refl
+    pick false value x y z e = e

@@ -51,9 +51,11 @@ bytes_of-with_file (file ∷ files) name bytes other = bytes_of-step (bytes_eq f
 IsNamedOnce-step : (t : Bool) (file : List ℕ × List ℕ) (files : Files) (name bytes : List ℕ) → bytes_eq file.0 name ≡ t → bytes_of files file.0 ≡ None → IsNamedOnce files → IsNamedOnce (with_file files name bytes) → IsNamedOnce (cond t ((name, bytes) ∷ files) (file ∷ with_file files name bytes))
 IsNamedOnce-step true file files name bytes e new once rest =
     (ap (bytes_of files) (sym (same_from_bytes_eq file.0 name e)) ∙ new, once)
-IsNamedOnce-step false file files name bytes e new once rest =
-    (bytes_of-with_file files name bytes file.0
-        ∙ ap (λ t. cond t (Some bytes) (bytes_of files file.0)) (bytes_eq-swapped file.0 name e) ∙ new, rest)
+IsNamedOnce-step false file files name bytes e new once rest = (
+  bytes_of-with_file files name bytes file.0
+      ∙ ap (λ t. cond t (Some bytes) (bytes_of files file.0)) (bytes_eq-swapped file.0 name e) ∙ new,
+  rest,
+)
 
 -- each name still stands once
 pub IsNamedOnce-with_file : (files : Files) (name bytes : List ℕ) → IsNamedOnce files → IsNamedOnce (with_file files name bytes)

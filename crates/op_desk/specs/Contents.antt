@@ -51,7 +51,7 @@ pub record CannotAttach (shelf : Option Files) (chan : Chan) (name : List ℕ) :
 -- What a channel that is read has left after it was attached.
 abbrev pub attached : Option Files → Known → List ℕ → Known
 attached shelf standard name =
-  if is_dash name then standard else option_and_then (λ files. bytes_of files name) shelf
+    if is_dash name then standard else option_and_then (λ files. bytes_of files name) shelf
 
 -- What a channel that is written holds after it was attached: nothing.
 abbrev pub emptied : Known → Known

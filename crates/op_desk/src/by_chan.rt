@@ -8,7 +8,7 @@ use op_base::Memory;
 
 /// A value for each channel.
 #[derive(Drop)]
-pub struct ByChan<T> {
+pub(crate) struct ByChan<T> {
     commands: T,
     input: T,
     output: T,
@@ -17,7 +17,7 @@ pub struct ByChan<T> {
 }
 
 impl<T> ByChan<T> {
-    pub fn new(commands: T, input: T, output: T, talk: T, note: T) -> ByChan<T>
+    pub(crate) fn new(commands: T, input: T, output: T, talk: T, note: T) -> ByChan<T>
         ensures commands { result.commands ≡ commands }
         ensures input { result.input ≡ input }
         ensures output { result.output ≡ output }
@@ -34,7 +34,7 @@ impl<T> ByChan<T> {
     }
 
     /// Lends the channel's value.
-    pub fn get(&self, chan: Chan) -> &T
+    pub(crate) fn get(&self, chan: Chan) -> &T
         ensures { result.now ≡ at self.now chan }
     {
         match chan {
@@ -47,7 +47,7 @@ impl<T> ByChan<T> {
     }
 
     /// Gives the channel another value.
-    pub fn set(&mut self, chan: Chan, value: T)
+    pub(crate) fn set(&mut self, chan: Chan, value: T)
     where
         T: Drop,
         ensures { Becomes chan value (at self.old) (at self.new) }
@@ -64,7 +64,7 @@ impl<T> ByChan<T> {
 
 impl ByChan<Bytes> {
     /// Adds bytes at the end of the channel's.
-    pub fn append(&mut self, chan: Chan, bytes: &[u8]) -> Result<(), Memory>
+    pub(crate) fn append(&mut self, chan: Chan, bytes: &[u8]) -> Result<(), Memory>
         ensures ok { OnOk result (Becomes chan (at self.old chan ++ bytes.now) (at self.old) (at self.new)) }
         ensures err { OnErr result (Same (at self.old) (at self.new)) }
     {

@@ -17,14 +17,14 @@ pub enum Fail {
 }
 
 /// The next count, which stands still at its type's end.
-pub fn one_more(n: u64) -> u64
+pub(crate) fn one_more(n: u64) -> u64
     ensures { result ≡ one_more n }
 {
     n.saturating_add(1)
 }
 
 /// Whether a call is in the list.
-pub fn is_listed(failing: &[Fail], call: Fail) -> bool
+pub(crate) fn is_listed(failing: &[Fail], call: Fail) -> bool
     ensures { IsTrue result ↔ Contains failing.now call }
 {
     failing.contains(&call)

@@ -154,7 +154,10 @@ impl Desk for MemoryDesk {
         self.attaches = one_more(self.attaches);
         let is_failing = is_listed(self.failing.as_slice(), Fail::Attach(self.attaches));
         if chan.is_read() {
-            return match self.sources.attach(self.alloc, is_failing, &self.shelf, chan, name) {
+            return match self
+                .sources
+                .attach(self.alloc, is_failing, &self.shelf, chan, name)
+            {
                 Ok(()) => {
                     self.fresh.set(chan, false);
                     Ok(())

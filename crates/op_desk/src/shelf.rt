@@ -49,13 +49,14 @@ impl Shelf {
     pub fn add(&mut self, name: &str, bytes: &[u8]) -> Result<(), Memory>
         ensures ok { OnOk result (self.new ≡ with_file self.old name.now bytes.now) }
         ensures err { OnErr result (self.new ≡ self.old) }
+        ensures once { IsNamedOnce self.new }
     {
         let entry = entry_of(self.alloc, name, bytes)?;
         put_entry(&mut self.entries, entry)
     }
 
     /// Lends the bytes of a name, or None where the name is not there.
-    pub fn find(&self, name: &str) -> Option<&Bytes>
+    pub(crate) fn find(&self, name: &str) -> Option<&Bytes>
         ensures { MatchOption result (bytes_of self.now name.now ≡ None)
             (λ bytes. bytes_of self.now name.now ≡ Some bytes.now) }
     {
@@ -64,7 +65,7 @@ impl Shelf {
     }
 
     /// Reads a file from a place on, or answers None where the name is not there.
-    pub fn read(&self, name: &str, from: u64, into: &mut [u8]) -> Option<usize>
+    pub(crate) fn read(&self, name: &str, from: u64, into: &mut [u8]) -> Option<usize>
         ensures missing { IfNone result (bytes_of self.now name.now ≡ None) }
         ensures within { IfSome result (λ n. n ≤ length into.new) }
         ensures gives { IfSome result (λ n. Gives (Some self.now) name.now from into.new n) }

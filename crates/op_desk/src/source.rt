@@ -7,7 +7,7 @@ use std::alloc::Global;
 
 /// The bytes of a channel that is read: those of the standard stream until a file is attached.
 #[derive(Drop)]
-pub struct Source {
+pub(crate) struct Source {
     standard: Bytes,
     attached: Option<Bytes>,
     taken: usize,
@@ -15,7 +15,7 @@ pub struct Source {
 
 impl Source {
     /// A source of which nothing was taken.
-    pub fn new(standard: Bytes) -> Source
+    pub(crate) fn new(standard: Bytes) -> Source
         ensures rest { rest_of result ≡ standard }
         ensures standard { result.standard ≡ standard }
     {
@@ -27,7 +27,7 @@ impl Source {
     }
 
     /// Lends the bytes that were not yet taken.
-    pub fn rest(&self) -> &[u8]
+    pub(crate) fn rest(&self) -> &[u8]
         ensures rest { result.now ≡ rest_of self.now }
         ensures fits { self.now.taken + length result.now < 2 ^ 64 }
     {
@@ -35,7 +35,7 @@ impl Source {
     }
 
     /// Takes bytes into the buffer, as many as there are and fit.
-    pub fn take(&mut self, into: &mut [u8]) -> usize
+    pub(crate) fn take(&mut self, into: &mut [u8]) -> usize
         ensures taken { TakesFront (rest_of self.old) (rest_of self.new) into.new result }
         ensures standard { self.new.standard ≡ self.old.standard }
     {
@@ -45,7 +45,7 @@ impl Source {
     }
 
     /// Attaches a copy of these bytes.
-    pub fn attach(&mut self, alloc: Global, bytes: &[u8]) -> Result<(), Memory>
+    pub(crate) fn attach(&mut self, alloc: Global, bytes: &[u8]) -> Result<(), Memory>
         ensures ok { OnOk result (rest_of self.new ≡ bytes.now) }
         ensures err { OnErr result (rest_of self.new ≡ rest_of self.old) }
         ensures standard { self.new.standard ≡ self.old.standard }
@@ -58,7 +58,7 @@ impl Source {
     }
 
     /// Goes back to the standard stream's first byte.
-    pub fn attach_standard(&mut self)
+    pub(crate) fn attach_standard(&mut self)
         ensures rest { rest_of self.new ≡ self.old.standard }
         ensures standard { self.new.standard ≡ self.old.standard }
     {
@@ -85,7 +85,7 @@ fn rest_from(bytes: &[u8], taken: usize) -> &[u8]
 }
 
 /// Copies a front of the bytes, as much as fits, and says how much.
-pub fn copy_front(bytes: &[u8], into: &mut [u8]) -> usize
+pub(crate) fn copy_front(bytes: &[u8], into: &mut [u8]) -> usize
     ensures count { result ≡ min (length bytes.now) (length into.old) }
     ensures bytes { take result into.new ≡ take result bytes.now }
 {

@@ -14,14 +14,14 @@ use std::alloc::Global;
 
 /// The sources of the two channels that are read.
 #[derive(Drop)]
-pub struct Sources {
+pub(crate) struct Sources {
     commands: Source,
     input: Source,
 }
 
 impl Sources {
     /// Two sources that nothing was taken from, over what `-` means.
-    pub fn new(commands: Bytes, input: Bytes) -> Sources
+    pub(crate) fn new(commands: Bytes, input: Bytes) -> Sources
         ensures commands { left_in result Chan.Commands ≡ commands }
         ensures input { left_in result Chan.Input ≡ input }
         ensures standard_commands { standard_in result Chan.Commands ≡ commands }
@@ -34,7 +34,7 @@ impl Sources {
     }
 
     /// Lends what a channel has left, which is nothing for a channel that is written.
-    pub fn rest(&self, chan: Chan) -> &[u8]
+    pub(crate) fn rest(&self, chan: Chan) -> &[u8]
         ensures { result.now ≡ left_in self.now chan }
     {
         match chan {
@@ -45,7 +45,7 @@ impl Sources {
     }
 
     /// Takes bytes of a channel, as many as there are and fit.
-    pub fn take(&mut self, chan: Chan, into: &mut [u8]) -> usize
+    pub(crate) fn take(&mut self, chan: Chan, into: &mut [u8]) -> usize
         ensures taken { TakesFront (left_in self.old chan) (left_in self.new chan) into.new result }
         ensures others { SameBut chan (left_in self.old) (left_in self.new) }
         ensures standard { Same (standard_in self.old) (standard_in self.new) }
@@ -58,7 +58,7 @@ impl Sources {
     }
 
     /// Attaches the standard bytes or a copy of a file's bytes, unless the call is to fail.
-    pub fn attach(
+    pub(crate) fn attach(
         &mut self,
         alloc: Global,
         is_failing: bool,

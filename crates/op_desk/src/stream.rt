@@ -7,7 +7,7 @@ use std::io::{Read, Seek, SeekFrom, Write};
 
 /// What a channel of the system's desk is connected with.
 #[derive(Drop)]
-pub enum Stream {
+pub(crate) enum Stream {
     /// Nothing: it ends at once, and takes no bytes.
     Nothing,
     /// Standard input.
@@ -23,7 +23,7 @@ pub enum Stream {
 impl Stream {
     /// Opens what a channel is attached to: the name `-` is a standard stream, another one a file. A file that is
     /// written begins empty.
-    pub fn open(rt: &HostRuntime, is_read: bool, name: &str) -> io::Result<Stream> {
+    pub(crate) fn open(rt: &HostRuntime, is_read: bool, name: &str) -> io::Result<Stream> {
         if name == "-" {
             return Ok(if is_read {
                 Stream::Input
@@ -40,7 +40,7 @@ impl Stream {
     }
 
     /// Reads the next bytes. Nothing is read ahead.
-    pub fn read(&self, rt: &HostRuntime, into: &mut [u8]) -> io::Result<usize>
+    pub(crate) fn read(&self, rt: &HostRuntime, into: &mut [u8]) -> io::Result<usize>
         ensures { ReadsAtMost result into.new }
     {
         match self {
@@ -54,7 +54,7 @@ impl Stream {
     }
 
     /// Writes a front of the bytes, and flushes it.
-    pub fn write(&self, rt: &HostRuntime, bytes: &[u8]) -> io::Result<usize>
+    pub(crate) fn write(&self, rt: &HostRuntime, bytes: &[u8]) -> io::Result<usize>
         ensures bound { WritesAtMost result bytes.now }
         ensures some { 0 < length bytes.now → IfOk result (λ n. 0 < n) }
     {
@@ -87,7 +87,7 @@ fn write_to<W: Write>(to: &mut W, bytes: &[u8]) -> io::Result<usize>
 }
 
 /// Reads a file from a place on.
-pub fn read_at(rt: &HostRuntime, name: &str, from: u64, into: &mut [u8]) -> io::Result<usize>
+pub(crate) fn read_at(rt: &HostRuntime, name: &str, from: u64, into: &mut [u8]) -> io::Result<usize>
     ensures { ReadsAtMost result into.new }
 {
     let mut file = File::open(rt, name)?;

@@ -25,5 +25,5 @@ loop-done-preserved g c =
       same_standard = Same-then was.same_standard put.same_standard;
       steady = λ h. put.steady.stays (was.steady h);
       reads = put.counts.other ∙ was.reads;
-      writes = put.counts.ok ∙ was.writes
+      writes = put.counts.ok ∙ was.writes;
     }

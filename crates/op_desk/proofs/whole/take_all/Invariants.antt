@@ -17,7 +17,7 @@ invariant-loop-bytes g l =
       same_standard : Same (desk.standard l.fn.desk) (desk.standard l.desk);
       steady : IsTrue (desk.steady l.fn.desk) → IsTrue (desk.steady l.desk);
       reads : desk.read_faults l.desk ≡ desk.read_faults l.fn.desk;
-      writes : desk.write_faults l.desk ≡ desk.write_faults l.fn.desk
+      writes : desk.write_faults l.desk ≡ desk.write_faults l.fn.desk;
     }
 
 abbrev pub decreases-loop-bytes : goal.decreases-loop-bytes
