@@ -1,7 +1,7 @@
 -- What the entries of a shelf hold at the place of a name.
-use Rattle.std.proofs.Common.{◌≡◌, ℕ, zero, suc, ◌+◌, ◌<◌, Bool, true, false, cond, List, [], ◌∷◌, ◌++◌, length, take, set, get_or, map, Some, None, Option, bytes_eq, refl, sym, ap, ◌∙◌, arith, add-one}
+use Rattle.std.proofs.Common.{◌≡◌, ℕ, zero, suc, ◌+◌, ◌<◌, false, List, [], ◌∷◌, ◌++◌, length, take, set, get_or, Some, None, bytes_eq, refl, sym, ap, ◌∙◌, arith, add-one}
 use Rattle.op_desk.specs.declared.shelf.Entry.{Entry}
-use Rattle.op_desk.specs.Contents.{Files, bytes_of, with_file, IsNamedOnce}
+use Rattle.op_desk.specs.Contents.{bytes_of, with_file}
 use Rattle.op_desk.specs.Entries.{files_of, Holds}
 use Rattle.op_desk.proofs.ShelfLemmas.{not_chosen, bytes_eq-same}
 

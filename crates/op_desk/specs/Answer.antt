@@ -1,5 +1,5 @@
 -- Which answers a call may give, and what they do to the counts of faults.
-use Rattle.std.specs.Prelude.{◌≡◌, ℕ, ◌-◌, ◌^◌, ◌≤◌, Bool, true, IsTrue, Result, OnOk, IsErrOf, if◌then◌else◌}
+use Rattle.std.specs.Prelude.{◌≡◌, ℕ, ◌-◌, ◌^◌, ◌≤◌, Bool, IsTrue, Result, OnOk, IsErrOf, if◌then◌else◌}
 use Rattle.op_base.specs.Rising.{Rose}
 use Rattle.op_desk.specs.Channel.{is_read}
 use Rattle.op_desk.specs.declared.chan.Chan.{Chan}

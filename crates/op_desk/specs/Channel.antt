@@ -1,5 +1,5 @@
 -- The five channels of a desk, told apart.
-use Rattle.std.specs.Prelude.{ℕ, Bool, true, false, List, [], ◌∷◌, ◌==◌, if◌then◌else◌, bytes_eq}
+use Rattle.std.specs.Prelude.{ℕ, Bool, true, false, List, [], ◌∷◌, ◌==◌, bytes_eq}
 use Rattle.op_desk.specs.declared.chan.Chan.{Chan}
 use Rattle.op_desk.specs.declared.chan.Chan.TheVariants.{Commands, Input, Output, Talk, Note}
 

@@ -1,5 +1,5 @@
 -- What a call changes of the five channels, and what it leaves.
-use Rattle.std.specs.Prelude.{◌≡◌, Bool, if◌then◌else◌}
+use Rattle.std.specs.Prelude.{◌≡◌, if◌then◌else◌}
 use Rattle.op_desk.specs.Channel.{same_chan}
 use Rattle.op_desk.specs.declared.chan.Chan.{Chan}
 use Rattle.op_desk.specs.declared.chan.Chan.TheVariants.{Commands, Input, Output, Talk, Note}

@@ -1,13 +1,12 @@
 -- What a desk in memory holds.
-use Rattle.std.specs.Prelude.{◌≡◌, ℕ, ◌+◌, ◌-◌, ◌^◌, ◌⊎◌, Bool, true, false, List, [], ◌∷◌, ◌++◌, min, Option, Some, None, Contains}
+use Rattle.std.specs.Prelude.{ℕ, ◌+◌, ◌-◌, ◌^◌, Bool, true, false, List, [], ◌∷◌, min, Contains}
 use Rattle.op_desk.specs.declared.chan.Chan.{Chan}
 use Rattle.op_desk.specs.declared.fail.Fail.{Fail}
 use Rattle.op_desk.specs.declared.fail.Fail.TheVariants as fail
 use Rattle.op_desk.specs.declared.memory_desk.MemoryDesk.{MemoryDesk}
-use Rattle.op_desk.specs.Channel.{is_dash}
 use Rattle.op_desk.specs.Channels.{at}
-use Rattle.op_desk.specs.Contents.{Known, Files, CannotAttach, IsMissing, bytes_of}
-use Rattle.op_desk.specs.Source.{left_in, standard_in, told}
+use Rattle.op_desk.specs.Contents.{Files}
+use Rattle.op_desk.specs.Source.{left_in, standard_in}
 
 -- The bytes of each channel that were not yet taken.
 abbrev pub left_of : MemoryDesk → Chan → List ℕ

@@ -1,4 +1,4 @@
-use Rattle.std.proofs.Common.{◌≡◌, ◌++◌, ◌∙◌, sym, arith, rules, take}
+use Rattle.std.proofs.Common.{◌≡◌, ◌++◌, ◌∙◌, arith, take}
 use Rattle.op_desk.proofs.FrameLemmas.{Same-then}
 use Rattle.op_desk.proofs.WholeLemmas.{Begins-step, grown_length, at_buffer}
 use Rattle.op_desk.proofs.whole.take_all.Goals as goal
