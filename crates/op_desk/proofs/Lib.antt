@@ -1,0 +1,4 @@
+pub mod ShelfLemmas
+pub mod EntryLemmas
+pub mod FrameLemmas
+pub mod WholeLemmas
