@@ -1,0 +1,4 @@
+pub mod Kind
+pub mod Cut
+pub mod Walk
+pub mod Examples
