@@ -1,0 +1,6 @@
+pub mod Walking
+pub mod Cutting
+pub mod Dropping
+pub mod Steps
+pub mod Within
+pub mod Lexing

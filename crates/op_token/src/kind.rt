@@ -1,0 +1,127 @@
+ghost use Rattle.std.specs.Prelude.{◌≡◌};
+ghost use Rattle.op_token.specs.Kind.{kind_of as the_kind, is_layout as the_layout, is_letter as the_letter, is_sign as the_sign, is_word as word_kind, is_symbol as symbol_kind, is_gap as gap_kind};
+
+/// The two bytes that enclose quoted text.
+#[derive(Clone, Copy)]
+pub enum Mark {
+    Single,
+    Double,
+}
+
+/// What a byte is to the rule that cuts a text into term texts.
+#[derive(Clone, Copy)]
+pub enum Kind {
+    Newline,
+    /// Layout other than the newline.
+    Layout,
+    Percent,
+    Slash,
+    Star,
+    Dot,
+    Backslash,
+    Quote(Mark),
+    Zero,
+    /// A letter, a digit other than `0`, or `_`.
+    Word,
+    /// A symbol character other than those above.
+    Sign,
+    Other,
+}
+
+fn is_layout(byte: u8) -> bool
+    ensures { result ≡ the_layout byte }
+{
+    byte == b' ' || byte == b'\t' || byte == b'\r' || byte == 11 || byte == 12
+}
+
+fn is_letter(byte: u8) -> bool
+    ensures { result ≡ the_letter byte }
+{
+    (byte >= b'a' && byte <= b'z')
+        || (byte >= b'A' && byte <= b'Z')
+        || (byte >= b'1' && byte <= b'9')
+        || byte == b'_'
+}
+
+fn is_sign(byte: u8) -> bool
+    ensures { result ≡ the_sign byte }
+{
+    byte == b'+'
+        || byte == b'-'
+        || byte == b'^'
+        || byte == b'<'
+        || byte == b'>'
+        || byte == b'='
+        || byte == b'~'
+        || byte == b':'
+        || byte == b'?'
+        || byte == b'@'
+        || byte == b'#'
+        || byte == b'&'
+        || byte == b'$'
+}
+
+impl Kind {
+    /// The kind of a byte.
+    pub fn of(byte: u8) -> Kind
+        ensures { result ≡ the_kind byte }
+    {
+        if byte == b'\n' {
+            Kind::Newline
+        } else if is_layout(byte) {
+            Kind::Layout
+        } else if byte == b'%' {
+            Kind::Percent
+        } else if byte == b'/' {
+            Kind::Slash
+        } else if byte == b'*' {
+            Kind::Star
+        } else if byte == b'.' {
+            Kind::Dot
+        } else if byte == b'\\' {
+            Kind::Backslash
+        } else if byte == b'\'' {
+            Kind::Quote(Mark::Single)
+        } else if byte == b'"' {
+            Kind::Quote(Mark::Double)
+        } else if byte == b'0' {
+            Kind::Zero
+        } else if is_letter(byte) {
+            Kind::Word
+        } else if is_sign(byte) {
+            Kind::Sign
+        } else {
+            Kind::Other
+        }
+    }
+
+    /// Whether the byte is a letter, a digit or `_`.
+    pub fn is_word(self) -> bool
+        ensures { result ≡ word_kind self }
+    {
+        match self {
+            Kind::Zero | Kind::Word => true,
+            _ => false,
+        }
+    }
+
+    /// Whether the byte is a symbol character.
+    pub fn is_symbol(self) -> bool
+        ensures { result ≡ symbol_kind self }
+    {
+        match self {
+            Kind::Slash | Kind::Star | Kind::Dot | Kind::Backslash | Kind::Sign => true,
+            _ => false,
+        }
+    }
+
+    /// Whether a full stop ends before the byte: it is layout or `%`.
+    pub fn is_gap(self) -> bool
+        ensures { result ≡ gap_kind self }
+    {
+        match self {
+            Kind::Newline | Kind::Layout | Kind::Percent => true,
+            _ => false,
+        }
+    }
+}
