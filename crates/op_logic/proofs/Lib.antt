@@ -1,2 +1,6 @@
 pub mod Tests
 pub mod Naming
+pub mod Replaced
+pub mod Applied
+pub mod Followed
+pub mod Solving
