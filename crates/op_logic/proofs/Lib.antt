@@ -4,3 +4,5 @@ pub mod Replaced
 pub mod Applied
 pub mod Followed
 pub mod Solving
+pub mod General
+pub mod Counting
