@@ -2,7 +2,7 @@
 use Rattle.std.proofs.Common.{◌≡◌, ℕ, ◌<◌, true, false, cond, List, [], ◌∷◌, ◌++◌, ◌||◌, map, length, get_or, All, Some, String, sym, ◌∙◌, ap, subst, refl, arith, Fits, w8}
 use Rattle.std.specs.Str.{bytes_eq}
 use Rattle.std.specs.String.{string_bytes, string_eq}
-use Rattle.std.specs.List.{list_any, position, position_or_len}
+use Rattle.std.specs.List.{AllZip, list_any, position, position_or_len}
 use Rattle.std.proofs.lemmas.List.{length-map, map-append, get_or_default}
 use Rattle.std.proofs.lemmas.List.Quantifiers.{position-Some}
 use Rattle.std.proofs.lemmas.List.Folds.{list_any_at}
@@ -61,3 +61,10 @@ module _ {Z : Type 0} (name : List ℕ) (owned : String Z) (is : string_bytes ow
 
   pub joined-table : IsTable (map (λ k. string_bytes k) ks) → All (λ b. b < 256) name → IsTable (map (λ k. string_bytes k) new)
   joined-table t small = subst IsTable (sym joined) (IsTable-push (map (λ k. string_bytes k) ks) name t not_there small)
+
+-- strings that were copied one by one
+pub texts-copied : {Z : Type 0} (xs ys : List (String Z)) → AllZip (λ x y. string_bytes y ≡ string_bytes x) xs ys → map (λ k. string_bytes k) ys ≡ map (λ k. string_bytes k) xs
+texts-copied [] [] h = refl
+texts-copied [] (y ∷ ys) h = absurd h
+texts-copied (x ∷ xs) [] h = absurd h
+texts-copied (x ∷ xs) (y ∷ ys) h = let a = texts-copied xs ys h.1 in let b : string_bytes y ≡ string_bytes x = h.0 in cc

@@ -1,8 +1,16 @@
 //! Terms: names, nodes in a list that are seen as a term, and the fuel that a walk over one takes.
 #![tactic(auto)]
 
+mod builder;
 mod fuel;
+mod node;
 mod symbols;
+mod term;
+mod walk;
 
+pub use builder::Builder;
 pub use fuel::{Fuel, Spent};
+pub use node::{Node, Tree};
 pub use symbols::{Sym, Symbols};
+pub use term::{Term, Whole};
+pub use walk::WalkFault;

@@ -71,4 +71,14 @@ impl Symbols {
     {
         self.names.get_index(sym.0 as usize).unwrap().as_str()
     }
+
+    /// The same names under the same numbers.
+    pub fn copy(&self) -> Result<Symbols, Memory>
+        ensures { IfOk result (λ t. t ≡ self.now) }
+    {
+        Ok(Symbols {
+            alloc: self.alloc,
+            names: self.names.clone()?,
+        })
+    }
 }

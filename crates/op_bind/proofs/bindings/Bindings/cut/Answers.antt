@@ -1,0 +1,16 @@
+use Rattle.std.proofs.Common.{◌≡◌, ℕ, ◌+◌, ◌-◌, ◌<◌, ◌≤◌, List, [], ◌∷◌, ◌++◌, length, take, drop, reverse, get_or, All, Option, Some, None, sym, ◌∙◌, ap, subst, refl, arith}
+use Rattle.op_logic.specs.Term.{Term, var}
+use Rattle.op_logic.specs.Bind.{follow, lookup}
+use Rattle.op_term.specs.Places.{term_at}
+use Rattle.op_bind.specs.State.{State, bindings, resolved, undone, mark_of, oldest, IsGoodMark}
+use Rattle.op_bind.specs.Sound.{IsSound, AreBound, AllWithin, ref_of}
+use Rattle.op_bind.proofs.Facts
+use Rattle.op_bind.proofs.bindings.Bindings.cut.Goals as goal
+
+pub invariant_of-self : goal.invariant_of-self
+invariant_of-self c =
+    let n = c.args.n in
+    let l = subst (λ (s : State). n ≤ length s.terms) (sym c.self.view_is) c.requires.there in
+    let b = subst (λ (s : State). All (λ p. p.1 < n) s.bound) (sym c.self.view_is) c.requires.below in
+    subst (λ (ts : List (Term ℕ)). IsSound ts (reverse c.self.inside.trail.items) c.self.inside.table.items) (sym c.cut.ensures)
+    (Facts.sound-cut c.self.inside.nodes (reverse c.self.inside.trail.items) c.self.inside.table.items n c.self.invariant l b)

@@ -1,0 +1,17 @@
+use Rattle.std.proofs.Common.{◌≡◌, ℕ, ◌+◌, ◌-◌, ◌<◌, ◌≤◌, List, [], ◌∷◌, ◌++◌, length, take, drop, reverse, get_or, All, Option, Some, None, sym, ◌∙◌, ap, subst, refl, arith, vec_len}
+use Rattle.std.proofs.Math.ListN.{replicate}
+use Rattle.op_logic.specs.Term.{Term, var}
+use Rattle.op_logic.specs.Bind.{follow, lookup}
+use Rattle.op_term.specs.Places.{term_at}
+use Rattle.op_bind.specs.State.{State, bindings, resolved, undone, mark_of, oldest, IsGoodMark}
+use Rattle.op_bind.specs.Sound.{IsSound, AreBound, AllWithin, ref_of}
+use Rattle.op_bind.proofs.Facts
+use Rattle.op_bind.proofs.bindings.Bindings.fresh.Goals as goal
+
+pub invariant_of-self-2 : goal.invariant_of-self-2
+invariant_of-self-2 c =
+    let table : List (Option ℕ) = c.self.inside.table.items in
+    let n : ℕ = c.in-Some.end - vec_len c.self.inside.table in
+    let over : length table ≤ c.in-Some.end = omega (arith, c.in-Some.ensures, c.self.inside.table.ok.0) in
+    Facts.sound-fresh c.self.inside.nodes (reverse c.self.inside.trail.items) table c.resize.new.self.items n c.self.invariant
+    (c.in_ok-resize.ensures.items ∙ ap (λ (t : List (Option ℕ)). t ++ replicate n None) (Facts.take-over c.in-Some.end table over))

@@ -1,0 +1,18 @@
+use Rattle.std.proofs.Common.{◌≡◌, ℕ, ◌+◌, ◌-◌, ◌<◌, ◌≤◌, List, [], ◌∷◌, ◌++◌, length, take, drop, reverse, get_or, All, Option, Some, None, sym, ◌∙◌, ap, subst, refl, arith}
+use Rattle.op_logic.specs.Term.{Term, var}
+use Rattle.op_logic.specs.Bind.{follow, lookup}
+use Rattle.op_term.specs.Places.{term_at}
+use Rattle.std.proofs.lemmas.List.{length-reverse}
+use Rattle.op_bind.specs.State.{Marked, State, bindings, resolved, undone, mark_of, oldest, IsGoodMark}
+use Rattle.op_bind.specs.Sound.{IsSound, AreBound, AllWithin, ref_of}
+use Rattle.op_bind.proofs.Facts
+use Rattle.op_bind.proofs.bindings.Bindings.mark.Goals as goal
+
+pub returns-clause-good : goal.returns-clause-good
+returns-clause-good c =
+    let bound = reverse c.self.inside.trail.items in
+    let l : c.len-2.result ≡ length bound = omega (arith, c.self.inside.trail.ok.0, length-reverse c.self.inside.trail.items) in
+    let s : State = record { terms = c.self.inside.nodes; bound = bound; count = length c.self.inside.table.items } in
+    let r = Facts.refs-there (length c.self.inside.table.items) c.self.inside.nodes bound c.self.invariant.are_bound in
+    let m : Marked = record { terms = c.len.result; bound = c.len-2.result } in
+    subst (λ (x : State). IsGoodMark x m) c.self.view_is (Facts.mark-good s m c.len.ensures l r)

@@ -1,0 +1,16 @@
+use Rattle.std.proofs.Common.{◌≡◌, ℕ, ◌+◌, ◌-◌, ◌<◌, ◌≤◌, List, [], ◌∷◌, ◌++◌, length, take, drop, reverse, get_or, All, Option, Some, None, sym, ◌∙◌, ap, subst, refl, arith}
+use Rattle.op_logic.specs.Term.{Term, var}
+use Rattle.op_logic.specs.Bind.{follow, lookup}
+use Rattle.op_term.specs.Places.{term_at}
+use Rattle.op_bind.specs.State.{State, bindings, resolved, undone, mark_of, oldest, IsGoodMark}
+use Rattle.op_bind.specs.Sound.{IsSound, AreBound, AllWithin, ref_of}
+use Rattle.op_bind.proofs.Facts
+use Rattle.op_bind.proofs.bindings.Bindings.unbind.Goals as goal
+
+pub invariant_of-self : goal.invariant_of-self
+invariant_of-self c =
+    let rest = reverse c.pop.new.self.items in
+    let p : ℕ × ℕ = (c.in-Some.v, c.in-Some.field-0-1) in
+    let e : reverse c.self.inside.trail.items ≡ p ∷ rest = ap reverse c.in-Some.ensures.items ∙ Facts.reverse-push c.pop.new.self.items p in
+    Facts.sound-unbind c.self.inside.nodes p rest c.self.inside.table.items _
+    (subst (λ (ps : List (ℕ × ℕ)). IsSound c.self.inside.nodes ps c.self.inside.table.items) e c.self.invariant) refl

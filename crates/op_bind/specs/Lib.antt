@@ -1,0 +1,5 @@
+pub mod State
+pub mod Sound
+pub mod Grown
+pub mod Loaded
+pub mod Pairs

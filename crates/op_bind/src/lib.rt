@@ -1,0 +1,10 @@
+//! Terms under bindings: variables that are given out, terms that are brought in, unification with a trail, and marks to return to.
+#![tactic(auto)]
+
+mod bindings;
+mod load;
+mod places;
+mod step;
+
+pub use bindings::Bindings;
+pub use places::{Clause, Mark, Ref, Unified};
