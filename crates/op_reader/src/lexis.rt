@@ -1,4 +1,4 @@
-ghost use Rattle.std.specs.Prelude.{◌≡◌, ℕ, ◌+◌, ◌<◌, ◌≤◌, false, length, drop, bytes_eq};
+ghost use Rattle.std.specs.Prelude.{◌≡◌, ℕ, ◌+◌, ◌<◌, ◌≤◌, true, false, length, drop, slice_index, bytes_eq};
 ghost use Rattle.std.specs.List.{prefix_len, list_any};
 ghost use Rattle.op_reader.specs.Lexis.{is_layout, is_small, is_word, is_symbol, kind_of, joins, is_name, operator_names, builtin_names, begins, spelled};
 ghost use Rattle.op_reader.specs.Scan.{begins_gap, marked_run, IsNext};
@@ -100,6 +100,7 @@ fn run_end(bytes: &[u8], from: usize, kind: Kind) -> usize
     requires { from ≤ length bytes.now }
     ensures end { result ≡ from + prefix_len (λ b. joins kind (kind_of b)) (drop from bytes.now) }
     ensures within { result ≤ length bytes.now }
+    ensures other { result < length bytes.now → joins kind (kind_of (slice_index bytes.now result)) ≡ false }
 {
     let mut at = from;
     while at < bytes.len() && joins(kind, kind_of(bytes[at])) {
@@ -145,7 +146,8 @@ fn is_name(text: &[u8]) -> bool
 fn mark_of(text: &[u8], at_gap: bool) -> Option<Mark>
     requires some { 0 < length text.now }
     requires no_layout { begins is_layout text.now ≡ false }
-    ensures { spelled text.now at_gap ≡ marked_run text.now result }
+    ensures mark { spelled text.now at_gap ≡ marked_run text.now result }
+    ensures small { result ≡ Some Mark.Name → begins is_small text.now ≡ true }
 {
     if is_name(text) {
         Some(Mark::Name)
