@@ -1,2 +1,5 @@
 mod Tokens
 mod Scanning
+mod Grammar
+mod Tables
+mod Reading

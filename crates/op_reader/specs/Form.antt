@@ -1,5 +1,5 @@
 -- Propositional programs: a row of clauses, each a name, or a name with a row of names as its body.
-use Rattle.std.specs.Prelude.{ℕ, Bool, true, false, ◌||◌, ◌&&◌, not, List, [], ◌∷◌, Option, Some, None, option_map, option_and_then, if◌then◌else◌, codes, bytes_eq, map}
+use Rattle.std.specs.Prelude.{ℕ, ◌<◌, ◌==◌, slice_index_or, All, Bool, true, false, ◌||◌, ◌&&◌, not, List, [], ◌∷◌, Option, Some, None, option_map, option_and_then, if◌then◌else◌, codes, bytes_eq, map}
 use Rattle.std.specs.List.{list_any, list_all}
 use Rattle.op_logic.specs.Names.{name_at}
 use Rattle.op_reader.specs.Lexis.{Token, name, neck, comma, stop, tokens}
@@ -69,3 +69,14 @@ only_goal rules ts = None
 -- the goal that a text spells beside these rules: one name
 unfoldable pub goal_of : List (Rule (List ℕ)) → List ℕ → Option (List ℕ)
 goal_of rules bs = option_and_then (only_goal rules) (tokens bs)
+
+-- each number of the rules is below n
+abbrev pub AreBelow : ℕ → List (Rule ℕ) → Type 0
+AreBelow n rules = All (λ r. (r.0 < n) × All (λ g. g < n) r.1) rules
+
+-- the rule at a place
+abbrev pub rule_at : List (Rule ℕ) → ℕ → Rule ℕ
+rule_at rules i = slice_index_or rules i (0, [])
+
+abbrev pub is_head : List (Rule ℕ) → ℕ → Bool
+is_head rules n = list_any (λ r. r.0 == n) rules

@@ -1,3 +1,4 @@
 pub mod Lexis
 pub mod Form
 pub mod Scan
+pub mod Store
