@@ -3,3 +3,6 @@ mod Scanning
 mod Grammar
 mod Tables
 mod Reading
+mod Stored
+mod Rules
+mod Flags

@@ -85,3 +85,8 @@ pub record IsClause (names : List (List ℕ)) (bs : List ℕ) (from : ℕ) (clau
   pub head_known : clause.head.0 < length names
   pub goals_known : AreKnown names goals
   pub read : clauses_behind [] (drop from bs) ≡ option_map (λ rs. (name_at names clause.head.0, texts names goals) ∷ rs) (clauses_behind [] (drop clause.end bs))
+
+-- the tokens are not one name
+abbrev pub IsNoName : Option (List Token) → Type 0
+IsNoName (Some (name g ∷ [])) = ⊥
+IsNoName o = Unit {0}

@@ -2,7 +2,7 @@ ghost use Rattle.std.specs.Prelude.{◌≡◌, ◌≢◌, ◌⊎◌, ◌↔◌, 
 ghost use Rattle.std.specs.Str.{IsAscii};
 ghost use Rattle.op_logic.specs.Names.{name_at, IsTable};
 ghost use Rattle.op_reader.specs.Lexis.{name, neck, tokens};
-ghost use Rattle.op_reader.specs.Scan.{IsLexeme, HasNeither, HasNoItem, IsItem, IsClause, texts, AreKnown, clauses_behind};
+ghost use Rattle.op_reader.specs.Scan.{IsLexeme, HasNeither, HasNoItem, IsItem, IsClause, IsNoName, texts, AreKnown, clauses_behind};
 
 use crate::fault::ReadFault;
 use crate::lexis::{Lexeme, Mark, Next, next_token};
@@ -43,6 +43,7 @@ fn intern(symbols: &mut Symbols, bytes: &[u8], start: usize, end: usize) -> Resu
     ensures known { IfOk result (λ s. s.0 < length symbols.new) }
     ensures named { IfOk result (λ s. name_at symbols.new s.0 ≡ slice_range bytes.now start end) }
     ensures kept { take (length symbols.old) symbols.new ≡ symbols.old }
+    ensures table { IsTable symbols.new }
 {
     match str::from_utf8(&bytes[start..end]) {
         Ok(text) => symbols.intern(text),
@@ -72,7 +73,7 @@ fn read_item(symbols: &mut Symbols, bytes: &[u8], from: usize, separator: Mark) 
     })
 }
 
-fn is_at_end(bytes: &[u8], at: usize) -> bool
+pub(crate) fn is_at_end(bytes: &[u8], at: usize) -> bool
     requires { at ≤ length bytes.now }
     ensures { IsTrue result ↔ (tokens (drop at bytes.now) ≡ Some []) }
 {
@@ -142,4 +143,21 @@ pub(crate) fn read_clause(
         head: item.name,
         end,
     })
+}
+
+/// Reads a text that is one name.
+pub(crate) fn read_name(symbols: &mut Symbols, bytes: &[u8]) -> Result<Sym, ReadFault>
+    ensures ok { IfOk result (λ s. tokens bytes.now ≡ Some (name (name_at symbols.new s.0) ∷ [])) }
+    ensures known { IfOk result (λ s. s.0 < length symbols.new) }
+    ensures form { IsErrOf result ReadFault.Form → IsNoName (tokens bytes.now) }
+    ensures kept { take (length symbols.old) symbols.new ≡ symbols.old }
+    ensures table { OnOk result (IsTable symbols.new) }
+{
+    let Some(word) = expect(bytes, 0, Mark::Name, Mark::Name) else {
+        return Err(ReadFault::Form);
+    };
+    if !is_at_end(bytes, word.end) {
+        return Err(ReadFault::Form);
+    }
+    Ok(intern(symbols, bytes, word.start, word.end)?)
 }

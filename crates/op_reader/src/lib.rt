@@ -5,6 +5,7 @@ mod clause;
 mod fault;
 mod lexis;
 mod program;
+mod reader;
 
 pub use fault::ReadFault;
 pub use program::Program;

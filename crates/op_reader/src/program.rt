@@ -92,7 +92,12 @@ impl Program {
     pub fn has_rule(&self, name: Sym) -> bool
         ensures { result ≡ is_head self.now name.0 }
     {
-        self.entries.iter().any(|entry| entry.head.0 == name.0)
+        for rule in 0..self.len() {
+            if self.head(rule).0 == name.0 {
+                return true;
+            }
+        }
+        false
     }
 
     /// Puts a rule behind the others.
