@@ -63,11 +63,11 @@ pub goal-none : (rules : List (Rule (List ℕ))) (bs : List ℕ) → IsNoName (t
 unfolding goal_of
 goal-none rules bs n = by-tokens (tokens bs) n
   where
-  by-tokens : (o : Option (List Token)) → IsNoName o → option_and_then (only_goal rules) o ≡ None
-  by-tokens None n = refl
-  by-tokens (Some []) n = refl
-  by-tokens (Some (name g ∷ [])) n = absurd n
-  by-tokens (Some (name g ∷ t ∷ ts)) n = refl
-  by-tokens (Some (neck ∷ ts)) n = refl
-  by-tokens (Some (comma ∷ ts)) n = refl
-  by-tokens (Some (stop ∷ ts)) n = refl
+    by-tokens : (o : Option (List Token)) → IsNoName o → option_and_then (only_goal rules) o ≡ None
+    by-tokens None n = refl
+    by-tokens (Some []) n = refl
+    by-tokens (Some (name g ∷ [])) n = absurd n
+    by-tokens (Some (name g ∷ t ∷ ts)) n = refl
+    by-tokens (Some (neck ∷ ts)) n = refl
+    by-tokens (Some (comma ∷ ts)) n = refl
+    by-tokens (Some (stop ∷ ts)) n = refl

@@ -91,9 +91,9 @@ clauses-no_head : (ts : List Token) → clauses_of (stop ∷ ts) ≡ None
 unfolding clauses_of sentences rule_of
 clauses-no_head ts = by-sentences (sentences ts)
   where
-  by-sentences : (o : Option (List (List Token))) → option_and_then rules_of (option_map (λ ss. [] ∷ ss) o) ≡ None
-  by-sentences None = refl
-  by-sentences (Some ss) = refl
+    by-sentences : (o : Option (List (List Token))) → option_and_then rules_of (option_map (λ ss. [] ∷ ss) o) ≡ None
+    by-sentences None = refl
+    by-sentences (Some ss) = refl
 
 -- goals, each with its comma
 abbrev pub commas : List (List ℕ) → List Token
@@ -127,7 +127,7 @@ unfolding rule_of
 goals-dead h gs q ts open_q dead =
     ap clauses_of (sym (append_assoc (opening h gs) q ts))
     ∙ clauses-dead (name h) (neck ∷ (commas gs ++ q)) ts (IsOpen-commas gs q open_q)
-      (λ s. ap (λ o. option_map (λ gs. (h, gs)) o) (ap goals_of (append_assoc (commas gs) q s) ∙ goals-behind gs (q ++ s) ∙ ap (λ o. option_map (λ r. gs ++ r) o) (dead s)))
+    (λ s. ap (λ o. option_map (λ gs. (h, gs)) o) (ap goals_of (append_assoc (commas gs) q s) ∙ goals-behind gs (q ++ s) ∙ ap (λ o. option_map (λ r. gs ++ r) o) (dead s)))
 
 goals-end : (h : List ℕ) (gs : List (List ℕ)) (q : List Token) → IsOpen q → clauses_of (opening h gs ++ q) ≡ None
 goals-end h gs q open_q = clauses-end (name h) (neck ∷ (commas gs ++ q)) (IsOpen-commas gs q open_q)

@@ -41,8 +41,8 @@ word-text bs start end h e k =
     let rest = drop (start + 1) bs in
     let m = run_len (kind_of (get_or bs start 0)) rest in
     let small : (i : ℕ) → i < m → get_or (take m rest) i 0 < 128 = λ i lt.
-        let same = joins-same _ _ (prefix_len_passes (λ b. joins (kind_of (get_or bs start 0)) (kind_of b)) rest i 0 lt) in
-        rw (get_or-take m rest i 0 lt) (kind-ascii (get_or rest i 0) (sym same ∙ k)) in
+    let same = joins-same _ _ (prefix_len_passes (λ b. joins (kind_of (get_or bs start 0)) (kind_of b)) rest i 0 lt) in
+    rw (get_or-take m rest i 0 lt) (kind-ascii (get_or rest i 0) (sym same ∙ k)) in
     let short : length (take m rest) ≤ m = omega (arith, length-take m rest) in
     subst IsAscii (sym (slice-cons bs start end m h e)) (IsAscii-cons _ _ (kind-ascii _ k) (IsAscii-from_reads (take m rest) m short small))
 

@@ -52,7 +52,12 @@ fn intern(symbols: &mut Symbols, bytes: &[u8], start: usize, end: usize) -> Resu
 }
 
 // Reads a name and, behind it, `separator` or the full stop.
-fn read_item(symbols: &mut Symbols, bytes: &[u8], from: usize, separator: Mark) -> Result<Item, ReadFault>
+fn read_item(
+    symbols: &mut Symbols,
+    bytes: &[u8],
+    from: usize,
+    separator: Mark,
+) -> Result<Item, ReadFault>
     requires within { from ≤ length bytes.now }
     requires no_name { separator ≢ Mark.Name }
     ensures ok { IfOk result (λ item. IsItem symbols.new bytes.now from separator item) }

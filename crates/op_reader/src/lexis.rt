@@ -60,7 +60,10 @@ fn is_small(byte: u8) -> bool
 fn is_word(byte: u8) -> bool
     ensures { result ≡ is_word byte }
 {
-    is_small(byte) || (b'A' <= byte && byte <= b'Z') || (b'0' <= byte && byte <= b'9') || byte == b'_'
+    is_small(byte)
+        || (b'A' <= byte && byte <= b'Z')
+        || (b'0' <= byte && byte <= b'9')
+        || byte == b'_'
 }
 
 fn is_symbol(byte: u8) -> bool

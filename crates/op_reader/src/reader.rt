@@ -92,7 +92,11 @@ fn is_closed(alloc: Global, symbols: &Symbols, program: &Program) -> Result<bool
 /// Reads a program. It is of the form where it is a row of clauses, each a name, or a name and a body of names,
 /// and each goal is `true`, `fail`, `false` or a name with a clause. After an error `symbols` may have more names.
 #[tactic(auto, unfolding(crate::specs::Form::program_of))]
-pub fn read_program(alloc: Global, symbols: &mut Symbols, bytes: &[u8]) -> Result<Program, ReadFault>
+pub fn read_program(
+    alloc: Global,
+    symbols: &mut Symbols,
+    bytes: &[u8],
+) -> Result<Program, ReadFault>
     ensures ok { IfOk result (λ p. program_of bytes.now ≡ Some (named_rules symbols.new p)) }
     ensures known { IfOk result (λ p. AreBelow (length symbols.new) p) }
     ensures form { IsErrOf result ReadFault.Form → program_of bytes.now ≡ None }
@@ -132,5 +136,102 @@ pub fn read_goal(
         Ok(goal)
     } else {
         Err(ReadFault::Form)
+    }
+}
+
+#[cfg(test)]
+mod tests {
+    use super::*;
+    use std::test::Fail;
+
+    fn is_program(alloc: Global, bytes: &[u8]) -> Result<bool, Fail> {
+        let mut symbols = Symbols::new(alloc);
+        match read_program(alloc, &mut symbols, bytes) {
+            Ok(_) => Ok(true),
+            Err(ReadFault::Form) => Ok(false),
+            Err(fault) => Err(fault.into()),
+        }
+    }
+
+    #[test]
+    fn reads_the_rules_in_order(rt: HostRuntime) -> Result<(), Fail> {
+        let alloc = rt.alloc();
+        let mut symbols = Symbols::new(alloc);
+        let program = read_program(alloc, &mut symbols, b"a :- b, true.\nb. b :- fail.")?;
+        assert_eq!(rt; program.len(), 3);
+        assert_eq!(rt; symbols.name_of(program.head(0)), "a");
+        assert_eq!(rt; program.goal_count(0), 2);
+        assert_eq!(rt; symbols.name_of(program.goal(0, 0)), "b");
+        assert_eq!(rt; program.goal(0, 0), program.head(1));
+        assert_eq!(rt; program.goal_count(1), 0);
+        assert_eq!(rt; program.head(2), program.head(1));
+        let goal = read_goal(alloc, &mut symbols, &program, b" b\n")?;
+        assert_eq!(rt; goal, program.head(1));
+        assert!(rt; read_goal(alloc, &mut symbols, &program, b"fail").is_ok());
+        assert!(rt;
+            matches!(
+                read_goal(alloc, &mut symbols, &program, b"c"),
+                Err(ReadFault::Form)
+            )
+        );
+        assert!(rt;
+            matches!(
+                read_goal(alloc, &mut symbols, &program, b"b."),
+                Err(ReadFault::Form)
+            )
+        );
+        Ok(())
+    }
+
+    #[test]
+    fn accepts(rt: HostRuntime) -> Result<(), Fail> {
+        let texts: [&[u8]; 8] = [
+            b"",
+            b" \t\r\n\x0b\x0c",
+            b"a.",
+            b"a:-b,c. b. c.",
+            b"a :- a , a\n.",
+            b"aB_9 :- true,fail , false.",
+            b"isx. haltt. nl_ :- isx.",
+            b"a. a. a :- a.",
+        ];
+        for text in texts.iter() {
+            assert!(rt; is_program(rt.alloc(), text)?);
+        }
+        Ok(())
+    }
+
+    #[test]
+    fn refuses(rt: HostRuntime) -> Result<(), Fail> {
+        let texts: [&[u8]; 24] = [
+            b"a",
+            b"a :- b.",
+            b"a.b.",
+            b"a:-a.a.",
+            b"a. % rest",
+            b"/* a */ a.",
+            b"a ::- a.",
+            b"a :- .",
+            b"a :- a a.",
+            b"a :- a,.",
+            b"a :- ,a.",
+            b"a..",
+            b".",
+            b"A.",
+            b"_a.",
+            b"1a.",
+            b"is.",
+            b"a :- nl.",
+            b"halt :- a. a.",
+            b"true.",
+            b"false :- true.",
+            b"a :- a; a.",
+            b"'a'.",
+            b"a.\xc3\xa9",
+        ];
+        for text in texts.iter() {
+            assert!(rt; !is_program(rt.alloc(), text)?);
+        }
+        Ok(())
     }
 }

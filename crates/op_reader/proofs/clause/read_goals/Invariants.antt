@@ -10,7 +10,7 @@ invariant-body l = record {
   within : l.at ≤ length l.bytes;
   kept : take (length l.initial.symbols) l.symbols ≡ l.initial.symbols;
   known : AreKnown l.symbols l.goals.items;
-  read : (h : List ℕ) → clauses_behind (opening h []) (drop l.fn.from l.bytes) ≡ clauses_behind (opening h (texts l.symbols l.goals.items)) (drop l.at l.bytes)
+  read : (h : List ℕ) → clauses_behind (opening h []) (drop l.fn.from l.bytes) ≡ clauses_behind (opening h (texts l.symbols l.goals.items)) (drop l.at l.bytes);
 }
 
 abbrev pub decreases-body : goal.decreases-body

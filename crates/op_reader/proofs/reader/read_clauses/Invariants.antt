@@ -9,7 +9,7 @@ invariant-clauses l = record {
   within : l.at ≤ length l.bytes;
   kept : take (length l.initial.symbols) l.symbols ≡ l.initial.symbols;
   known : AreBelow (length l.symbols) l.program;
-  read : clauses_behind [] l.bytes ≡ option_map (λ rs. named_rules l.symbols l.program ++ rs) (clauses_behind [] (drop l.at l.bytes))
+  read : clauses_behind [] l.bytes ≡ option_map (λ rs. named_rules l.symbols l.program ++ rs) (clauses_behind [] (drop l.at l.bytes));
 }
 
 abbrev pub decreases-clauses : goal.decreases-clauses
