@@ -1,5 +1,5 @@
 -- A name has a clause exactly where its number has one.
-use Rattle.std.proofs.Common.{◌≡◌, ℕ, ◌<◌, zero, suc, eqb, Bool, true, false, not, ◌||◌, ◌&&◌, List, [], ◌∷◌, length, map, All, get_or, take, cond, Option, Some, None, refl, ap, sym, ◌∙◌, arith, Decides}
+use Rattle.std.proofs.Common.{◌≡◌, ℕ, ◌<◌, zero, suc, eqb, Bool, false, not, ◌||◌, ◌&&◌, List, [], ◌∷◌, length, map, All, get_or, take, cond, Option, Some, None, refl, ap, ◌∙◌, arith}
 use Rattle.std.specs.List.{list_any, list_all}
 use Rattle.std.specs.Str.{bytes_eq}
 use Rattle.std.proofs.lemmas.Bool.Decides.{same_from_decides, Decides-eqb, Decides-like}

@@ -1,11 +1,10 @@
 -- Clauses, read from the left: what the tokens read so far decide.
-use Rattle.std.proofs.Common.{◌≡◌, ◌≢◌, ℕ, Bool, true, false, List, [], ◌∷◌, ◌++◌, refl, ap, sym, ◌∙◌, subst, append_assoc, append-nil, Option, Some, None}
+use Rattle.std.proofs.Common.{◌≡◌, ℕ, List, [], ◌∷◌, ◌++◌, refl, ap, sym, ◌∙◌, append_assoc, append-nil, Option, Some, None}
 use Rattle.std.specs.Prelude.{option_map, option_and_then}
-use Rattle.op_reader.specs.declared.lexis.Mark.{Mark}
-use Rattle.op_reader.specs.declared.lexis.Mark.TheVariants.{Name, Neck, Comma, Stop}
-use Rattle.op_reader.specs.Lexis.{Token, name, neck, comma, stop, tokens}
+use Rattle.op_reader.specs.declared.lexis.Mark.TheVariants.{Neck, Comma}
+use Rattle.op_reader.specs.Lexis.{Token, name, neck, comma, stop}
 use Rattle.op_reader.specs.Form.{Rule, extend, sentences, goals_of, rule_of, rules_of, clauses_of}
-use Rattle.op_reader.specs.Scan.{HasNeither, HasNoItem}
+use Rattle.op_reader.specs.Scan.{HasNoItem}
 
 -- no token is a stop
 abbrev pub IsOpen : List Token → Type 0

@@ -1,5 +1,5 @@
 -- The clauses of a text before and after an item has been read.
-use Rattle.std.proofs.Common.{◌≡◌, ℕ, List, [], ◌∷◌, ◌++◌, length, take, drop, map, refl, ap, sym, ◌∙◌, subst, Some, None, Option}
+use Rattle.std.proofs.Common.{◌≡◌, ℕ, List, [], ◌∷◌, ◌++◌, length, take, drop, ap, sym, ◌∙◌}
 use Rattle.std.specs.Prelude.{option_map}
 use Rattle.std.proofs.lemmas.List.{map_push}
 use Rattle.op_logic.specs.Names.{name_at}
@@ -7,8 +7,8 @@ use Rattle.op_logic.proofs.Naming.{name-more}
 use Rattle.op_term.specs.declared.symbols.Sym.{Sym}
 use Rattle.op_reader.specs.declared.clause.Item.{Item}
 use Rattle.op_reader.specs.declared.lexis.Mark.{Mark}
-use Rattle.op_reader.specs.declared.lexis.Mark.TheVariants.{Name, Neck, Comma, Stop}
-use Rattle.op_reader.specs.Lexis.{Token, name, neck, comma, stop, tokens}
+use Rattle.op_reader.specs.declared.lexis.Mark.TheVariants.{Neck, Comma, Stop}
+use Rattle.op_reader.specs.Lexis.{name, neck, tokens}
 use Rattle.op_reader.specs.Scan.{marked, IsItem, texts, AreKnown, clauses_behind}
 use Rattle.op_reader.proofs.Grammar.{opening, behind, behind-two, behind-goal, behind-last, behind-fact}
 use Rattle.op_reader.proofs.Tables.{texts-more}

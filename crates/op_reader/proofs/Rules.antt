@@ -12,7 +12,6 @@ use Rattle.op_reader.specs.Lexis.{tokens}
 use Rattle.op_reader.specs.Form.{Rule, named_rule, named_rules, AreBelow, sentences, clauses_of}
 use Rattle.op_reader.specs.Scan.{texts, AreKnown, IsClause, clauses_behind}
 use Rattle.op_reader.specs.Store.{numbers}
-use Rattle.op_reader.proofs.Tables.{kept-length}
 
 goals-more : (old new : List (List ℕ)) (goals : List ℕ) → take (length old) new ≡ old → All (λ g. g < length old) goals → map (name_at new) goals ≡ map (name_at old) goals
 goals-more old new [] k h = refl

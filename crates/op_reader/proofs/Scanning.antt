@@ -1,19 +1,18 @@
 -- What the scanner finds behind a place.
-use Rattle.std.proofs.Common.{◌≡◌, ℕ, ◌+◌, ◌-◌, ◌<◌, ◌≤◌, Bool, true, false, cond, List, [], ◌∷◌, ◌++◌, length, get_or, take, drop, refl, ap, sym, ◌∙◌, subst, arith, Option, Some, None, suc}
+use Rattle.std.proofs.Common.{◌≡◌, ℕ, ◌+◌, ◌-◌, ◌<◌, ◌≤◌, Bool, true, false, cond, List, [], ◌∷◌, length, get_or, take, drop, refl, ap, sym, ◌∙◌, subst, arith, Some, None}
 use Rattle.std.specs.Prelude.{slice_range}
 use Rattle.std.specs.Str.{IsAscii}
 use Rattle.std.proofs.lemmas.Bool.Decides.{nat_tests}
 use Rattle.std.proofs.lemmas.List.{get_or-take, drop_all, drop-drop, length-take}
 use Rattle.std.proofs.lemmas.List.Sums.{prefix_len_passes}
 use Rattle.std.proofs.lemmas.Str.Ascii.{IsAscii-cons, IsAscii-from_reads}
-use Rattle.std.specs.Prelude.{option_map, option_and_then}
+use Rattle.std.specs.Prelude.{option_map}
 use Rattle.op_logic.proofs.Tests.{by_test}
-use Rattle.op_reader.specs.declared.lexis.Kind.{Kind}
 use Rattle.op_reader.specs.declared.lexis.Kind.TheVariants.{Layout, Word, Symbol, Alone}
 use Rattle.op_reader.specs.declared.lexis.Mark.{Mark}
-use Rattle.op_reader.specs.Lexis.{is_layout, is_small, is_word, is_symbol, kind_of, joins, begins, Token, spelled, runs, tokens}
+use Rattle.op_reader.specs.Lexis.{is_layout, is_small, is_word, is_symbol, kind_of, joins, begins, spelled, runs, tokens}
 use Rattle.op_reader.specs.Scan.{begins_gap, marked, marked_run}
-use Rattle.op_reader.proofs.Tokens.{run_len, joins-same, layout-kind, word-kind, tokens_by, tokens-layout, tokens-at, slice-cons}
+use Rattle.op_reader.proofs.Tokens.{run_len, joins-same, layout-kind, word-kind, tokens_by, tokens-layout, slice-cons}
 
 second-way : (t u v : Bool) → cond t Layout (cond u Word (cond v Symbol Alone)) ≡ Word → u ≡ true
 second-way true u v h = cc

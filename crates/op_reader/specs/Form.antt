@@ -1,5 +1,5 @@
 -- Propositional programs: a row of clauses, each a name, or a name with a row of names as its body.
-use Rattle.std.specs.Prelude.{ℕ, ◌<◌, ◌==◌, slice_index_or, All, Bool, true, false, ◌||◌, ◌&&◌, not, List, [], ◌∷◌, Option, Some, None, option_map, option_and_then, if◌then◌else◌, codes, bytes_eq, map}
+use Rattle.std.specs.Prelude.{ℕ, ◌<◌, ◌==◌, slice_index_or, All, Bool, ◌||◌, ◌&&◌, not, List, [], ◌∷◌, Option, Some, None, option_map, option_and_then, if◌then◌else◌, codes, bytes_eq, map}
 use Rattle.std.specs.List.{list_any, list_all}
 use Rattle.op_logic.specs.Names.{name_at}
 use Rattle.op_reader.specs.Lexis.{Token, name, neck, comma, stop, tokens}

@@ -129,6 +129,7 @@ pub fn read_goal(
     ensures ok { IfOk result (λ s. goal_of (named_rules symbols.old program.now) bytes.now ≡ Some (name_at symbols.new s.0)) }
     ensures known { IfOk result (λ s. s.0 < length symbols.new) }
     ensures form { IsErrOf result ReadFault.Form → goal_of (named_rules symbols.old program.now) bytes.now ≡ None }
+    ensures still_known { AreBelow (length symbols.new) program.now }
     ensures kept { take (length symbols.old) symbols.new ≡ symbols.old }
 {
     let goal = clause::read_name(symbols, bytes)?;
@@ -153,6 +154,16 @@ mod tests {
         }
     }
 
+    fn is_goal(alloc: Global, program: &[u8], goal: &[u8]) -> Result<bool, Fail> {
+        let mut symbols = Symbols::new(alloc);
+        let program = read_program(alloc, &mut symbols, program)?;
+        match read_goal(alloc, &mut symbols, &program, goal) {
+            Ok(_) => Ok(true),
+            Err(ReadFault::Form) => Ok(false),
+            Err(fault) => Err(fault.into()),
+        }
+    }
+
     #[test]
     fn reads_the_rules_in_order(rt: HostRuntime) -> Result<(), Fail> {
         let alloc = rt.alloc();
@@ -164,22 +175,21 @@ mod tests {
         assert_eq!(rt; symbols.name_of(program.goal(0, 0)), "b");
         assert_eq!(rt; program.goal(0, 0), program.head(1));
         assert_eq!(rt; program.goal_count(1), 0);
-        assert_eq!(rt; program.head(2), program.head(1));
         let goal = read_goal(alloc, &mut symbols, &program, b" b\n")?;
-        assert_eq!(rt; goal, program.head(1));
-        assert!(rt; read_goal(alloc, &mut symbols, &program, b"fail").is_ok());
-        assert!(rt;
-            matches!(
-                read_goal(alloc, &mut symbols, &program, b"c"),
-                Err(ReadFault::Form)
-            )
-        );
-        assert!(rt;
-            matches!(
-                read_goal(alloc, &mut symbols, &program, b"b."),
-                Err(ReadFault::Form)
-            )
-        );
+        assert_eq!(rt; goal, program.head(2));
+        Ok(())
+    }
+
+    #[test]
+    fn reads_goals(rt: HostRuntime) -> Result<(), Fail> {
+        let accepted: [&[u8]; 4] = [b"a", b"\t b ", b"fail", b"true\n"];
+        for goal in accepted.iter() {
+            assert!(rt; is_goal(rt.alloc(), b"a. b :- a.", goal)?);
+        }
+        let refused: [&[u8]; 7] = [b"", b"c", b"a.", b"a, b", b"a b", b"halt", b"A"];
+        for goal in refused.iter() {
+            assert!(rt; !is_goal(rt.alloc(), b"a. b :- a.", goal)?);
+        }
         Ok(())
     }
 

@@ -1,4 +1,4 @@
-use Rattle.std.proofs.Common.{◌≡◌, ◌∷◌, [], ◌∙◌, ap, length, arith, Err, rules}
+use Rattle.std.proofs.Common.{◌≡◌, ◌∙◌, ap, length, arith, Err, rules}
 use Rattle.op_reader.specs.declared.fault.ReadFault.TheVariants.{Form}
 use Rattle.op_reader.specs.declared.lexis.Mark.TheVariants.{Neck, Stop}
 use Rattle.op_reader.proofs.Grammar.{behind-no_head}

@@ -1,11 +1,8 @@
-use Rattle.std.proofs.Common.{◌≡◌, ◌∷◌, ◌++◌, [], ◌∙◌, ap, sym, subst, arith, is_ok, Err, rules}
+use Rattle.std.proofs.Common.{◌≡◌, ◌∙◌, ap, arith, is_ok, Err, rules}
 use Rattle.std.proofs.ResultArms.{chosen}
-use Rattle.std.proofs.lemmas.Grind.{common_steps}
-use Rattle.std.proofs.lemmas.List.Elements.{All-push}
 use Rattle.op_reader.specs.declared.fault.ReadFault.TheVariants.{Form}
 use Rattle.op_reader.specs.declared.lexis.Mark.TheVariants.{Comma, Stop}
-use Rattle.op_reader.specs.Scan.{texts, clauses_behind}
-use Rattle.op_reader.proofs.Grammar.{opening, behind-no_goal}
+use Rattle.op_reader.proofs.Grammar.{behind-no_goal}
 use Rattle.op_reader.proofs.Tables.{kept-kept, known-push}
 use Rattle.op_reader.proofs.Reading.{goal-read, last-read}
 use Rattle.op_reader.proofs.clause.read_goals.Goals as goal

@@ -1,5 +1,4 @@
 use Rattle.std.proofs.Common.{◌≡◌, ℕ, ◌-◌, ◌≤◌, List, [], length, take, drop}
-use Rattle.op_reader.specs.Lexis.{tokens, name, neck}
 use Rattle.op_reader.specs.Scan.{texts, AreKnown, clauses_behind}
 use Rattle.op_reader.proofs.Grammar.{opening}
 use Rattle.op_reader.proofs.clause.read_goals.Given as goal

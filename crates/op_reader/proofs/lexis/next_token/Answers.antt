@@ -1,8 +1,7 @@
-use Rattle.std.proofs.Common.{◌≡◌, ℕ, ◌+◌, ◌-◌, ◌<◌, ◌≤◌, false, length, drop, get_or, arith, sym, ap, ◌∙◌, Some}
+use Rattle.std.proofs.Common.{◌<◌, length, drop, arith, sym, ap, ◌∙◌, Some}
 use Rattle.std.specs.Prelude.{slice_range}
-use Rattle.op_reader.specs.declared.lexis.Kind.TheVariants.{Layout}
-use Rattle.op_reader.specs.Lexis.{is_layout, is_small, kind_of}
-use Rattle.op_reader.proofs.Tokens.{run_len, tokens-at}
+use Rattle.op_reader.specs.Lexis.{is_layout, is_small}
+use Rattle.op_reader.proofs.Tokens.{tokens-at}
 use Rattle.op_reader.proofs.Scanning.{not-layout, small-kind, word-text, tokens-skip, tokens-done, tokens-found, tokens-refused, begins-slice}
 use Rattle.op_reader.proofs.lexis.next_token.Goals as goal
 

@@ -1,8 +1,6 @@
-use Rattle.std.proofs.Common.{◌≡◌, ℕ, ◌<◌, ◌≤◌, Bool, false, true, length, List, ◌∙◌, ap, sym, arith}
-use Rattle.std.specs.List.{list_all}
+use Rattle.std.proofs.Common.{◌≡◌, ◌≤◌, false, length, ◌∙◌, sym, arith}
 use Rattle.std.proofs.lemmas.List.{take_all}
 use Rattle.std.proofs.lemmas.List.Folds.{list_all_at}
-use Rattle.op_reader.specs.Form.{Rule, is_closed, named_rules}
 use Rattle.op_reader.specs.Store.{is_flagged_rule}
 use Rattle.op_reader.proofs.Flags.{AreFlags, closed-flagged}
 use Rattle.op_reader.proofs.reader.is_closed.Goals as goal

@@ -1,6 +1,5 @@
-use Rattle.std.proofs.Common.{◌≡◌, [], ◌∙◌, ap, arith, rules, Some, drop, subst, sym}
+use Rattle.std.proofs.Common.{◌≡◌, [], ◌∙◌, rules, Some, drop}
 use Rattle.op_reader.specs.Lexis.{tokens}
-use Rattle.op_reader.specs.Scan.{IsClause}
 use Rattle.op_reader.proofs.Tables.{kept-kept, kept-length}
 use Rattle.op_reader.proofs.Rules.{below-more, below-push, clause-read, clauses-done}
 use Rattle.op_reader.proofs.reader.read_clauses.Goals as goal

@@ -1,7 +1,8 @@
-use Rattle.std.proofs.Common.{refl, ◌≡◌, ◌∙◌, ap, sym, arith, Err, Bool, cond, Option, Some, None, List, ℕ}
-use Rattle.op_logic.specs.Names.{name_at}
+use Rattle.std.proofs.Common.{refl, ◌≡◌, ◌∙◌, arith, Err}
 use Rattle.op_reader.specs.declared.fault.ReadFault.TheVariants.{Form}
 use Rattle.op_reader.proofs.Flags.{known-named, goal-found, goal-none}
+use Rattle.op_reader.proofs.Rules.{below-more}
+use Rattle.op_reader.proofs.Tables.{kept-length}
 use Rattle.op_reader.proofs.reader.read_goal.Goals as goal
 
 pub returns-in_err-goal-clause-form : goal.returns-in_err-goal-clause-form
@@ -18,3 +19,12 @@ pub returns-else-is_runnable-clause-form : goal.returns-else-is_runnable-clause-
 returns-else-is_runnable-clause-form c = λ form.
     let known = known-named _ _ c.read_name.ensures.kept c.in_ok-goal.ensures.table c.args.program.now c.requires.known c.in_ok-goal.goal.0 in
     goal-found _ c.args.bytes.now _ c.is_runnable.result c.in_ok-goal.ensures.ok (c.is_runnable.ensures ∙ known) ∙ rw c.if-is_runnable.false refl
+
+pub returns-in_err-goal-clause-still_known : goal.returns-in_err-goal-clause-still_known
+returns-in_err-goal-clause-still_known c = below-more _ _ c.args.program.now (kept-length _ _ c.read_name.ensures.kept) c.requires.known
+
+pub returns-then-is_runnable-clause-still_known : goal.returns-then-is_runnable-clause-still_known
+returns-then-is_runnable-clause-still_known c = below-more _ _ c.args.program.now (kept-length _ _ c.read_name.ensures.kept) c.requires.known
+
+pub returns-else-is_runnable-clause-still_known : goal.returns-else-is_runnable-clause-still_known
+returns-else-is_runnable-clause-still_known c = below-more _ _ c.args.program.now (kept-length _ _ c.read_name.ensures.kept) c.requires.known

@@ -1,4 +1,4 @@
-use Rattle.std.proofs.Common.{◌≡◌, ◌∷◌, ◌++◌, ◌+◌, [], ◌∙◌, ap, sym, arith, is_ok, length, length-append, Ok, Err}
+use Rattle.std.proofs.Common.{◌≡◌, ◌++◌, ◌+◌, ◌∙◌, ap, arith, is_ok, length, length-append, Ok, Err}
 use Rattle.std.specs.Prelude.{Result, OnErr}
 use Rattle.std.proofs.ResultArms.{chosen}
 use Rattle.op_reader.specs.Store.{stored_rules}
