@@ -1,6 +1,2 @@
 pub mod Walking
 pub mod Cutting
-pub mod Dropping
-pub mod Steps
-pub mod Within
-pub mod Lexing

@@ -1,0 +1,20 @@
+/// How a call of the program ends. The numbers are the exit statuses, from 0 in this order.
+#[derive(Clone, Copy, Debug, PartialEq, Eq)]
+pub enum Status {
+    /// The commands were read to their end.
+    Done,
+    /// A kept answer isn't the session's.
+    Different,
+    /// The words aren't of the form.
+    Usage,
+    /// The program or the goal is refused.
+    Load,
+    /// Reading failed.
+    Read,
+    /// Writing failed.
+    Write,
+    /// Memory was not to be had.
+    Memory,
+    /// A limit of bytes was passed.
+    TooLong,
+}
