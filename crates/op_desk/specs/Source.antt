@@ -1,19 +1,22 @@
 -- What a source of bytes has.
-use Rattle.std.specs.Prelude.{◌≡◌, ℕ, ◌<◌, ◌≤◌, List, [], ◌++◌, Option, Some, None, length, take, drop}
+use Rattle.std.specs.Prelude.{◌≡◌, ℕ, ◌<◌, ◌≤◌, List, [], ◌++◌, Some, length, take, drop}
 use Rattle.op_desk.specs.declared.chan.Chan.{Chan}
 use Rattle.op_desk.specs.declared.chan.Chan.TheVariants.{Commands, Input, Output, Talk, Note}
+use Rattle.op_desk.specs.declared.source.Content.{Content}
+use Rattle.op_desk.specs.declared.source.Content.TheVariants.{Nothing, Standard, File}
 use Rattle.op_desk.specs.declared.source.Source.{Source}
 use Rattle.op_desk.specs.declared.sources.Sources.{Sources}
 use Rattle.op_desk.specs.Contents.{Known}
 
--- What was attached, or else the standard stream.
-abbrev pub content_of : Option (List ℕ) → List ℕ → List ℕ
-content_of None standard = standard
-content_of (Some bytes) standard = bytes
+-- The bytes that a channel is connected with, beside those of its standard stream.
+abbrev pub content_of : Content → List ℕ → List ℕ
+content_of Nothing standard = []
+content_of Standard standard = standard
+content_of (File bytes) standard = bytes
 
 -- What was not yet taken.
 abbrev pub rest_of : Source → List ℕ
-rest_of source = drop source.taken (content_of source.attached source.standard)
+rest_of source = drop source.taken (content_of source.content source.standard)
 
 -- What a channel has left: nothing, if it is written.
 abbrev pub left_in : Sources → Chan → List ℕ

@@ -38,8 +38,8 @@ pub struct MemoryDesk {
 }
 
 impl MemoryDesk {
-    /// A desk that was not used. `commands` and `input` are what the name `-` means, and what those channels have left
-    /// until a file is attached.
+    /// A desk that was not used. `commands` and `input` are what the name `-` means. Until a channel is attached,
+    /// Commands has `commands` left, and Input nothing.
     pub fn new(
         alloc: Global,
         shelf: Shelf,
@@ -48,7 +48,7 @@ impl MemoryDesk {
         failing: Vec<Fail>,
     ) -> MemoryDesk
         ensures commands { left_of result Chan.Commands ≡ commands }
-        ensures input { left_of result Chan.Input ≡ input }
+        ensures input { left_of result Chan.Input ≡ [] }
         ensures standard_commands { standard_of result Chan.Commands ≡ commands }
         ensures standard_input { standard_of result Chan.Input ≡ input }
         ensures written { Each (λ c. written_of result c ≡ []) }

@@ -5,23 +5,46 @@ use crate::bytes::Bytes;
 use op_base::Memory;
 use std::alloc::Global;
 
-/// The bytes of a channel that is read: those of the standard stream until a file is attached.
+/// What a channel that is read is connected with.
+#[derive(Drop)]
+pub(crate) enum Content {
+    /// Nothing.
+    Nothing,
+    /// The standard stream.
+    Standard,
+    /// A file's bytes.
+    File(Bytes),
+}
+
+/// The bytes of a channel that is read, with those of the standard stream.
 #[derive(Drop)]
 pub(crate) struct Source {
     standard: Bytes,
-    attached: Option<Bytes>,
+    content: Content,
     taken: usize,
 }
 
 impl Source {
-    /// A source of which nothing was taken.
-    pub(crate) fn new(standard: Bytes) -> Source
+    /// A source that is connected with the standard stream.
+    pub(crate) fn connected(standard: Bytes) -> Source
         ensures rest { rest_of result ≡ standard }
         ensures standard { result.standard ≡ standard }
     {
         Source {
             standard,
-            attached: None,
+            content: Content::Standard,
+            taken: 0,
+        }
+    }
+
+    /// A source that is connected with nothing.
+    pub(crate) fn unconnected(standard: Bytes) -> Source
+        ensures rest { rest_of result ≡ [] }
+        ensures standard { result.standard ≡ standard }
+    {
+        Source {
+            standard,
+            content: Content::Nothing,
             taken: 0,
         }
     }
@@ -31,7 +54,7 @@ impl Source {
         ensures rest { result.now ≡ rest_of self.now }
         ensures fits { self.now.taken + length result.now < 2 ^ 64 }
     {
-        rest_from(content(&self.attached, &self.standard), self.taken)
+        rest_from(bytes_in(&self.content, &self.standard), self.taken)
     }
 
     /// Takes bytes into the buffer, as many as there are and fit.
@@ -52,7 +75,7 @@ impl Source {
     {
         let mut copy = Bytes::new(alloc);
         copy.append(bytes)?;
-        self.attached = Some(copy);
+        self.content = Content::File(copy);
         self.taken = 0;
         Ok(())
     }
@@ -62,17 +85,18 @@ impl Source {
         ensures rest { rest_of self.new ≡ self.old.standard }
         ensures standard { self.new.standard ≡ self.old.standard }
     {
-        self.attached = None;
+        self.content = Content::Standard;
         self.taken = 0;
     }
 }
 
-fn content<'a>(attached: &'a Option<Bytes>, standard: &'a Bytes) -> &'a [u8]
-    ensures { result.now ≡ content_of attached.now standard.now }
+fn bytes_in<'a>(content: &'a Content, standard: &'a Bytes) -> &'a [u8]
+    ensures { result.now ≡ content_of content.now standard.now }
 {
-    match attached {
-        Some(bytes) => bytes.as_slice(),
-        None => standard.as_slice(),
+    match content {
+        Content::Nothing => &[],
+        Content::Standard => standard.as_slice(),
+        Content::File(bytes) => bytes.as_slice(),
     }
 }
 

@@ -20,16 +20,16 @@ pub(crate) struct Sources {
 }
 
 impl Sources {
-    /// Two sources that nothing was taken from, over what `-` means.
+    /// The sources over what `-` means. Commands is connected with it, and Input with nothing.
     pub(crate) fn new(commands: Bytes, input: Bytes) -> Sources
         ensures commands { left_in result Chan.Commands ≡ commands }
-        ensures input { left_in result Chan.Input ≡ input }
+        ensures input { left_in result Chan.Input ≡ [] }
         ensures standard_commands { standard_in result Chan.Commands ≡ commands }
         ensures standard_input { standard_in result Chan.Input ≡ input }
     {
         Sources {
-            commands: Source::new(commands),
-            input: Source::new(input),
+            commands: Source::connected(commands),
+            input: Source::unconnected(input),
         }
     }
 
