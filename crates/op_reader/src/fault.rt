@@ -1,7 +1,5 @@
 use op_base::Memory;
 use std::alloc::{AllocError, AllocFailed};
-use std::error::Error;
-use std::fmt;
 
 /// Why a text was not read.
 #[derive(Clone, Copy, Debug, PartialEq, Eq)]
@@ -11,17 +9,6 @@ pub enum ReadFault {
     /// The text is not of the accepted form.
     Form,
 }
-
-impl fmt::Display for ReadFault {
-    fn fmt<W: fmt::Write>(&self, f: &mut fmt::Formatter<W>) -> fmt::Result {
-        match self {
-            ReadFault::Memory => write!(f, "Memory"),
-            ReadFault::Form => write!(f, "Form"),
-        }
-    }
-}
-
-impl Error for ReadFault {}
 
 impl From<Memory> for ReadFault {
     ghost use Rattle.std.specs.Prelude.{◌≡◌};
