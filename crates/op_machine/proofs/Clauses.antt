@@ -100,3 +100,7 @@ clauses_for-next t n i j table x =
 
 pub procedure-clauses : (t : Tables) (n : ℕ) → procedure (clauses t) (goal_named t n) ≡ clauses_for t n 0
 procedure-clauses t n = refl
+
+-- where the next place of a name is a rule, it is for that name
+pub next-here : (t : Tables) (n i j : ℕ) → IsNext (heads t.rules) n i j → j < length t.rules → (rule_at t.rules j).0 ≡ n
+next-here t n i j x h = sym (head_in t.rules j h) ∙ x.here (omega (arith, length_heads t.rules))
