@@ -16,9 +16,13 @@ use Rattle.op_machine.specs.declared.lists.Item.TheVariants as item
 use Rattle.op_machine.specs.declared.frame.Frame.{Frame}
 use Rattle.op_machine.specs.declared.frame.FrameKind.TheVariants as kind
 use Rattle.op_machine.specs.declared.frame.FrameKind.{FrameKind}
+use Rattle.op_machine.proofs.Clauses.{drop-past}
 use Rattle.op_machine.specs.Lists.{list_in, opened}
 use Rattle.op_machine.specs.Program.{Tables, conjunction, clause_of, clauses_for, goal_named, body_from}
-use Rattle.op_machine.specs.Core.{choice_by, item_term, items_in, choice_of, choices_of, event_seen, IsItem, AreItems, AreLists, IsFrame, AreFrames}
+use Rattle.op_machine.specs.declared.core_state.Core.{Core}
+use Rattle.op_machine.specs.declared.core_state.Mode.{Mode}
+use Rattle.op_machine.specs.declared.core_state.Mode.TheVariants as mode
+use Rattle.op_machine.specs.Core.{IsGood, IsMode, choice_by, item_term, items_in, choice_of, choices_of, event_seen, IsItem, AreItems, AreLists, IsFrame, AreFrames}
 
 pub open_boxes-items : (t : Tables) (I : List Item) → open_boxes (map (item_term t) I) ≡ opened I
 open_boxes-items t [] = refl
@@ -81,3 +85,59 @@ pub shift-conjunction : (n : ℕ) (gs : List Text) → shift n (conjunction gs) 
 shift-conjunction n [] = refl
 shift-conjunction n (g ∷ []) = refl
 shift-conjunction n (g ∷ (h ∷ gs)) = ap (λ (b : Term Text). node (codes ",") (arg (atom g) (arg b no_args))) (shift-conjunction n (h ∷ gs))
+
+pub mode-more : (m n : ℕ) (q : Mode) → m ≤ n → IsMode m q → IsMode n q
+mode-more m n (mode.Forward i) h a = omega arith
+mode-more m n mode.Backward h a = tt
+mode-more m n (mode.Over e) h a = tt
+
+
+pub add-good : (c : Core) (i : Item) (n : ℕ) → IsGood c → IsItem c.store i → n < length c.lists
+  → IsGood (record c { lists = c.lists ++ (i ∷ list_in c.lists n) ∷ [] })
+add-good c i n g it h =
+    let len : length (c.lists ++ (i ∷ list_in c.lists n) ∷ []) ≡ length c.lists + 1 = length-append c.lists ((i ∷ list_in c.lists n) ∷ []) in
+    let more : length c.lists ≤ length (c.lists ++ (i ∷ list_in c.lists n) ∷ []) = omega arith in
+    record {
+      lists = lists-more c.store c.lists i n g.lists h it;
+      frames = frames-more c.store (length c.lists) (length (c.lists ++ (i ∷ list_in c.lists n) ∷ [])) (reverse c.frames.items) more g.frames;
+      mode = mode-more (length c.lists) (length (c.lists ++ (i ∷ list_in c.lists n) ∷ [])) c.mode more g.mode;
+      seen = g.seen;
+    }
+
+pub items_in-new : (t : Tables) (L : List (List Item)) (i : Item) (n : ℕ) → items_in t (L ++ (i ∷ list_in L n) ∷ []) (length L) ≡ item_term t i ∷ items_in t L n
+items_in-new t L i n = ap (map (item_term t)) (list_in-new L (i ∷ list_in L n))
+
+pub drop-one : (xs : List ℕ) (j : ℕ) → j < length xs → drop j xs ≡ get_or xs j 0 ∷ drop (suc j) xs
+drop-one xs j h = drop-cons xs j 0 h
+
+-- the last goal of a body is the body from there on
+pub body-last : (t : Tables) (i j : ℕ) → j + 1 ≡ length (rule_at t.rules i).1 → body_from t i j ≡ goal_named t (get_or (rule_at t.rules i).1 j 0)
+body-last t i j e =
+    let gs : List ℕ = (rule_at t.rules i).1 in
+    let none : drop (suc j) gs ≡ [] = drop-past gs (suc j) (omega arith) in
+    ap (λ (xs : List ℕ). conjunction (map (name_at t.names) xs)) (drop-one gs j (omega arith) ∙ ap (λ (xs : List ℕ). get_or gs j 0 ∷ xs) none)
+
+abbrev pub pair : Term Text → Term Text → Term Text
+pair a b = node (codes ",") (arg a (arg b no_args))
+
+-- an earlier goal is joined to the rest by a comma
+pub body-more : (t : Tables) (i j : ℕ) → j + 1 < length (rule_at t.rules i).1
+  → body_from t i j ≡ pair (goal_named t (get_or (rule_at t.rules i).1 j 0)) (body_from t i (j + 1))
+body-more t i j h =
+    let gs : List ℕ = (rule_at t.rules i).1 in
+    let e : j + 1 ≡ suc j = omega arith in
+    let two : drop j gs ≡ get_or gs j 0 ∷ get_or gs (suc j) 0 ∷ drop (suc (suc j)) gs =
+      drop-one gs j (omega arith) ∙ ap (λ (xs : List ℕ). get_or gs j 0 ∷ xs) (drop-one gs (suc j) (omega arith)) in
+    ap (λ (xs : List ℕ). conjunction (map (name_at t.names) xs)) two
+      ∙ ap (λ (xs : List ℕ). pair (goal_named t (get_or gs j 0)) (conjunction (map (name_at t.names) xs)))
+          (sym (drop-one gs (suc j) (omega arith)) ∙ ap (λ (n : ℕ). drop n gs) (sym e))
+
+-- two goals or more are not true
+pub is_true-many : (gs : List Text) → 2 ≤ length gs → is_true (conjunction gs) ≡ false
+is_true-many [] h = absurd (omega arith)
+is_true-many (g ∷ []) h = absurd (omega arith)
+is_true-many (g ∷ (h ∷ gs)) l = refl
+
+pub length-names : (names : List Text) (xs : List ℕ) → length (map (name_at names) xs) ≡ length xs
+length-names names [] = refl
+length-names names (x ∷ xs) = ap suc (length-names names xs)

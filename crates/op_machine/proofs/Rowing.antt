@@ -1,12 +1,12 @@
 -- Each row of the machine makes one move.
-use Rattle.std.proofs.Common.{◌≡◌, ℕ, zero, suc, ◌+◌, ◌<◌, ◌≤◌, List, [], ◌∷◌, length, map, refl, sym, ap, ◌∙◌, subst, arith, Result, Ok, Err, IfOk}
+use Rattle.std.proofs.Common.{◌≡◌, ℕ, zero, suc, ◌+◌, ◌<◌, ◌≤◌, List, [], ◌∷◌, length, get_or, map, refl, sym, ap, ◌∙◌, subst, arith, Result, Ok, Err, IfOk}
 use Rattle.op_logic.specs.Term.{Term}
 use Rattle.op_logic.specs.Bind.{Bindings}
 use Rattle.op_trace.specs.World.{Text, Clause}
 use Rattle.op_trace.specs.World as world
 use Rattle.op_trace.specs.Visit as visit
 use Rattle.op_reader.specs.Form.{rule_at, named_rule}
-use Rattle.op_machine.specs.Program.{Tables, clauses, clauses_for, clause_of, goal_named}
+use Rattle.op_machine.specs.Program.{Tables, clauses, clauses_for, clause_of, goal_named, body_from}
 use Rattle.op_trace.specs.World.{World}
 use Rattle.op_machine.specs.declared.core_state.Core.{Core}
 use Rattle.op_machine.specs.declared.core_state.Mode.TheVariants as mode
@@ -14,11 +14,12 @@ use Rattle.op_machine.specs.declared.core_state.Ending.TheVariants as outcome
 use Rattle.op_machine.specs.declared.core_state.Step.{Step}
 use Rattle.op_machine.specs.declared.core_state.Step.TheVariants as step
 use Rattle.op_machine.specs.Core.{setup_of, world_in, items_in, choices_in, IsGood}
-use Rattle.op_trace.specs.Visit.{control_of_atom}
+use Rattle.op_trace.specs.Visit.{control, control_of_atom}
 use Rattle.op_trace.specs.World.{Barrier}
 use Rattle.op_logic.specs.Names.{name_at}
-use Rattle.op_machine.specs.Rows.{Advances}
-use Rattle.op_machine.specs.Resume.{Over, Moved, silent, pay, chosen, with_more}
+use Rattle.op_machine.specs.Rows.{Advances, goal_moved, rule_entered, rule_moved}
+use Rattle.op_machine.proofs.Meaning.{body-last, body-more, pair}
+use Rattle.op_machine.specs.Resume.{Going, Over, Moved, silent, pay, chosen, with_more}
 use Rattle.op_machine.proofs.Atoms.{pay-yes, pay-no}
 use Rattle.op_machine.proofs.Clauses.{clauses_for-here, clauses_for-end}
 
@@ -79,3 +80,40 @@ pub chosen-paid : (c paid new : Core) (g n : ℕ) (m : Barrier) (s : Step) → p
 chosen-paid c paid new g n m s e fits a =
     paid-advances c new (chosen (control_of_atom (name_at c.store.names g)) (goal_named c.store g) m (items_in c.store c.lists n) (choices_in c) []) s fits
       (subst (λ (x : Core). Advances x new (chosen_in x g n m) s) e a)
+
+-- the last goal of a body, as one goal
+pub last-selected : (c new : Core) (i j n : ℕ) (g : ℕ) (m : Barrier) (s : Step) → g ≡ get_or (rule_at c.store.rules i).1 j 0 → j + 1 ≡ length (rule_at c.store.rules i).1
+  → Advances c new (pay (setup_of c) 1 (world_in c) (chosen (control_of_atom (name_at c.store.names g)) (goal_named c.store g) m (items_in c.store c.lists n) (choices_in c) [])) s
+  → Advances c new (goal_moved c (body_from c.store i j) m n) s
+last-selected c new i j n g m s e l a =
+    let t : body_from c.store i j ≡ goal_named c.store g = body-last c.store i j l ∙ ap (goal_named c.store) (sym e) in
+    subst (λ (x : Term Text). Advances c new (goal_moved c x m n) s) (sym t) a
+
+-- an earlier goal, split from the rest
+pub split-paid : (c paid new : Core) (i j n : ℕ) (g : ℕ) (m : Barrier) → g ≡ get_or (rule_at c.store.rules i).1 j 0 → j + 1 < length (rule_at c.store.rules i).1
+  → paid ≡ record c { steps = c.steps + 1 } → c.steps + 1 ≤ c.budget
+  → Advances paid new (silent (Going (world.Goal (goal_named paid.store g) m ∷ world.Goal (body_from paid.store i (j + 1)) m ∷ items_in paid.store paid.lists n) (choices_in paid) [] (world_in paid))) step.Silent
+  → Advances c new (goal_moved c (body_from c.store i j) m n) step.Silent
+split-paid c paid new i j n g m e l p fits a =
+    let t : body_from c.store i j ≡ pair (goal_named c.store g) (body_from c.store i (j + 1)) =
+      body-more c.store i j l ∙ ap (λ (x : ℕ). pair (goal_named c.store x) (body_from c.store i (j + 1))) (sym e) in
+    let whole : Term Text = pair (goal_named c.store g) (body_from c.store i (j + 1)) in
+    let done : Advances c new (goal_moved c whole m n) step.Silent =
+      paid-advances c new (chosen (control whole) whole m (items_in c.store c.lists n) (choices_in c) []) step.Silent fits
+        (subst (λ (x : Core). Advances x new (silent (Going (world.Goal (goal_named x.store g) m ∷ world.Goal (body_from x.store i (j + 1)) m ∷ items_in x.store x.lists n) (choices_in x) [] (world_in x))) step.Silent) p a) in
+    subst (λ (x : Term Text). Advances c new (goal_moved c x m n) step.Silent) (sym t) done
+
+-- the pair of goal and head was paid, and the rule was entered
+pub entered-paid : (c paid new : Core) (i k g n : ℕ) → paid ≡ record c { steps = c.steps + 1 } → c.steps + 1 ≤ c.budget
+  → Advances paid new (rule_entered paid i k g n (world_in paid)) step.Silent
+  → Advances c new (pay (setup_of c) 1 (world_in c) (rule_entered c i k g n)) step.Silent
+entered-paid c paid new i k g n e fits a =
+    paid-advances c new (rule_entered c i k g n) step.Silent fits (subst (λ (x : Core). Advances x new (rule_entered x i k g n (world_in x)) step.Silent) e a)
+
+-- the rule was paid, and then the pair was met
+pub tried-paid : (c paid new : Core) (i k g n : ℕ) (s : Step) → paid ≡ record c { steps = c.steps + 1 } → c.steps + 1 ≤ c.budget
+  → Advances paid new (pay (setup_of paid) 1 (world_in paid) (rule_entered paid i k g n)) s
+  → Advances c new (rule_moved c i k g n) s
+tried-paid c paid new i k g n s e fits a =
+    paid-advances c new (λ u. pay (setup_of c) 1 u (rule_entered c i k g n)) s fits
+      (subst (λ (x : Core). Advances x new (pay (setup_of x) 1 (world_in x) (rule_entered x i k g n)) s) e a)

@@ -1,17 +1,19 @@
-ghost use Rattle.std.specs.Prelude.{◌≡◌, ◌+◌, ◌<◌, ◌≤◌, ◌^◌, [], ◌∷◌, ◌++◌, length, reverse, IfOk, OnOk, MatchOption};
+ghost use Rattle.std.specs.Prelude.{◌≡◌, ◌+◌, ◌<◌, ◌≤◌, ◌^◌, false, [], ◌∷◌, ◌++◌, length, reverse, IfOk, OnOk, MatchOption};
 ghost use Rattle.std.specs.Bool.{OnTrue, OnFalse};
 ghost use Rattle.op_reader.specs.Form.{rule_at};
-ghost use Rattle.op_trace.specs.World.{Barrier};
-ghost use Rattle.op_trace.specs.Visit.{event_of, with_event, control_of_atom};
+ghost use Rattle.op_trace.specs.World.{Barrier, Call, Goal};
+ghost use Rattle.op_trace.specs.Visit.{event_of, with_event, control_of_atom, is_true};
 ghost use Rattle.op_logic.specs.Names.{name_at};
 ghost use Rattle.op_machine.specs.declared.core_state.Mode.TheVariants as mode;
 ghost use Rattle.op_machine.specs.declared.core_state.Ending.TheVariants as ending;
-ghost use Rattle.op_machine.specs.Core.{items_in, choices_in, choice_of, setup_of, world_in, state_of, event_seen, IsGood, IsItem, IsFrame, AreFrames};
+ghost use Rattle.op_machine.specs.Core.{items_in, choices_in, choice_of, setup_of, world_in, state_of, event_seen, item_term, IsGood, IsItem, IsFrame, AreFrames};
 ghost use Rattle.op_machine.specs.Lists.{list_in};
-ghost use Rattle.op_machine.specs.Program.{goal_named, clauses_for};
+ghost use Rattle.op_machine.specs.Program.{goal_named, clauses_for, body_from};
+ghost use Rattle.op_machine.specs.declared.lists.Item.TheVariants as item;
+ghost use Rattle.op_machine.specs.declared.core_state.Step.TheVariants as step;
 ghost use Rattle.op_machine.specs.declared.frame.FrameKind.TheVariants as kind;
-ghost use Rattle.op_machine.specs.Resume.{at_solution, exited, invoked, showing, with_more, chosen, pay, Back};
-ghost use Rattle.op_machine.specs.Rows.{Advances};
+ghost use Rattle.op_machine.specs.Resume.{at_solution, exited, invoked, showing, with_more, chosen, pay, silent, Going, Back};
+ghost use Rattle.op_machine.specs.Rows.{Advances, goal_moved, rule_moved, rule_entered, body_before, clause_in};
 
 use crate::core_state::{Core, Ending, Mode, Seen, Step};
 use crate::frame::{Frame, FrameKind};
@@ -86,12 +88,16 @@ impl Core {
 
     // A list that begins with an item.
     pub(crate) fn add(&mut self, item: Item, rest: u64) -> Result<u64, Memory>
-        requires { rest < length self.old.lists }
-        ensures number { IfOk result (λ n. n ≡ length self.old.lists) }
-        ensures lists { OnOk result (self.new.lists ≡ self.old.lists ++ (item ∷ list_in self.old.lists rest) ∷ []) }
+        requires good { IsGood self.old }
+        requires item { IsItem self.old.store item }
+        requires there { rest < length self.old.lists }
+        ensures within { IfOk result (λ n. n < length self.new.lists) }
+        ensures items { IfOk result (λ n. items_in self.old.store self.new.lists n ≡ item_term self.old.store item ∷ items_in self.old.store self.old.lists rest) }
+        ensures choices { OnOk result (choices_in self.new ≡ choices_in self.old) }
+        ensures good { OnOk result (IsGood self.new) }
         ensures rest { self.new ≡ record self.old { lists = self.new.lists } }
     {
-        self.lists.add(item, rest)
+        Ok(self.lists.add(item, rest)?)
     }
 
     // No item is left: a solution, which is the last if it is the wanted one.
@@ -218,5 +224,140 @@ impl Core {
             return Ok(Step::Silent);
         }
         self.choose(goal, rest)
+    }
+
+    // A goal and the rest of a body are put before a list.
+    pub(crate) fn split(&mut self, goal: Sym, rule: u64, from: u64, barrier: u64, rest: u64) -> Result<(), Memory>
+        requires good { IsGood self.old }
+        requires there { rest < length self.old.lists }
+        requires known { goal.0 < length self.old.store.names }
+        requires tail { IsItem self.old.store (item.Body rule from barrier) }
+        ensures { OnOk result (Advances self.old self.new (silent (Going (Goal (goal_named self.old.store goal.0) (Call barrier)
+            ∷ Goal (body_from self.old.store rule from) (Call barrier) ∷ items_in self.old.store self.old.lists rest) (choices_in self.old) [] (world_in self.old))) step.Silent) }
+    {
+        let tail = self.add(
+            Item::Body {
+                rule,
+                from,
+                barrier,
+            },
+            rest,
+        )?;
+        let items = self.add(
+            Item::Goal {
+                name: goal,
+                barrier,
+            },
+            tail,
+        )?;
+        self.mode = Mode::Forward { items };
+        Ok(())
+    }
+
+    // The goals of a body from one on are selected: the last goal alone, or the first and the rest.
+    pub(crate) fn select_body(&mut self, rule: u64, from: u64, barrier: u64, rest: u64) -> Result<Step, Memory>
+        requires good { IsGood self.old }
+        requires there { rest < length self.old.lists }
+        requires body { IsItem self.old.store (item.Body rule from barrier) }
+        requires fits { self.old.events < 2 ^ 63 }
+        requires calls { self.old.calls < 2 ^ 63 }
+        requires steps { self.old.steps ≤ self.old.budget }
+        ensures { IfOk result (Advances self.old self.new (goal_moved self.old (body_from self.old.store rule from) (Call barrier) rest)) }
+    {
+        let goal = self.store.goal_at(rule, from);
+        let count = self.store.goal_count(rule);
+        if from + 1 == count {
+            return self.select(goal, rest);
+        }
+        if !self.spend() {
+            return Ok(Step::Silent);
+        }
+        self.split(goal, rule, from + 1, barrier, rest)?;
+        Ok(Step::Silent)
+    }
+
+    // A rule for the goal of a box is tried: a step for it and one for the pair of goal and head, which match.
+    pub(crate) fn attempt(&mut self, rule: u64, call: u64, goal: Sym, rest: u64) -> Result<Step, Memory>
+        requires good { IsGood self.old }
+        requires there { rest < length self.old.lists }
+        requires known { goal.0 < length self.old.store.names }
+        requires rule { rule < length self.old.store.rules }
+        requires steps { self.old.steps ≤ self.old.budget }
+        ensures { IfOk result (Advances self.old self.new (rule_moved self.old rule call goal.0 rest)) }
+    {
+        if !self.spend() {
+            return Ok(Step::Silent);
+        }
+        self.meet(rule, call, goal, rest)
+    }
+
+    // The pair of goal and head.
+    pub(crate) fn meet(&mut self, rule: u64, call: u64, goal: Sym, rest: u64) -> Result<Step, Memory>
+        requires good { IsGood self.old }
+        requires there { rest < length self.old.lists }
+        requires known { goal.0 < length self.old.store.names }
+        requires rule { rule < length self.old.store.rules }
+        requires steps { self.old.steps ≤ self.old.budget }
+        ensures { IfOk result (Advances self.old self.new (pay (setup_of self.old) 1 (world_in self.old) (rule_entered self.old rule call goal.0 rest))) }
+    {
+        if !self.spend() {
+            return Ok(Step::Silent);
+        }
+        self.enter(rule, call, goal, rest)?;
+        Ok(Step::Silent)
+    }
+
+    // A rule was matched: its body comes next, and then the exit of the box.
+    pub(crate) fn enter(&mut self, rule: u64, call: u64, goal: Sym, rest: u64) -> Result<(), Memory>
+        requires good { IsGood self.old }
+        requires there { rest < length self.old.lists }
+        requires known { goal.0 < length self.old.store.names }
+        requires rule { rule < length self.old.store.rules }
+        ensures { OnOk result (Advances self.old self.new (rule_entered self.old rule call goal.0 rest (world_in self.old)) step.Silent) }
+    {
+        let exit = self.add(Item::Exit { call, goal }, rest)?;
+        let items = self.add_body(rule, call, exit)?;
+        self.mode = Mode::Forward { items };
+        Ok(())
+    }
+
+    // The body of a rule before a list: nothing for a fact.
+    pub(crate) fn add_body(&mut self, rule: u64, call: u64, rest: u64) -> Result<u64, Memory>
+        requires good { IsGood self.old }
+        requires there { rest < length self.old.lists }
+        requires rule { rule < length self.old.store.rules }
+        ensures within { IfOk result (λ n. n < length self.new.lists) }
+        ensures items { IfOk result (λ n. items_in self.old.store self.new.lists n ≡ body_before self.old.store rule call (items_in self.old.store self.old.lists rest)) }
+        ensures choices { OnOk result (choices_in self.new ≡ choices_in self.old) }
+        ensures good { OnOk result (IsGood self.new) }
+        ensures rest { self.new ≡ record self.old { lists = self.new.lists } }
+    {
+        if self.is_fact(rule) {
+            return Ok(rest);
+        }
+        self.add(
+            Item::Body {
+                rule,
+                from: 0,
+                barrier: call,
+            },
+            rest,
+        )
+    }
+
+    // Whether a rule has no body but `true`.
+    pub(crate) fn is_fact(&self, rule: u64) -> bool
+        requires { rule < length self.now.store.rules }
+        ensures fact { result ≡ is_true (clause_in self.now.store rule).body }
+        ensures some { result ≡ false → 0 < length (rule_at self.now.store.rules rule).1 }
+    {
+        let count = self.store.goal_count(rule);
+        if count == 0 {
+            return true;
+        }
+        if count == 1 {
+            return self.store.kind(self.store.goal_at(rule, 0)) == Kind::Truth;
+        }
+        false
     }
 }
