@@ -1,12 +1,12 @@
 -- Each row of the machine makes one move.
-use Rattle.std.proofs.Common.{◌≡◌, ℕ, zero, suc, ◌+◌, ◌<◌, ◌≤◌, List, [], ◌∷◌, length, get_or, map, refl, sym, ap, ◌∙◌, subst, arith, Result, Ok, Err, IfOk}
-use Rattle.op_logic.specs.Term.{Term}
+use Rattle.std.proofs.Common.{◌≡◌, ℕ, zero, suc, ◌+◌, ◌<◌, ◌≤◌, List, [], ◌∷◌, length, get_or, map, refl, sym, ap, ◌∙◌, subst, arith, Result, Ok, Err, IfOk, if◌then◌else◌}
+use Rattle.op_logic.specs.Term.{Term, atom}
 use Rattle.op_logic.specs.Bind.{Bindings}
 use Rattle.op_trace.specs.World.{Text, Clause}
 use Rattle.op_trace.specs.World as world
 use Rattle.op_trace.specs.Visit as visit
 use Rattle.op_reader.specs.Form.{rule_at, named_rule}
-use Rattle.op_machine.specs.Program.{Tables, clauses, clauses_for, clause_of, goal_named, body_from}
+use Rattle.op_machine.specs.Program.{Tables, clauses, clauses_for, clause_of, conjunction, goal_named, body_from}
 use Rattle.op_trace.specs.World.{World}
 use Rattle.op_machine.specs.declared.core_state.Core.{Core}
 use Rattle.op_machine.specs.declared.core_state.Mode.TheVariants as mode
@@ -14,13 +14,13 @@ use Rattle.op_machine.specs.declared.core_state.Ending.TheVariants as outcome
 use Rattle.op_machine.specs.declared.core_state.Step.{Step}
 use Rattle.op_machine.specs.declared.core_state.Step.TheVariants as step
 use Rattle.op_machine.specs.Core.{setup_of, world_in, items_in, choices_in, IsGood}
-use Rattle.op_trace.specs.Visit.{control, control_of_atom}
+use Rattle.op_trace.specs.Visit.{control, control_of_atom, is_true}
 use Rattle.op_trace.specs.World.{Barrier}
 use Rattle.op_logic.specs.Names.{name_at}
-use Rattle.op_machine.specs.Rows.{Advances, goal_moved, rule_entered, rule_moved}
-use Rattle.op_machine.proofs.Meaning.{body-last, body-more, pair}
-use Rattle.op_machine.specs.Resume.{Going, Over, Moved, silent, pay, chosen, with_more}
-use Rattle.op_machine.proofs.Atoms.{pay-yes, pay-no}
+use Rattle.op_machine.specs.Rows.{Advances, goal_moved, rule_entered, rule_moved, retried, body_before, clause_in}
+use Rattle.op_machine.proofs.Meaning.{body-last, body-more, pair, shift-conjunction}
+use Rattle.op_machine.specs.Resume.{Going, Back, Over, Moved, silent, pay, chosen, tried, move, with_more}
+use Rattle.op_machine.proofs.Atoms.{pay-yes, pay-no, tried-atom}
 use Rattle.op_machine.proofs.Clauses.{clauses_for-here, clauses_for-end}
 
 -- clauses from a rule of the goal's name on are a choice
@@ -117,3 +117,53 @@ pub tried-paid : (c paid new : Core) (i k g n : ℕ) (s : Step) → paid ≡ rec
 tried-paid c paid new i k g n s e fits a =
     paid-advances c new (λ u. pay (setup_of c) 1 u (rule_entered c i k g n)) s fits
       (subst (λ (x : Core). Advances x new (pay (setup_of x) 1 (world_in x) (rule_entered x i k g n)) s) e a)
+
+-- two steps, and then a rule's body and the exit of its box, over these choices
+abbrev pub both_paid : Core → ℕ → ℕ → ℕ → ℕ → List visit.Choice → Moved
+both_paid c i k g n K =
+    pay (setup_of c) 1 (world_in c) (λ u. pay (setup_of c) 1 u
+      (λ v. silent (Going (body_before c.store i k (world.Exit k (goal_named c.store g) ∷ items_in c.store c.lists n)) K [] v)))
+
+-- a rule of the goal's name that is tried takes two steps and matches
+pub tried-rule : (c : Core) (i k g n : ℕ) (K : List visit.Choice) → (rule_at c.store.rules i).0 ≡ g → c.steps ≤ c.budget
+  → tried (setup_of c) (clause_in c.store i) k (goal_named c.store g) [] (items_in c.store c.lists n) K (world_in c) ≡ both_paid c i k g n K
+tried-rule c i k g n K e below =
+    let r = rule_at c.store.rules i in
+    let J : List world.Item = items_in c.store c.lists n in
+    let gs : List Text = map (name_at c.store.names) r.1 in
+    let f : Text = name_at c.store.names r.0 in
+    let named : Term Text → Moved = λ t. tried (setup_of c) (clause_in c.store i) k t [] J K (world_in c) in
+    ap named (ap (goal_named c.store) (sym e))
+      ∙ (tried-atom (setup_of c) i k f gs J K (world_in c) below
+      ∙ (ap (λ (b : Term Text). pay (setup_of c) 1 (world_in c) (λ u. pay (setup_of c) 1 u
+            (λ v. silent (Going (if is_true (conjunction gs) then world.Exit k (atom f) ∷ J else world.Goal b (world.Call k) ∷ world.Exit k (atom f) ∷ J) K [] v)))) (shift-conjunction 0 gs)
+      ∙ ap (λ (x : ℕ). both_paid c i k x n K) e))
+
+-- the clauses from a rule on are tried: the rule, with those behind it as a choice
+pub retry-moved : (c mid : Core) (i k g n nx : ℕ) → mid ≡ record c { frames = mid.frames }
+  → choices_in mid ≡ with_more (clauses_for c.store g nx) k (goal_named c.store g) [] (items_in c.store c.lists n) (choices_in c)
+  → clauses_for c.store (rule_at c.store.rules i).0 (suc i) ≡ clauses_for c.store (rule_at c.store.rules i).0 nx
+  → (rule_at c.store.rules i).0 ≡ g → i < length c.store.rules → c.steps ≤ c.budget
+  → rule_moved mid i k g n ≡ retried c i k g n
+retry-moved c mid i k g n nx e choices later here inside below =
+    let J : List world.Item = items_in c.store c.lists n in
+    let K : List visit.Choice = with_more (clauses_for c.store g (suc i)) k (goal_named c.store g) [] J (choices_in c) in
+    let later_g : clauses_for c.store g nx ≡ clauses_for c.store g (suc i) =
+      subst (λ (x : ℕ). clauses_for c.store x nx ≡ clauses_for c.store x (suc i)) here (sym later) in
+    let same : choices_in mid ≡ K = choices ∙ ap (λ (cs : List Clause). with_more cs k (goal_named c.store g) [] J (choices_in c)) later_g in
+    let first : clauses_for c.store g i ≡ clause_in c.store i ∷ clauses_for c.store g (suc i) = clauses_for-here c.store g i inside here in
+    ap (λ (x : Core). both_paid x i k g n (choices_in mid)) e
+      ∙ (ap (both_paid c i k g n) same
+      ∙ (sym (tried-rule c i k g n K here below)
+      ∙ ap (λ (cs : List Clause). move (setup_of c) (Back (visit.More cs k (goal_named c.store g) [] J ∷ choices_in c) (world_in c))) (sym first)))
+
+pub retry-advances : (c mid new : Core) (i k g n : ℕ) (s : Step) → mid ≡ record c { frames = mid.frames } → rule_moved mid i k g n ≡ retried c i k g n
+  → Advances mid new (rule_moved mid i k g n) s → Advances c new (retried c i k g n) s
+retry-advances c mid new i k g n s e m a = record {
+    turns = a.turns ∙ ap (λ (x : Moved). x.turns) m;
+    state = a.state ∙ ap (λ (x : Moved). x.state) m;
+    good = a.good;
+    store = a.store ∙ ap (λ (x : Core). x.store) e;
+    budget = a.budget ∙ ap (λ (x : Core). x.budget) e;
+    wanted = a.wanted ∙ ap (λ (x : Core). x.wanted) e;
+  }

@@ -2,15 +2,16 @@
 use Rattle.std.specs.Prelude.{◌≡◌, ℕ, List, [], ◌∷◌, if◌then◌else◌}
 use Rattle.op_logic.specs.Term.{Term}
 use Rattle.op_reader.specs.Form.{rule_at, named_rule}
-use Rattle.op_machine.specs.Program.{Tables, clause_of, goal_named, body_from}
+use Rattle.op_machine.specs.Program.{Tables, clause_of, clauses_for, goal_named, body_from}
 use Rattle.op_trace.specs.World as world
 use Rattle.op_trace.specs.World.{Text, World, Clause, Barrier, Turn, Shown, Solved}
+use Rattle.op_trace.specs.Visit as visit
 use Rattle.op_trace.specs.Visit.{control, is_true}
 use Rattle.op_machine.specs.declared.core_state.Core.{Core}
 use Rattle.op_machine.specs.declared.core_state.Step.{Step}
 use Rattle.op_machine.specs.declared.core_state.Step.TheVariants as step
 use Rattle.op_machine.specs.Core.{setup_of, world_in, items_in, choices_in, state_of, event_seen, IsGood}
-use Rattle.op_machine.specs.Resume.{Moved, Going, silent, pay, chosen}
+use Rattle.op_machine.specs.Resume.{Moved, Going, Back, silent, pay, chosen, move}
 
 -- the turn that a machine shows after a step
 abbrev pub turns_of : Step → Core → List Turn
@@ -47,3 +48,8 @@ pub record Advances (old new : Core) (m : Moved) (s : Step) : Type 0 where
   pub store : new.store ≡ old.store
   pub budget : new.budget ≡ old.budget
   pub wanted : new.wanted ≡ old.wanted
+
+-- the move of a choice of the clauses for a goal from a rule on
+abbrev pub retried : Core → ℕ → ℕ → ℕ → ℕ → Moved
+retried c i k g n =
+    move (setup_of c) (Back (visit.More (clauses_for c.store g i) k (goal_named c.store g) [] (items_in c.store c.lists n) ∷ choices_in c) (world_in c))

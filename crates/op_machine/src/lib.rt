@@ -7,6 +7,7 @@ mod index;
 mod kind;
 mod lists;
 mod machine;
+mod moves;
 mod rows;
 mod store;
 mod turn;

@@ -1,4 +1,4 @@
-ghost use Rattle.std.specs.Prelude.{◌≡◌, ◌+◌, ◌<◌, ◌≤◌, ◌^◌, false, [], ◌∷◌, ◌++◌, length, reverse, IfOk, OnOk, MatchOption};
+ghost use Rattle.std.specs.Prelude.{◌≡◌, ◌+◌, ◌<◌, ◌≤◌, ◌^◌, false, [], ◌∷◌, ◌++◌, length, reverse, IfOk, OnOk, IfNone, MatchOption};
 ghost use Rattle.std.specs.Bool.{OnTrue, OnFalse};
 ghost use Rattle.op_reader.specs.Form.{rule_at};
 ghost use Rattle.op_trace.specs.World.{Barrier, Call, Goal};
@@ -81,6 +81,7 @@ impl Core {
     // The last choice, which is dropped.
     pub(crate) fn pop(&mut self) -> Option<Frame>
         ensures frames { MatchOption result (reverse self.old.frames.items ≡ []) (λ f. reverse self.old.frames.items ≡ f ∷ reverse self.new.frames.items) }
+        ensures empty { IfNone result (reverse self.new.frames.items ≡ []) }
         ensures rest { self.new ≡ record self.old { frames = self.new.frames } }
     {
         self.frames.pop()
