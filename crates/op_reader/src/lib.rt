@@ -9,3 +9,4 @@ mod reader;
 
 pub use fault::ReadFault;
 pub use program::Program;
+pub use reader::{read_goal, read_program};
