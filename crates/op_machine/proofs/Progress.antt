@@ -67,3 +67,54 @@ move-onward s (Back (Fail k g σ J ∷ K) w) below = record { count = omega arit
 move-onward s (Back (More [] k g σ J ∷ K) w) below = record { count = omega arith; steps = omega arith }
 move-onward s (Back (More (c ∷ cs) k g σ J ∷ K) w) below = tried-onward s c k g σ J (with_more cs k g σ J K) w below
 move-onward s (Over r w) below = record { count = omega arith; steps = omega arith }
+
+-- what is left to do: steps, and to be at the end
+abbrev pub live : State → ℕ
+live (Going I K σ w) = 1
+live (Back K w) = 1
+live (Over r w) = 0
+
+abbrev pub weight : Setup → State → ℕ
+weight s t = 2 * (s.budget - (world_of t).steps) + live t
+
+abbrev pub IsOver : State → Type 0
+IsOver (Going I K σ w) = ⊥
+IsOver (Back K w) = ⊥
+IsOver (Over r w) = Unit {0}
+
+-- the last choice has a clause, if it is one of clauses
+abbrev pub HasClauses : State → Type 0
+HasClauses (Back (More [] k g σ J ∷ K) w) = ⊥
+HasClauses t = Unit {0}
+
+pub paid-lighter : (t : Bool) (s : Setup) (n : ℕ) (w : World) (h : World → Moved) → nat_le (w.steps + 1) s.budget ≡ t → w.steps ≤ s.budget
+  → (w.steps + 1 ≤ s.budget → IsOnward s (record w { steps = w.steps + 1 }) (h (record w { steps = w.steps + 1 })))
+  → weight s (paid t s 1 w h).state < 2 * (s.budget - w.steps) + 1
+paid-lighter true s n w h test below k =
+    let fits : w.steps + 1 ≤ s.budget = grind (arith, nat_tests) in
+    let on : w.steps + 1 ≤ (world_of (h (record w { steps = w.steps + 1 })).state).steps = (k fits).steps in
+    lighter (h (record w { steps = w.steps + 1 })).state fits on
+  where
+    lighter : (t : State) → w.steps + 1 ≤ s.budget → w.steps + 1 ≤ (world_of t).steps → weight s t < 2 * (s.budget - w.steps) + 1
+    lighter (Going I K σ u) f h = omega arith
+    lighter (Back K u) f h = omega arith
+    lighter (Over r u) f h = omega arith
+paid-lighter false s n w h test below k = omega arith
+
+-- a silent move that isn't at the end makes the state lighter
+pub move-lighter : (s : Setup) (t : State) → (world_of t).steps ≤ s.budget → (IsOver t → ⊥) → HasClauses t → (move s t).turns ≡ []
+  → weight s (move s t).state < weight s t
+move-lighter s (Going [] K σ w) below live has e = cc
+move-lighter s (Going (Exit k g ∷ J) K σ w) below live has e = cc
+move-lighter s (Going (Goal t m ∷ J) K σ w) below live has e =
+    paid-lighter (nat_le (w.steps + 1) s.budget) s 1 w _ refl below (λ fits. chosen-onward (control t) s t m J K σ (record w { steps = w.steps + 1 }))
+move-lighter s (Back [] w) below live has e = omega arith
+move-lighter s (Back (Redo k g σ J ∷ K) w) below live has e = cc
+move-lighter s (Back (Fail k g σ J ∷ K) w) below live has e = cc
+move-lighter s (Back (More [] k g σ J ∷ K) w) below live has e = absurd has
+move-lighter s (Back (More (c ∷ cs) k g σ J ∷ K) w) below live has e =
+    paid-lighter (nat_le (w.steps + 1) s.budget) s 1 w _ refl below
+      (λ fits. met-onward s c k g J (with_more cs k g σ J K) (record w { steps = w.steps + 1 })
+        (unify text_eq (s.budget - (w.steps + 1)) σ ((g, shift w.variables c.head) ∷ [])) fits
+        (within-less {A = Option (Bindings Text)} (s.budget - (w.steps + 1)) (solve text_eq (s.budget - (w.steps + 1)) σ ((g, shift {N = Text} w.variables c.head) ∷ []))))
+move-lighter s (Over r w) below live has e = absurd (live tt)

@@ -5,4 +5,5 @@ pub mod Machine
 pub mod Program
 pub mod Resume
 pub mod Rows
+pub mod Turned
 pub mod View

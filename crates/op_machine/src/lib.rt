@@ -9,6 +9,7 @@ mod lists;
 mod machine;
 mod moves;
 mod rows;
+mod run;
 mod store;
 mod turn;
 mod view;
