@@ -95,3 +95,8 @@ Answers turn.Solution old new =
     (to_come old ≡ with_turn (Solved [] (world_now new)) (to_come new)) × (has_solution new ≡ true) × (answered new ≡ answered old + 1)
 Answers (turn.Ended e) old new =
     (to_come old ≡ only_ending e (world_now new)) × (to_come new ≡ to_come old) × (has_event new ≡ false) × (answered new ≡ answered old)
+
+abbrev pub last_after : declared.Turn → Last
+last_after turn.Event = last.Event
+last_after turn.Solution = last.Solution
+last_after (turn.Ended e) = last.Nothing

@@ -1,13 +1,14 @@
 -- What a machine's parts come to at the next turn.
 use Rattle.std.specs.Prelude.{◌≡◌, ℕ, ◌+◌, ◌^◌, ◌<◌, ◌≤◌, List, [], ◌∷◌}
-use Rattle.op_trace.specs.World.{Turn, Shown, Solved}
+use Rattle.op_trace.specs.World.{Turn, Shown, Solved, Setup, Call, Goal, loaded}
 use Rattle.op_trace.specs.Visit.{gives, with_turns}
 use Rattle.op_machine.specs.declared.core_state.Core.{Core}
 use Rattle.op_machine.specs.declared.core_state.Ending.{Ending}
 use Rattle.op_machine.specs.declared.turn.Turn as declared
 use Rattle.op_machine.specs.declared.turn.Turn.TheVariants as turn
 use Rattle.op_machine.specs.Core.{setup_of, world_in, state_of, event_seen, verdict_of, IsSound}
-use Rattle.op_machine.specs.Resume.{owed}
+use Rattle.op_machine.specs.Resume.{owed, Going}
+use Rattle.op_machine.specs.Program.{Tables, clauses, goal_named}
 
 -- how many turns a machine has answered
 abbrev pub turns_in : Core → ℕ
@@ -42,3 +43,10 @@ abbrev pub Turned : Core → Core → declared.Turn → Type 0
 Turned old new turn.Event = Showed old new (Shown (event_seen new.store new.seen) (world_in new))
 Turned old new turn.Solution = Showed old new (Solved [] (world_in new))
 Turned old new (turn.Ended e) = Ended old new e
+
+-- nothing was done yet
+pub record IsBegun (t : Tables) (g budget wanted : ℕ) (c : Core) : Type 0 where
+  pub state : state_of c ≡ Going (Goal (goal_named t g) (Call 0) ∷ []) [] [] (loaded (clauses t))
+  pub setup : setup_of c ≡ record { budget = budget; wanted = wanted }
+  pub steps : c.steps ≡ 0
+  pub turns : turns_in c ≡ 0

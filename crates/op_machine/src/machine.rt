@@ -1,7 +1,8 @@
-ghost use Rattle.std.specs.Prelude.{◌≡◌, ◌≢◌, ◌+◌, ◌-◌, ◌^◌, ◌<◌, ◌≤◌, ◌↔◌, true, false, length, IfOk, IsErrOf, IfSome, is_some, OnOk};
+ghost use Rattle.std.specs.Prelude.{◌≡◌, ◌≢◌, ◌+◌, ◌-◌, ◌^◌, ◌<◌, ◌≤◌, ◌↔◌, true, false, length, IfOk, OnErr, IsErrOf, IfSome, is_some, OnOk};
 ghost use Rattle.op_logic.specs.Term.{atom};
 ghost use Rattle.op_trace.specs.Run.{run};
 ghost use Rattle.op_trace.specs.World.{loaded};
+ghost use Rattle.op_machine.specs.Machine.{last_after};
 
 use crate::core_state::{Core, Ending, Mode, Seen};
 use crate::store::{Goal, Store};
@@ -32,9 +33,10 @@ impl Model for Machine {
 
     ghost view = { λ m. kept_of m.core m.last m.faulted };
 
+    ghost use Rattle.std.specs.Prelude.{◌≡◌, false};
     ghost use Rattle.op_machine.specs.Core.{IsSound};
 
-    ghost invariant = { λ m. IsSound m.core };
+    ghost invariant = { λ m. m.faulted ≡ false → IsSound m.core };
 }
 
 impl Machine {
@@ -55,10 +57,12 @@ impl Machine {
         ensures none { IfOk result (λ m. has_event m ≡ false) }
         ensures whole { IfOk result (λ m. m.faulted ≡ false) }
     {
-        let _ = alloc;
-        let _ = (goal, budget, wanted);
-        let _ = store.len();
-        Err(Memory)
+        let core = Core::begin(alloc, store, goal, budget, wanted)?;
+        Ok(Machine {
+            core,
+            last: Last::Nothing,
+            faulted: false,
+        })
     }
 
     /// The next turn, or the ending, again each time. The ledger rises by the run's steps. After `Memory` the machine has
@@ -66,22 +70,31 @@ impl Machine {
     pub fn next<H: Host, L: Ledger>(&mut self, host: &mut H, steps: &mut Steps<L>) -> Result<Turn, MachineFault>
         ensures answers { IfOk result (λ t. Answers t self.old self.new) }
         ensures cost { OnOk result (steps.new ≡ steps.old + (self.new.steps - self.old.steps)) }
-        ensures later { self.old.steps ≤ self.new.steps }
-        ensures paid { steps.new ≤ steps.old + (self.new.steps - self.old.steps) }
-        ensures names { self.new.tables ≡ self.old.tables }
+        ensures later { OnOk result (self.old.steps ≤ self.new.steps) }
+        ensures unpaid { OnErr result (steps.new ≡ steps.old) }
+        ensures names { OnOk result (self.new.tables ≡ self.old.tables) }
         ensures few { OnOk result (answered self.new < 2 ^ 63) }
-        ensures fault { IsErrOf result MachineFault.Memory → self.new.faulted ≡ true }
         ensures whole { OnOk result (self.new.faulted ≡ false) }
+        ensures fault { IsErrOf result MachineFault.Memory → self.new.faulted ≡ true }
         ensures ended { IsErrOf result (MachineFault.Ended Cause.Memory) ↔ (self.old.faulted ≡ true) }
         ensures same { self.old.faulted ≡ true → self.new ≡ self.old }
     {
         let _ = host;
-        steps.tick(0);
         if self.faulted {
             return Err(MachineFault::Ended(Cause::Memory));
         }
-        self.faulted = true;
-        Err(MachineFault::Memory)
+        let before = self.core.steps;
+        match self.core.turn() {
+            Ok(turn) => {
+                self.last = last_of(turn);
+                steps.tick(self.core.steps - before);
+                Ok(turn)
+            }
+            Err(Memory) => {
+                self.faulted = true;
+                Err(MachineFault::Memory)
+            }
+        }
     }
 
     /// How many steps the run has made up to the last turn, or to its end.
@@ -100,5 +113,15 @@ impl Machine {
             return None;
         }
         Some(EventView::new(self.core.seen, self.core.store.symbols()))
+    }
+}
+
+fn last_of(turn: Turn) -> Last
+    ensures { result ≡ last_after turn }
+{
+    match turn {
+        Turn::Event => Last::Event,
+        Turn::Solution => Last::Solution,
+        Turn::Ended(_) => Last::Nothing,
     }
 }
