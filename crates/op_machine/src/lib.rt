@@ -18,4 +18,5 @@ pub use core_state::Ending;
 pub use machine::{Host, Machine};
 pub use store::{Goal, Store};
 pub use turn::{Cause, MachineFault, Turn};
-pub use view::EventView;
+pub use view::{EventView, SolutionView};
+

@@ -7,7 +7,7 @@ ghost use Rattle.op_machine.specs.Machine.{last_after};
 use crate::core_state::{Core, Ending, Mode, Seen};
 use crate::store::{Goal, Store};
 use crate::turn::{Cause, Last, MachineFault, Turn};
-use crate::view::EventView;
+use crate::view::{EventView, SolutionView};
 use op_base::{Memory, Steps};
 use op_term::Symbols;
 use op_trace::Port;
@@ -42,7 +42,7 @@ impl Model for Machine {
 impl Machine {
     ghost use Rattle.op_machine.specs.Machine.{to_come, Answers, answered, event_now, has_event, has_solution};
     ghost use Rattle.op_machine.specs.Program.{clauses, goal_named};
-    ghost use Rattle.op_machine.specs.View.{event_in};
+    ghost use Rattle.op_machine.specs.View.{event_in, names_in};
 
     /// A machine before the first turn of a goal's run over the clauses of a store: the run may take `budget` steps,
     /// from 1 to 1,000,000,000, and ends at the solution numbered `wanted`, from 1, or at none for 0.
@@ -113,6 +113,17 @@ impl Machine {
             return None;
         }
         Some(EventView::new(self.core.seen, self.core.store.symbols()))
+    }
+
+    /// The solution that was the last turn; None where the last turn was no solution or a fault was answered.
+    pub fn solution(&self) -> Option<SolutionView<'_>>
+        ensures there { is_some result ≡ has_solution self.now }
+        ensures names { IfSome result (λ v. names_in v ≡ self.now.tables.names) }
+    {
+        if self.faulted || self.last != Last::Solution {
+            return None;
+        }
+        Some(SolutionView::new(self.core.store.symbols()))
     }
 }
 
