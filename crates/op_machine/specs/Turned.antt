@@ -1,6 +1,6 @@
 -- What a machine's parts come to at the next turn.
-use Rattle.std.specs.Prelude.{◌≡◌, ℕ, ◌+◌, ◌^◌, ◌<◌, ◌≤◌, List, [], ◌∷◌}
-use Rattle.op_trace.specs.World.{Turn, Shown, Solved, Setup, Call, Goal, loaded}
+use Rattle.std.specs.Prelude.{◌≡◌, ℕ, ◌+◌, ◌≤◌, [], ◌∷◌}
+use Rattle.op_trace.specs.World.{Turn, Shown, Solved, Call, Goal, loaded}
 use Rattle.op_trace.specs.Visit.{gives, with_turns}
 use Rattle.op_machine.specs.declared.core_state.Core.{Core}
 use Rattle.op_machine.specs.declared.core_state.Ending.{Ending}

@@ -20,3 +20,5 @@ pub use store::{Goal, Store};
 pub use turn::{Cause, MachineFault, Turn};
 pub use view::{EventView, SolutionView};
 
+#[cfg(test)]
+mod tests;

@@ -46,7 +46,13 @@ impl Machine {
 
     /// A machine before the first turn of a goal's run over the clauses of a store: the run may take `budget` steps,
     /// from 1 to 1,000,000,000, and ends at the solution numbered `wanted`, from 1, or at none for 0.
-    pub fn start(alloc: Global, store: Store, goal: Goal, budget: u64, wanted: u64) -> Result<Machine, Memory>
+    pub fn start(
+        alloc: Global,
+        store: Store,
+        goal: Goal,
+        budget: u64,
+        wanted: u64,
+    ) -> Result<Machine, Memory>
         requires goal { goal.name.0 < length store.names }
         requires some { 1 ≤ budget }
         requires limit { budget ≤ 1000000000 }
@@ -67,7 +73,11 @@ impl Machine {
 
     /// The next turn, or the ending, again each time. The ledger rises by the run's steps. After `Memory` the machine has
     /// ended, and answers so from then on.
-    pub fn next<H: Host, L: Ledger>(&mut self, host: &mut H, steps: &mut Steps<L>) -> Result<Turn, MachineFault>
+    pub fn next<H: Host, L: Ledger>(
+        &mut self,
+        host: &mut H,
+        steps: &mut Steps<L>,
+    ) -> Result<Turn, MachineFault>
         ensures answers { IfOk result (λ t. Answers t self.old self.new) }
         ensures cost { OnOk result (steps.new ≡ steps.old + (self.new.steps - self.old.steps)) }
         ensures later { OnOk result (self.old.steps ≤ self.new.steps) }

@@ -65,7 +65,13 @@ impl Core {
     }
 
     // A choice above the others.
-    pub(crate) fn push(&mut self, kind: FrameKind, call: u64, goal: Sym, rest: u64) -> Result<(), Memory>
+    pub(crate) fn push(
+        &mut self,
+        kind: FrameKind,
+        call: u64,
+        goal: Sym,
+        rest: u64,
+    ) -> Result<(), Memory>
         ensures frames { OnOk result (reverse self.new.frames.items ≡ record { kind = kind; call = call; goal = goal; rest = rest } ∷ reverse self.old.frames.items) }
         ensures rest { self.new ≡ record self.old { frames = self.new.frames } }
     {
@@ -169,7 +175,13 @@ impl Core {
     }
 
     // A choice of the clauses from a rule on, where there are any.
-    pub(crate) fn push_more(&mut self, rule: u64, call: u64, goal: Sym, rest: u64) -> Result<(), Memory>
+    pub(crate) fn push_more(
+        &mut self,
+        rule: u64,
+        call: u64,
+        goal: Sym,
+        rest: u64,
+    ) -> Result<(), Memory>
         requires frames { AreFrames self.old.store (length self.old.lists) (reverse self.old.frames.items) }
         requires there { rest < length self.old.lists }
         requires known { goal.0 < length self.old.store.names }
@@ -194,7 +206,7 @@ impl Core {
         requires calls { self.old.calls < 2 ^ 63 }
         ensures { IfOk result (λ step. (m : Barrier) → Advances self.old self.new
             (chosen (control_of_atom (name_at self.old.store.names goal.0)) (goal_named self.old.store goal.0) m
-                (items_in self.old.store self.old.lists rest) (choices_in self.old) [] (world_in self.old)) step) }
+            (items_in self.old.store self.old.lists rest) (choices_in self.old) [] (world_in self.old)) step) }
     {
         match self.store.kind(goal) {
             Kind::Truth => {
@@ -219,7 +231,7 @@ impl Core {
         requires steps { self.old.steps ≤ self.old.budget }
         ensures { IfOk result (λ step. (m : Barrier) → Advances self.old self.new (pay (setup_of self.old) 1 (world_in self.old)
             (chosen (control_of_atom (name_at self.old.store.names goal.0)) (goal_named self.old.store goal.0) m
-                (items_in self.old.store self.old.lists rest) (choices_in self.old) [])) step) }
+            (items_in self.old.store self.old.lists rest) (choices_in self.old) [])) step) }
     {
         if !self.spend() {
             return Ok(Step::Silent);
@@ -228,7 +240,14 @@ impl Core {
     }
 
     // A goal and the rest of a body are put before a list.
-    pub(crate) fn split(&mut self, goal: Sym, rule: u64, from: u64, barrier: u64, rest: u64) -> Result<(), Memory>
+    pub(crate) fn split(
+        &mut self,
+        goal: Sym,
+        rule: u64,
+        from: u64,
+        barrier: u64,
+        rest: u64,
+    ) -> Result<(), Memory>
         requires good { IsGood self.old }
         requires there { rest < length self.old.lists }
         requires known { goal.0 < length self.old.store.names }
@@ -256,7 +275,13 @@ impl Core {
     }
 
     // The goals of a body from one on are selected: the last goal alone, or the first and the rest.
-    pub(crate) fn select_body(&mut self, rule: u64, from: u64, barrier: u64, rest: u64) -> Result<Step, Memory>
+    pub(crate) fn select_body(
+        &mut self,
+        rule: u64,
+        from: u64,
+        barrier: u64,
+        rest: u64,
+    ) -> Result<Step, Memory>
         requires good { IsGood self.old }
         requires there { rest < length self.old.lists }
         requires body { IsItem self.old.store (item.Body rule from barrier) }
@@ -278,7 +303,13 @@ impl Core {
     }
 
     // A rule for the goal of a box is tried: a step for it and one for the pair of goal and head, which match.
-    pub(crate) fn attempt(&mut self, rule: u64, call: u64, goal: Sym, rest: u64) -> Result<Step, Memory>
+    pub(crate) fn attempt(
+        &mut self,
+        rule: u64,
+        call: u64,
+        goal: Sym,
+        rest: u64,
+    ) -> Result<Step, Memory>
         requires good { IsGood self.old }
         requires there { rest < length self.old.lists }
         requires known { goal.0 < length self.old.store.names }
@@ -293,7 +324,13 @@ impl Core {
     }
 
     // The pair of goal and head.
-    pub(crate) fn meet(&mut self, rule: u64, call: u64, goal: Sym, rest: u64) -> Result<Step, Memory>
+    pub(crate) fn meet(
+        &mut self,
+        rule: u64,
+        call: u64,
+        goal: Sym,
+        rest: u64,
+    ) -> Result<Step, Memory>
         requires good { IsGood self.old }
         requires there { rest < length self.old.lists }
         requires known { goal.0 < length self.old.store.names }

@@ -12,7 +12,13 @@ use std::alloc::Global;
 
 impl Core {
     // Before the first move of a goal's run.
-    pub(crate) fn begin(alloc: Global, store: Store, goal: Goal, budget: u64, wanted: u64) -> Result<Core, Memory>
+    pub(crate) fn begin(
+        alloc: Global,
+        store: Store,
+        goal: Goal,
+        budget: u64,
+        wanted: u64,
+    ) -> Result<Core, Memory>
         requires goal { goal.name.0 < length store.names }
         requires limit { budget ≤ 1000000000 }
         ensures begun { IfOk result (IsBegun store goal.name.0 budget wanted) }

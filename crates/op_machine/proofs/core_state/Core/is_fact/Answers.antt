@@ -8,4 +8,4 @@ pub returns-clause-fact : goal.returns-clause-fact
 returns-clause-fact c =
     let names = c.args.self.now.store.names in
     sym (is_true-many (map (name_at names) (rule_at c.args.self.now.store.rules c.args.rule).1)
-      (omega (arith, length-names names (rule_at c.args.self.now.store.rules c.args.rule).1, c.goal_count-count.ensures)))
+    (omega (arith, length-names names (rule_at c.args.self.now.store.rules c.args.rule).1, c.goal_count-count.ensures)))

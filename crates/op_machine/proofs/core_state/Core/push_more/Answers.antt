@@ -1,5 +1,4 @@
-use Rattle.std.proofs.Common.{◌≡◌, List, map, sym, ap, ◌∙◌, subst, reverse, [], ◌∷◌, arith}
-use Rattle.op_trace.specs.Visit as visit
+use Rattle.std.proofs.Common.{List, map, sym, ap, ◌∙◌, [], arith}
 use Rattle.op_machine.specs.declared.frame.Frame.{Frame}
 use Rattle.op_machine.specs.declared.core_state.Core.{Core}
 use Rattle.op_machine.specs.Core.{choices_in, choice_of, items_in}
@@ -11,8 +10,8 @@ pub returns-in_ok-push-clause-choices : goal.returns-in_ok-push-clause-choices
 returns-in_ok-push-clause-choices c =
     let old : Core = c.args.self.now in
     ap choices_in c.in_ok-push.ensures.rest
-      ∙ (ap (λ (F : List Frame). map (choice_of old.store old.lists) F) c.in_ok-push.ensures.frames
-      ∙ sym (with_more-here old.store c.args.goal.0 c.args.rule c.args.call (goal_named old.store c.args.goal.0) [] (items_in old.store old.lists c.args.rest) (choices_in old) (omega (arith, c.if-rule-len.true, c.len.ensures)) (c.requires.here (omega (arith, c.if-rule-len.true, c.len.ensures)))))
+    ∙ (ap (λ (F : List Frame). map (choice_of old.store old.lists) F) c.in_ok-push.ensures.frames
+    ∙ sym (with_more-here old.store c.args.goal.0 c.args.rule c.args.call (goal_named old.store c.args.goal.0) [] (items_in old.store old.lists c.args.rest) (choices_in old) (omega (arith, c.if-rule-len.true, c.len.ensures)) (c.requires.here (omega (arith, c.if-rule-len.true, c.len.ensures)))))
 
 pub returns-else-rule-len-clause-choices : goal.returns-else-rule-len-clause-choices
 returns-else-rule-len-clause-choices c =

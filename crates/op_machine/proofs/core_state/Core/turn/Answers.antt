@@ -11,19 +11,19 @@ returns-in-Over c = ended-at c.args.self.now c.loop-self.self c.in-Over.ending c
 pub loop-self-smaller : goal.loop-self-smaller
 loop-self-smaller c =
     lighter-on c.loop-self.self c.advance.new.self c.loop-self.invariant.follows.sound c.in_default.not-Over
-      (subst (λ (s : Step). Advances c.loop-self.self c.advance.new.self (moved_from c.loop-self.self) s) c.in-Silent.is c.in_ok-advance.ensures)
+    (subst (λ (s : Step). Advances c.loop-self.self c.advance.new.self (moved_from c.loop-self.self) s) c.in-Silent.is c.in_ok-advance.ensures)
 
 pub loop-self-preserved : goal.loop-self-preserved
 loop-self-preserved c =
     walked-on c.args.self.now c.loop-self.self c.advance.new.self c.loop-self.invariant
-      (subst (λ (s : Step). Advances c.loop-self.self c.advance.new.self (moved_from c.loop-self.self) s) c.in-Silent.is c.in_ok-advance.ensures)
+    (subst (λ (s : Step). Advances c.loop-self.self c.advance.new.self (moved_from c.loop-self.self) s) c.in-Silent.is c.in_ok-advance.ensures)
 
 pub returns-in-Event : goal.returns-in-Event
 returns-in-Event c =
     showed-on c.args.self.now c.loop-self.self c.advance.new.self step.Event _ refl c.loop-self.invariant
-      (subst (λ (s : Step). Advances c.loop-self.self c.advance.new.self (moved_from c.loop-self.self) s) c.in-Event.is c.in_ok-advance.ensures)
+    (subst (λ (s : Step). Advances c.loop-self.self c.advance.new.self (moved_from c.loop-self.self) s) c.in-Event.is c.in_ok-advance.ensures)
 
 pub returns-in-Solution : goal.returns-in-Solution
 returns-in-Solution c =
     showed-on c.args.self.now c.loop-self.self c.advance.new.self step.Solution _ refl c.loop-self.invariant
-      (subst (λ (s : Step). Advances c.loop-self.self c.advance.new.self (moved_from c.loop-self.self) s) c.in-Solution.is c.in_ok-advance.ensures)
+    (subst (λ (s : Step). Advances c.loop-self.self c.advance.new.self (moved_from c.loop-self.self) s) c.in-Solution.is c.in_ok-advance.ensures)
