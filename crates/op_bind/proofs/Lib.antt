@@ -1,3 +1,4 @@
 mod Facts
 mod Seen
 mod Undoing
+mod Loading

@@ -69,3 +69,8 @@ ArePairs n (p ∷ ps) = (p.0 < n) × (p.1 < n) × ArePairs n ps
 abbrev pub IsBindTurn : Bool → State → State → ℕ → ℕ → ℕ → Type 0
 IsBindTurn went old new v r c =
     (ps : Pairs ℕ) → bind_turn v (term_at old.terms r) (bindings old) ps ≡ (if went then goes (bindings new) ps c else clash c)
+
+-- the pairs of two lists
+abbrev pub zip : List ℕ → List ℕ → List (ℕ × ℕ)
+zip (x ∷ xs) (y ∷ ys) = (x, y) ∷ zip xs ys
+zip _ _ = []

@@ -5,6 +5,7 @@ mod bindings;
 mod load;
 mod places;
 mod step;
+mod unify;
 
 pub use bindings::Bindings;
 pub use places::{Clause, Mark, Ref, Unified};
