@@ -68,4 +68,67 @@ impl Bindings {
         self.bind(v, r)?;
         Ok(true)
     }
+
+    // One pair, whose terms stand at two nodes: what it leaves goes on top of the other pairs. Whether the two can be equal.
+    fn take_pair(
+        &mut self,
+        a: u64,
+        b: u64,
+        todo: &mut Vec<(u64, u64)>,
+        fuel: &mut Fuel,
+    ) -> Result<bool, WalkFault>
+        requires a_there { a < length self.old.terms }
+        requires b_there { b < length self.old.terms }
+        requires todo_there { ArePairs (length self.old.terms) (reverse todo.old.items) }
+        ensures turn { IfOk result (λ went. turn_of self.old todo.old.items a b
+            ≡ turned went self.new todo.new.items (fuel.old - fuel.new)) }
+        ensures paid { fuel.new ≤ fuel.old }
+        ensures spent { result ≡ Err WalkFault.Spent → fuel.old < steps_of (turn_of self.old todo.old.items a b) }
+        ensures later { IsLater self.old self.new }
+        ensures todo_there { OnOk result (ArePairs (length self.old.terms) (reverse todo.new.items)) }
+    {
+        let _ = &self.nodes;
+        fuel.spend(1)?;
+        let x = self.follow(a);
+        let y = self.follow(b);
+        match step_between(self.node_at(x), self.node_at(y), x, y) {
+            Step::Same => return Ok(true),
+            Step::Clash => return Ok(false),
+            Step::Bind(v, r) => return self.bind_checked(v, r, fuel),
+            Step::Parts => {
+                push_pairs(todo, self.nodes.parts(x), self.nodes.parts(y))?;
+                return Ok(true);
+            }
+        }
+    }
+
+    /// Makes two terms equal by binding variables, with the occurs check, or tells that nothing can. It takes a step for each
+    /// pair of nodes, and for each variable that is to be bound the size of the value. After No or a fault the bindings that
+    /// were made stay, until the caller undoes them.
+    pub fn unify(&mut self, a: &Ref, b: &Ref, fuel: &mut Fuel) -> Result<Unified, WalkFault>
+        requires a_there { a.now < length self.old.terms }
+        requires b_there { b.now < length self.old.terms }
+        ensures yes { result ≡ Ok Unified.Yes → unified fuel.old self.old (term_at self.old.terms a.now) (term_at self.old.terms b.now)
+            ≡ Some (Some (bindings self.new), fuel.new) }
+        ensures no { result ≡ Ok Unified.No → unified fuel.old self.old (term_at self.old.terms a.now) (term_at self.old.terms b.now)
+            ≡ Some (None, fuel.new) }
+        ensures spent { result ≡ Err WalkFault.Spent → unified fuel.old self.old (term_at self.old.terms a.now) (term_at self.old.terms b.now)
+            ≡ None }
+        ensures later { IsLater self.old self.new }
+        ensures grows { Grows self.old self.new }
+
+        // What that means: equal values, or none that anything makes equal.
+        ensures equal { result ≡ Ok Unified.Yes → value_of self.new a.now ≡ value_of self.new b.now }
+        ensures none { result ≡ Ok Unified.No → (θ : ℕ → SpecTerm ℕ) → Respects θ (bindings self.old)
+            → instance_of θ (term_at self.old.terms a.now) ≡ instance_of θ (term_at self.old.terms b.now) → ⊥ }
+    {
+        let mut todo = Vec::new(self.alloc);
+        todo.push((a.at, b.at))?;
+        'pairs: while let Some((x, y)) = todo.pop() {
+            if !self.take_pair(x, y, &mut todo, fuel)? {
+                return Ok(Unified::No);
+            }
+        }
+        Ok(Unified::Yes)
+    }
 }

@@ -1,0 +1,1 @@
+-- One turn of unifying: what two nodes that were followed come to.

@@ -1,0 +1,1 @@
+-- The turns of unifying, one after another.
