@@ -213,7 +213,7 @@ mark-good s m t b r =
     }
 
 -- a node that is followed
-var-of : (t : Term ℕ) (v : ℕ) → nodes.Var v ≡ head t → t ≡ var v
+pub var-of : (t : Term ℕ) (v : ℕ) → nodes.Var v ≡ head t → t ≡ var v
 var-of (var w) v h = let e : v ≡ w = cc in cc
 var-of (int i) v h = cc
 var-of (node f no_args) v h = cc

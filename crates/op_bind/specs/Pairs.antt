@@ -42,10 +42,6 @@ pub record IsLater (old new : State) : Type 0 where
 abbrev pub turn_of : State → List (ℕ × ℕ) → ℕ → ℕ → Turn ℕ
 turn_of s todo a b = turn nat_eq (bindings s) (term_at s.terms a) (term_at s.terms b) (stack_pairs s.terms todo)
 
-abbrev pub steps_of : Turn ℕ → ℕ
-steps_of (clash c) = c
-steps_of (goes σ ps c) = c
-
 -- what a turn came to
 abbrev pub turned : Bool → State → List (ℕ × ℕ) → ℕ → Turn ℕ
 turned went s todo c = if went then goes (bindings s) (stack_pairs s.terms todo) c else clash c

@@ -1,12 +1,12 @@
 ghost use Rattle.std.specs.Prelude.{◌≡◌, ◌+◌, ◌-◌, ◌<◌, ◌≤◌, ◌++◌, ℕ, length, map, reverse, OnOk, OnErr, IfOk, None, Some, false};
 ghost use Rattle.op_logic.specs.Term.{Term as SpecTerm, occurs, size};
 ghost use Rattle.op_logic.specs.Bind.{lookup};
-ghost use Rattle.op_logic.specs.Laws.{instance_of, Respects};
+ghost use Rattle.op_logic.specs.Laws.{instance_of, Respects, steps_of};
 ghost use Rattle.op_term.specs.Places.{term_at};
 ghost use Rattle.op_bind.specs.State.{State, bindings, value_of};
 ghost use Rattle.op_bind.specs.Sound.{IsRanked};
 ghost use Rattle.op_bind.specs.Grown.{Grows};
-ghost use Rattle.op_bind.specs.Pairs.{IsLater, turn_of, turned, steps_of, unified, ArePairs, IsBindTurn, zip};
+ghost use Rattle.op_bind.specs.Pairs.{IsLater, turn_of, turned, unified, ArePairs, IsBindTurn, zip};
 
 use crate::bindings::Bindings;
 use crate::places::{Ref, Unified};

@@ -3,7 +3,7 @@ use Rattle.std.proofs.Common.{◌≡◌, ℕ, suc, zero, ◌+◌, ◌-◌, ◌==
 use Rattle.std.proofs.lemmas.Bool.{le-leb, lt-leb, leb-true, leb-false}
 use Rattle.op_logic.specs.Term.{Term, var, int, node, Args, no_args, arg, args_of, arity, occurs, size}
 use Rattle.op_logic.specs.Bind.{Bindings, apply, follow, Pairs, Turn, clash, goes, zip_args, bind_turn, same_head, meet, turn, Solved, add_steps, after, solve, within, unify}
-use Rattle.op_logic.specs.Laws.{pay}
+use Rattle.op_logic.specs.Laws.{pay, steps_of}
 use Rattle.op_logic.proofs.Tests.{by_test, by_order, if_true, if_false}
 
 within-there : {A : Type 0} (n : ℕ) (r : A × ℕ) → r.1 ≤ n → within n (Some r) ≡ Some (r.0, n - r.1)
@@ -23,10 +23,6 @@ module _ {N : Type 0} where
           (λ k. within-over n (r.0, c + r.1) k ∙ sym (if_true _ _ _ (le-leb c n l) ∙ within-over (n - c) r (omega arith)))
           (λ k. let e : n - (c + r.1) ≡ (n - c) - r.1 = omega arith in
               within-there n (r.0, c + r.1) k ∙ (ap (λ m. Some (r.0, m)) e ∙ sym (if_true _ _ _ (le-leb c n l) ∙ within-there (n - c) r (omega arith)))))
-
-  abbrev pub steps_of : Turn N → ℕ
-  steps_of (clash c) = c
-  steps_of (goes σ ps c) = c
 
   bind-paid : (v : ℕ) (t : Term N) (σ : Bindings N) (ps : Pairs N) → 0 < steps_of (bind_turn v t σ ps)
   bind-paid v t σ ps =

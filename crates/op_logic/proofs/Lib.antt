@@ -6,3 +6,4 @@ pub mod Followed
 pub mod Solving
 pub mod General
 pub mod Counting
+pub mod Unified

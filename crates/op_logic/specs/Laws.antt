@@ -34,6 +34,11 @@ abbrev pub Unifies : {N : Type 0} → (ℕ → Term N) → Pairs N → Type 0
 Unifies θ [] = Unit {0}
 Unifies θ (p ∷ ps) = (instance_of θ p.0 ≡ instance_of θ p.1) × Unifies θ ps
 
+-- the steps that a turn counts
+abbrev pub steps_of : {N : Type 0} → Turn N → ℕ
+steps_of (clash c) = c
+steps_of (goes σ ps c) = c
+
 -- what a turn comes to, with so many steps left before it
 abbrev pub pay : {N : Type 0} → ℕ → Turn N → (ℕ → Bindings N → Pairs N → Option (Solved N)) → Option (Solved N)
 pay left (clash c) rest = if nat_le c left then Some (None, left - c) else None
