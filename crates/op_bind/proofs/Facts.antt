@@ -258,3 +258,9 @@ module _ (ts : List (Term ℕ)) (ps : List (ℕ × ℕ)) (table : List (Option �
 pub args-within : (n : ℕ) (ts : List (Term ℕ)) → AllWithin n ts → (ps : List ℕ) → All (λ p. p < length ts) ps → ArgsWithin n (args_at ts ps)
 args-within n ts h [] l = tt
 args-within n ts h (p ∷ ps) l = (AllWithin-at n ts p h (l 0 0 (omega arith)), args-within n ts h ps (λ k d m. l (suc k) d (omega arith)))
+
+-- terms that join change no binding
+pub bindings-kept : (n : ℕ) (ts us new : List (Term ℕ)) (ps : List (ℕ × ℕ)) → AreBound n ts ps → new ≡ ts ++ us → resolved new ps ≡ resolved ts ps
+bindings-kept n ts us new ps b e =
+    ap (λ (xs : List (Term ℕ)). resolved xs ps) e
+    ∙ resolved-same (length ts) ts (ts ++ us) (λ r h. get_or_append_left ts us (int (pos 0)) r h) ps (refs-there n ts ps b)

@@ -6,3 +6,6 @@ mod Weighing
 mod Zipping
 mod Turning
 mod Unifying
+mod Growing
+mod Renaming
+mod Building

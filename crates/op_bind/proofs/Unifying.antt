@@ -16,7 +16,7 @@ use Rattle.op_bind.specs.Grown.{Grows}
 use Rattle.op_bind.specs.Pairs.{pairs_of, stack_pairs, IsLater, turn_of, turned, unified, ArePairs}
 use Rattle.op_bind.proofs.Facts.{reverse-push}
 
-oldest-oldest : (n m : ℕ) (ps : List (ℕ × ℕ)) → n ≤ m → m ≤ length ps → oldest n (oldest m ps) ≡ oldest n ps
+pub oldest-oldest : (n m : ℕ) (ps : List (ℕ × ℕ)) → n ≤ m → m ≤ length ps → oldest n (oldest m ps) ≡ oldest n ps
 oldest-oldest n m ps h k =
     let l : length (oldest m ps) ≡ m = omega (arith, length-drop (length ps - m) ps) in
     let e : (length ps - m) + (length (oldest m ps) - n) ≡ length ps - n = omega arith in

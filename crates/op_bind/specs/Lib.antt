@@ -3,3 +3,4 @@ pub mod Sound
 pub mod Grown
 pub mod Loaded
 pub mod Pairs
+pub mod Built

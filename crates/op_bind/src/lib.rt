@@ -4,6 +4,8 @@
 mod bindings;
 mod load;
 mod places;
+mod rename;
+mod resolve;
 mod step;
 mod unify;
 

@@ -19,3 +19,8 @@ invariant_of-self-2 c =
     subst (λ (us : List (Term ℕ)). IsSound us (reverse c.self.inside.trail.items) c.self.inside.table.items) (sym c.in_ok-at.ensures.ok)
     (Facts.sound-append ts (node c.args.name.0 (args_at ts c.deref.result.now) ∷ []) (reverse c.self.inside.trail.items) c.self.inside.table.items c.self.invariant
     (Facts.args-within n ts c.self.invariant.within c.deref.result.now here, tt))
+
+pub returns-clause-bindings : goal.returns-clause-bindings
+returns-clause-bindings c =
+    Facts.bindings-kept (length c.self.inside.table.items) c.self.inside.nodes _ c.compound.new.self (reverse c.self.inside.trail.items) c.self.invariant.are_bound c.in_ok-at.ensures.ok
+    ∙ ap bindings c.self.view_is

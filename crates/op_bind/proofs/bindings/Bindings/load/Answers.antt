@@ -27,3 +27,8 @@ returns-clause-value c =
     let value = ap (λ (us : List (Term ℕ)). term_at us c.root.result) c.nodes.ensures ∙ (ap (term_at whole.terms) c.root.ensures.root ∙ c.new-whole.ensures.value) in
     Loading.load-value c.self.inside.nodes c.nodes.result.now c.put_all.new.nodes c.len-base.result c.root.result c.args.first c.len.result c.args.term.now
     c.len-base.ensures (omega (arith, ap length c.nodes.ensures, c.root.ensures.place)) c.in_ok-put_all.ensures.ok value within
+
+pub returns-clause-bindings : goal.returns-clause-bindings
+returns-clause-bindings c =
+    Facts.bindings-kept (length c.self.inside.table.items) c.self.inside.nodes _ c.put_all.new.nodes (reverse c.self.inside.trail.items) c.self.invariant.are_bound c.in_ok-put_all.ensures.ok
+    ∙ ap bindings c.self.view_is

@@ -1,0 +1,1 @@
+-- A value's nodes are met, and it is built from them.
