@@ -1,4 +1,4 @@
-use Rattle.std.proofs.Common.{◌≡◌, ℕ, ◌+◌, ◌-◌, ◌<◌, ◌≤◌, List, [], ◌∷◌, ◌++◌, length, take, drop, reverse, get_or, All, Option, Some, None, map, sym, ◌∙◌, ap, subst, refl, arith, Bool, true, false, Ok}
+use Rattle.std.proofs.Common.{◌≡◌, ℕ, ◌+◌, ◌-◌, ◌<◌, ◌≤◌, List, [], ◌∷◌, ◌++◌, length, take, drop, reverse, get_or, All, Option, Some, None, map, sym, ◌∙◌, ap, subst, refl, arith, Bool, true, false, Ok, rules}
 use Rattle.op_logic.specs.Term.{Term, var, node, size, occurs, IsWithin, shift, args_of, nth_arg, arity}
 use Rattle.op_logic.specs.Bind.{follow, lookup, apply}
 use Rattle.op_term.specs.Places.{term_at, args_at}
@@ -52,8 +52,8 @@ returns-in_err-unify-clause-spent c = λ q.
     let bound : h.bound ≡ a.bound = c.in_ok-head.ensures.bound ∙ ap (λ (s : State). s.bound) c.in_ok-first.ensures.ok in
     let value : term_at h.terms c.in_ok-head.head ≡ head = c.in_ok-head.ensures.value ∙ ap (λ (k : ℕ). shift k c.args.clause.now.head) c.in_ok-first.ensures.number in
     let same = Renaming.matched a h good grows bound g c.in_ok-head.head c.args.fuel.now head c.requires.there value in
-    let e = c.from_residual-in_err-unify.ensures in
-    ?
+    let t : unified c.args.fuel.now h (term_at h.terms g) (term_at h.terms c.in_ok-head.head) ≡ None = search rules in
+    ap (with_variables n) (sym same ∙ t)
 
 pub returns-in_err-spend-in-Yes-clause-spent : goal.returns-in_err-spend-in-Yes-clause-spent
 returns-in_err-spend-in-Yes-clause-spent c = λ q.
