@@ -1,9 +1,8 @@
 -- States that follow one another.
-use Rattle.std.proofs.Common.{◌≡◌, ℕ, zero, suc, ◌+◌, ◌-◌, ◌<◌, ◌≤◌, List, [], ◌∷◌, ◌++◌, length, get_or, take, drop, All, pos, sym, ◌∙◌, ap, subst, refl, arith, length-drop}
+use Rattle.std.proofs.Common.{◌≡◌, ℕ, zero, suc, ◌-◌, ◌<◌, ◌≤◌, List, [], ◌∷◌, length, take, drop, All, pos, sym, ◌∙◌, ap, subst, refl, arith}
 use Rattle.std.proofs.lemmas.List.{get_or-take}
 use Rattle.std.proofs.Math.Seq.{take-length}
 use Rattle.op_logic.specs.Term.{Term, int}
-use Rattle.op_logic.specs.Bind.{Bindings}
 use Rattle.op_term.specs.Places.{term_at}
 use Rattle.op_bind.specs.State.{State, Marked, mark_of, undone, bindings, resolved, oldest, IsGoodMark}
 use Rattle.op_bind.specs.Grown.{Grows}
@@ -40,7 +39,7 @@ term-stays a b h r l =
 pub mark-stays : (a b : State) (m : Marked) → IsGoodMark a m → Grows a b → IsGoodMark b m
 mark-stays a b m g h =
     let e : oldest m.bound b.bound ≡ oldest m.bound a.bound =
-        sym (oldest-oldest m.bound (length a.bound) b.bound g.bound_there h.bound_there) ∙ ap (oldest m.bound) h.bound in
+    sym (oldest-oldest m.bound (length a.bound) b.bound g.bound_there h.bound_there) ∙ ap (oldest m.bound) h.bound in
     record {
       terms_there = omega (arith, g.terms_there, h.terms_there);
       bound_there = omega (arith, g.bound_there, h.bound_there);

@@ -1,5 +1,5 @@
 -- A term is brought in node by node.
-use Rattle.std.proofs.Common.{◌≡◌, ℕ, zero, suc, ◌+◌, ◌-◌, ◌<◌, ◌≤◌, Bool, true, false, List, [], ◌∷◌, ◌++◌, length, get_or, take, drop, map, All, pos, sym, ◌∙◌, ap, subst, refl, arith, length-append, ltb, Option}
+use Rattle.std.proofs.Common.{◌≡◌, ℕ, suc, ◌+◌, ◌<◌, ◌≤◌, List, [], ◌∷◌, ◌++◌, length, get_or, take, map, All, pos, sym, ◌∙◌, ap, subst, refl, arith, length-append, ltb, Option}
 use Rattle.std.proofs.lemmas.Bool.{lt-ltb, ltb-true}
 use Rattle.std.proofs.lemmas.List.{get_or-append-add, get_or-map, length-map, length-take-le, get_or-take, map-append, append_assoc, take_more}
 use Rattle.std.proofs.Math.Seq.{take-append_seam}
@@ -23,8 +23,8 @@ pub moved-below : (base at n : ℕ) → n ≡ base + at → (ps qs : List ℕ) �
 moved-below base at n e ps qs h q =
     subst (λ (xs : List ℕ). All (λ p. p < n) xs) (sym q)
     (λ k d l. let m : k < length ps = omega (arith, length-map ps (λ p. base + p)) in
-        let x : get_or (map (λ p. base + p) ps) k d ≡ base + get_or ps k d = get_or-map (λ p. base + p) ps k d d m in
-        omega (arith, h k d m))
+    let x : get_or (map (λ p. base + p) ps) k d ≡ base + get_or ps k d = get_or-map (λ p. base + p) ps k d d m in
+    omega (arith, h k d m))
 
 args-put : (base first count at : ℕ) (ts others : List (Term ℕ)) → IsPut base first count at ts others → (ps : List ℕ) → All (λ p. p < at) ps → args_at ts (map (λ p. base + p) ps) ≡ put_args first count (args_at others ps)
 args-put base first count at ts others i [] h = refl

@@ -1,13 +1,13 @@
 -- A clause's head is brought in and matched.
-use Rattle.std.proofs.Common.{◌≡◌, ℕ, zero, suc, ◌+◌, ◌-◌, ◌<◌, ◌≤◌, List, [], ◌∷◌, length, get_or, take, Option, Some, None, cond, leb, sym, ◌∙◌, ap, subst, refl, arith, Bool, true, false}
+use Rattle.std.proofs.Common.{◌≡◌, ℕ, ◌+◌, ◌-◌, ◌<◌, ◌≤◌, List, length, take, Option, Some, None, leb, sym, ◌∙◌, ap, subst, arith}
 use Rattle.std.proofs.lemmas.Bool.{le-leb, lt-leb}
 use Rattle.std.proofs.lemmas.List.{get_or-take, length-take-le}
 use Rattle.op_logic.specs.Term.{Term, var, int, node, Args, no_args, arg, IsWithin, ArgsWithin, shift, shift_args}
-use Rattle.op_logic.specs.Bind.{Bindings, Solved, unify}
+use Rattle.op_logic.specs.Bind.{Bindings, Solved}
 use Rattle.op_logic.proofs.Tests.{if_true, if_false}
 use Rattle.op_term.specs.Places.{term_at}
 use Rattle.op_bind.specs.State.{State, mark_of, undone, bindings, IsGoodMark}
-use Rattle.op_bind.specs.Sound.{AllWithin, AreBound, IsSound, ref_of}
+use Rattle.op_bind.specs.Sound.{AllWithin, AreBound, IsSound}
 use Rattle.op_bind.specs.Grown.{Grows}
 use Rattle.op_bind.specs.Pairs.{unified, with_variables}
 use Rattle.op_bind.proofs.Growing.{term-stays, bindings-stay, refs-of-mark, undone-later}

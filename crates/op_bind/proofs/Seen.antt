@@ -1,12 +1,11 @@
 -- The outermost node of a value, and its arguments.
-use Rattle.std.proofs.Common.{◌≡◌, ℕ, zero, suc, ◌+◌, ◌<◌, ◌≤◌, List, [], ◌∷◌, length, pos, sym, ◌∙◌, ap, subst, refl, arith}
+use Rattle.std.proofs.Common.{◌≡◌, ℕ, zero, suc, ◌<◌, sym, ◌∙◌, ap, refl, arith}
 use Rattle.op_logic.specs.Term.{Term, var, int, node, Args, no_args, arg, args_of, nth_arg, arity, size, args_size, occurs, occurs_args}
 use Rattle.op_logic.specs.Bind.{Bindings, apply, follow}
 use Rattle.op_logic.specs.Laws.{Acyclic}
 use Rattle.op_logic.proofs.Applied.{apply_args, apply-int, apply-node, apply_args-none, apply_args-arg, apply-free}
 use Rattle.op_logic.proofs.Followed.{apply-follow, follow-free}
 use Rattle.op_term.specs.Head.{head, head_named, sym as name_of}
-use Rattle.op_term.specs.declared.node.Node.{Node}
 use Rattle.op_term.specs.declared.node.Node.TheVariants as nodes
 
 module _ (σ : Bindings ℕ) where

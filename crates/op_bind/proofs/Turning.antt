@@ -1,12 +1,12 @@
 -- One turn of unifying: what two nodes that were followed come to.
-use Rattle.std.proofs.Common.{◌≡◌, ℕ, zero, suc, ◌+◌, ◌-◌, ◌==◌, ◌<◌, ◌≤◌, nat_eq, Bool, true, false, ◌&&◌, cond, ltb, List, [], ◌∷◌, ◌++◌, length, reverse, All, Option, Some, None, sym, ◌∙◌, ap, subst, refl, arith}
+use Rattle.std.proofs.Common.{◌≡◌, ℕ, zero, suc, ◌==◌, ◌<◌, ◌≤◌, nat_eq, Bool, true, false, ◌&&◌, cond, ltb, List, [], ◌∷◌, ◌++◌, length, reverse, All, Option, None, sym, ◌∙◌, ap, subst, refl, arith}
 use Rattle.std.specs.Ordering.{int_eq}
-use Rattle.op_logic.specs.Term.{Term, var, int, node, Args, no_args, arg, args_of, arity}
-use Rattle.op_logic.specs.Bind.{Bindings, lookup, follow, Pairs, Turn, clash, goes, zip_args, same_head, meet, turn}
+use Rattle.op_logic.specs.Term.{Term, var, int, node, no_args, arg, args_of, arity}
+use Rattle.op_logic.specs.Bind.{Bindings, lookup, follow, Pairs, goes, zip_args, meet}
 use Rattle.op_logic.proofs.Tests.{by_test, if_true, if_false}
 use Rattle.op_logic.proofs.Applied.{eq_of}
 use Rattle.op_logic.proofs.Followed.{follow-free}
-use Rattle.op_logic.proofs.Solving.{and_left, and_right}
+use Rattle.op_logic.proofs.Solving.{and_right}
 use Rattle.op_term.specs.Places.{term_at, args_at}
 use Rattle.op_term.specs.Head.{head}
 use Rattle.op_term.specs.declared.node.Node.{Node}
@@ -14,7 +14,6 @@ use Rattle.op_term.specs.declared.node.Node.TheVariants as nodes
 use Rattle.op_bind.specs.State.{State, bindings, resolved}
 use Rattle.op_bind.specs.Sound.{IsSound}
 use Rattle.op_bind.specs.Pairs.{pairs_of, stack_pairs, same_node, step_of, turn_of, zip, ArePairs}
-use Rattle.op_bind.specs.declared.step.Step.{Step}
 use Rattle.op_bind.specs.declared.step.Step.TheVariants.{Same, Clash, Bind, Parts}
 use Rattle.op_bind.proofs.Facts.{var-of, acyclic, chain-index}
 
@@ -28,10 +27,10 @@ step-bind (nodes.Var p) (nodes.Var q) x y v r h f g =
     by_test (p == q)
     (λ e. let z : Bind v r ≡ Same = h ∙ if_true (p == q) Same _ e in cc)
     (λ e. by_test (ltb p q)
-        (λ l. let z : Bind v r ≡ Bind q x = h ∙ (if_false (p == q) Same _ e ∙ if_true (ltb p q) (Bind q x) (Bind p y) l) in
-            let i : v ≡ q = cc in g (ap (λ k. nodes.Var k) i))
-        (λ l. let z : Bind v r ≡ Bind p y = h ∙ (if_false (p == q) Same _ e ∙ if_false (ltb p q) (Bind q x) (Bind p y) l) in
-            let i : v ≡ p = cc in f (ap (λ k. nodes.Var k) i)))
+    (λ l. let z : Bind v r ≡ Bind q x = h ∙ (if_false (p == q) Same _ e ∙ if_true (ltb p q) (Bind q x) (Bind p y) l) in
+    let i : v ≡ q = cc in g (ap (λ k. nodes.Var k) i))
+    (λ l. let z : Bind v r ≡ Bind p y = h ∙ (if_false (p == q) Same _ e ∙ if_false (ltb p q) (Bind q x) (Bind p y) l) in
+    let i : v ≡ p = cc in f (ap (λ k. nodes.Var k) i)))
 step-bind (nodes.Var p) (nodes.Int j) x y v r h f g = let i : v ≡ p = cc in f (ap (λ k. nodes.Var k) i)
 step-bind (nodes.Var p) (nodes.Atom j) x y v r h f g = let i : v ≡ p = cc in f (ap (λ k. nodes.Var k) i)
 step-bind (nodes.Var p) (nodes.Struct j k) x y v r h f g = let i : v ≡ p = cc in f (ap (λ k. nodes.Var k) i)
@@ -118,7 +117,7 @@ module _ (s : State) (a b x y : ℕ) (reached_x : term_at s.terms x ≡ follow (
       let m : meet nat_eq t u σ qs ≡ goes σ (zip_args (args_of t) (args_of u) qs) 1 = (step-parts t u x y is σ qs).1 in
       let f : turn_of s todo a b ≡ meet nat_eq t u σ qs = ap (λ z. meet nat_eq z (follow σ (term_at s.terms b)) σ qs) (sym reached_x) ∙ ap (λ z. meet nat_eq t z σ qs) (sym reached_y) in
       let z : zip_args (args_of t) (args_of u) qs ≡ pairs_of s.terms (zip xs ys) ++ qs =
-          ap (λ w. zip_args w (args_of u) qs) (sym args_x) ∙ (ap (λ w. zip_args (args_at s.terms xs) w qs) (sym args_y) ∙ zip-pairs s.terms xs ys qs) in
+      ap (λ w. zip_args w (args_of u) qs) (sym args_x) ∙ (ap (λ w. zip_args (args_at s.terms xs) w qs) (sym args_y) ∙ zip-pairs s.terms xs ys qs) in
       let p : stack_pairs s.terms more ≡ pairs_of s.terms (zip xs ys) ++ qs = ap (pairs_of s.terms) e ∙ pairs-append s.terms (zip xs ys) (reverse todo) in
       f ∙ (m ∙ (ap (λ w. goes σ w 1) (z ∙ sym p) ∙ ap (λ w. goes σ (stack_pairs s.terms more) w) (sym k)))
 

@@ -1,13 +1,13 @@
 -- The turns of unifying, one after another.
-use Rattle.std.proofs.Common.{◌≡◌, ℕ, zero, suc, ◌+◌, ◌-◌, ◌<◌, ◌≤◌, nat_eq, Bool, true, false, cond, leb, List, [], ◌∷◌, ◌++◌, length, take, drop, reverse, Option, Some, None, sym, ◌∙◌, ap, subst, refl, arith, length-drop}
+use Rattle.std.proofs.Common.{◌≡◌, ℕ, ◌+◌, ◌-◌, ◌<◌, ◌≤◌, nat_eq, Bool, true, false, leb, List, [], ◌∷◌, ◌++◌, length, take, drop, reverse, Some, None, sym, ◌∙◌, ap, subst, refl, arith, length-drop}
 use Rattle.std.proofs.lemmas.Bool.{le-leb, lt-leb}
 use Rattle.std.proofs.lemmas.Bool.Decides.{Decides-eqb}
 use Rattle.std.proofs.lemmas.List.{drop-drop}
 use Rattle.std.proofs.Math.Seq.{take-length}
 use Rattle.op_logic.specs.Term.{Term}
-use Rattle.op_logic.specs.Bind.{Bindings, apply, Pairs, Turn, clash, goes, turn, Solved, unify}
+use Rattle.op_logic.specs.Bind.{apply, Turn, clash, goes, unify}
 use Rattle.op_logic.specs.Laws.{Acyclic, pay, steps_of, instance_of, Respects}
-use Rattle.op_logic.proofs.Tests.{by_order, if_true, if_false}
+use Rattle.op_logic.proofs.Tests.{if_true, if_false}
 use Rattle.op_logic.proofs.Counting.{unify-turn, turn-paid}
 use Rattle.op_logic.proofs.Unified.{unify-equal, unify-none}
 use Rattle.op_term.specs.Places.{term_at}

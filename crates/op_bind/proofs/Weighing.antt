@@ -1,7 +1,7 @@
 -- A value is walked with a stack of the terms that are still to be met.
-use Rattle.std.proofs.Common.{◌≡◌, ℕ, zero, suc, ◌+◌, ◌-◌, ◌==◌, ◌<◌, ◌≤◌, Bool, true, false, ◌||◌, List, [], ◌∷◌, ◌++◌, length, get_or, All, sym, ◌∙◌, ap, subst, refl, arith}
-use Rattle.op_logic.specs.Term.{Term, var, int, node, Args, no_args, arg, args_of, size, args_size, occurs, occurs_args}
-use Rattle.op_logic.specs.Bind.{Bindings, apply, follow}
+use Rattle.std.proofs.Common.{◌≡◌, ℕ, suc, ◌+◌, ◌==◌, ◌<◌, ◌≤◌, Bool, true, false, ◌||◌, List, [], ◌∷◌, ◌++◌, length, All, sym, ◌∙◌, ap, refl, arith}
+use Rattle.op_logic.specs.Term.{Term, var, int, node, args_of, size, args_size, occurs, occurs_args}
+use Rattle.op_logic.specs.Bind.{follow}
 use Rattle.op_logic.specs.Laws.{Acyclic}
 use Rattle.op_logic.proofs.Applied.{apply_args, apply_args-none, apply_args-arg}
 use Rattle.op_term.specs.Places.{term_at, args_at}
@@ -123,9 +123,9 @@ module _ (s : State) (v r start left : ℕ) (met : Bool) (rest : List ℕ) (next
         let q : Term ℕ = term_at s.terms at in
         let a : apply_args (bindings s) (args_of q) ≡ apply_args (bindings s) (args_at s.terms ps) = ap (apply_args (bindings s)) (sym args) in
         let n : size (value_of s next) ≡ suc (weight s ps) =
-            size-other (bindings s) acyclic (term_at s.terms next) q followed h ∙ (ap (λ us. suc (args_size us)) a ∙ ap suc (parts-weight s ps)) in
+        size-other (bindings s) acyclic (term_at s.terms next) q followed h ∙ (ap (λ us. suc (args_size us)) a ∙ ap suc (parts-weight s ps)) in
         let o : occurs v (value_of s next) ≡ in_some s v ps =
-            occurs-other (bindings s) acyclic (term_at s.terms next) v q followed h ∙ (ap (occurs_args v) a ∙ parts-in_some s v ps) in
+        occurs-other (bindings s) acyclic (term_at s.terms next) v q followed h ∙ (ap (occurs_args v) a ∙ parts-in_some s v ps) in
         record {
           there = below-append (length s.terms) rest ps (below-front (length s.terms) rest (next ∷ []) w.there) (below-from at (length s.terms) ps (omega arith) below);
           paid = omega (arith, weighing-paid, weight-append s rest ps);

@@ -1,5 +1,5 @@
 -- The pairs of two lists, pushed from the last one on.
-use Rattle.std.proofs.Common.{◌≡◌, ℕ, zero, suc, ◌+◌, ◌-◌, ◌<◌, ◌≤◌, List, [], ◌∷◌, ◌++◌, length, get_or, drop, reverse, sym, ◌∙◌, ap, subst, refl, arith, drop-cons, add-one}
+use Rattle.std.proofs.Common.{◌≡◌, ℕ, zero, suc, ◌+◌, ◌<◌, ◌≤◌, List, [], ◌∷◌, ◌++◌, length, get_or, drop, reverse, sym, ◌∙◌, ap, refl, arith}
 use Rattle.op_bind.specs.Pairs.{zip}
 use Rattle.op_bind.proofs.Facts.{reverse-push}
 

@@ -1,5 +1,5 @@
 -- A term that is built from its nodes, which stand each before its arguments' nodes, the last argument's first.
-use Rattle.std.specs.Prelude.{◌≡◌, ℕ, ◌-◌, ◌<◌, ◌≤◌, List, [], ◌∷◌, ◌++◌, length, take, drop, map}
+use Rattle.std.specs.Prelude.{ℕ, ◌-◌, ◌<◌, ◌≤◌, List, [], ◌∷◌, ◌++◌, length, take, drop, map}
 use Rattle.op_logic.specs.Term.{Term, var, int, node, Args, no_args, arg}
 use Rattle.op_term.specs.Places.{term_at}
 use Rattle.op_term.specs.Head.{head}

@@ -1,8 +1,8 @@
 -- Pairs that are still to be made equal, and what unifying leaves.
-use Rattle.std.specs.Prelude.{◌≡◌, ℕ, ◌+◌, ◌-◌, ◌<◌, ◌≤◌, ◌==◌, ◌&&◌, nat_eq, nat_lt, nat_le, Bool, true, false, if◌then◌else◌, List, [], ◌∷◌, reverse, length, Option, Some, None}
+use Rattle.std.specs.Prelude.{◌≡◌, ℕ, ◌-◌, ◌<◌, ◌≤◌, ◌==◌, ◌&&◌, nat_eq, nat_lt, nat_le, Bool, false, if◌then◌else◌, List, [], ◌∷◌, reverse, length, Option, Some, None}
 use Rattle.std.specs.Ordering.{int_eq}
 use Rattle.op_logic.specs.Term.{Term}
-use Rattle.op_logic.specs.Bind.{Bindings, Pairs, Turn, clash, goes, bind_turn, turn, Solved, unify}
+use Rattle.op_logic.specs.Bind.{Pairs, Turn, clash, goes, bind_turn, turn, Solved, unify}
 use Rattle.op_term.specs.Places.{term_at}
 use Rattle.op_term.specs.declared.node.Node.{Node}
 use Rattle.op_term.specs.declared.node.Node.TheVariants.{Var, Int, Atom, Struct}

@@ -98,7 +98,13 @@ impl Bindings {
     {
         let whole = Whole::new(term);
         let base = self.nodes.len();
-        put_all(self.alloc, &mut self.nodes, whole.nodes(), first, self.table.len() as u64)?;
+        put_all(
+            self.alloc,
+            &mut self.nodes,
+            whole.nodes(),
+            first,
+            self.table.len() as u64,
+        )?;
         let _end = self.nodes.len();
         Ok(Ref {
             at: base + whole.root(),

@@ -14,7 +14,12 @@ impl Bindings {
     /// Matches a goal with a clause's head, whose variables are numbered from the present count on, and gives the body. It
     /// takes the unification's steps, and one for each variable where the two match. Where they don't, None, no number is
     /// given out and all is as before.
-    pub fn rename(&mut self, clause: &Clause, goal: &Ref, fuel: &mut Fuel) -> Result<Option<Ref>, WalkFault>
+    pub fn rename(
+        &mut self,
+        clause: &Clause,
+        goal: &Ref,
+        fuel: &mut Fuel,
+    ) -> Result<Option<Ref>, WalkFault>
         requires there { goal.now < length self.old.terms }
         requires head { IsWithin clause.now.vars clause.now.head }
         requires body { IsWithin clause.now.vars clause.now.body }

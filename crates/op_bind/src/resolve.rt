@@ -1,4 +1,4 @@
-ghost use Rattle.std.specs.Prelude.{◌≡◌, ◌+◌, ◌<◌, ◌≤◌, ◌∷◌, [], ℕ, length, map, All, OnOk, IfOk};
+ghost use Rattle.std.specs.Prelude.{◌≡◌, ◌+◌, ◌<◌, ◌≤◌, ◌++◌, ◌∷◌, [], ℕ, length, drop, map, All, OnOk, IfOk};
 ghost use Rattle.op_logic.specs.Term.{size};
 ghost use Rattle.op_term.specs.Places.{term_at};
 ghost use Rattle.op_bind.specs.State.{value_of};
@@ -10,24 +10,43 @@ use op_base::Memory;
 use op_term::{Builder, Fuel, Node, Term, WalkFault};
 use std::alloc::Global;
 
-// A node joins what was made, with the arguments that stand last.
+// Makes a node of what was made, with the arguments that stand last, which are taken.
+fn make_node(node: Node, made: &mut Builder, stack: &mut Vec<u64>) -> Result<u64, Memory>
+    requires there { All (λ r. r < length made.old) stack.old.items }
+    requires args { HasArgs node (map (term_at made.old) stack.old.items) }
+    ensures place { IfOk result (λ at. at < length made.new) }
+    ensures there { OnOk result (All (λ r. r < length made.new) stack.new.items) }
+    ensures joined { IfOk result (λ at. map (term_at made.new) (stack.new.items ++ at ∷ [])
+        ≡ join node (map (term_at made.old) stack.old.items)) }
+{
+    match node {
+        Node::Var(v) => made.var(v),
+        Node::Int(i) => made.int(i),
+        Node::Atom(name) => made.atom(name),
+        Node::Struct(name, n) => {
+            let from = stack.len() - n as usize;
+            let at = made.compound(name, tail(stack, from))?;
+            stack.truncate(from);
+            return Ok(at);
+        }
+    }
+}
+
+fn tail(numbers: &[u64], from: usize) -> &[u64]
+    requires { from ≤ length numbers.now }
+    ensures { result.now ≡ drop from numbers.now }
+{
+    &numbers[from..]
+}
+
+// A node joins what was made.
 fn join_node(node: Node, made: &mut Builder, stack: &mut Vec<u64>) -> Result<(), Memory>
     requires there { All (λ r. r < length made.old) stack.old.items }
     requires args { HasArgs node (map (term_at made.old) stack.old.items) }
     ensures there { OnOk result (All (λ r. r < length made.new) stack.new.items) }
     ensures joined { OnOk result (map (term_at made.new) stack.new.items ≡ join node (map (term_at made.old) stack.old.items)) }
 {
-    let at = match node {
-        Node::Var(v) => made.var(v)?,
-        Node::Int(i) => made.int(i)?,
-        Node::Atom(name) => made.atom(name)?,
-        Node::Struct(name, n) => {
-            let from = stack.len() - n as usize;
-            let at = made.compound(name, &stack[from..])?;
-            stack.truncate(from);
-            at
-        }
-    };
+    let at = make_node(node, made, stack)?;
     stack.push(at)?;
     Ok(())
 }

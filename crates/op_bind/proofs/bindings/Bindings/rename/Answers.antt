@@ -1,27 +1,11 @@
-use Rattle.std.proofs.Common.{◌≡◌, ℕ, ◌+◌, ◌-◌, ◌<◌, ◌≤◌, List, [], ◌∷◌, ◌++◌, length, take, drop, reverse, get_or, All, Option, Some, None, map, sym, ◌∙◌, ap, subst, refl, arith, Bool, true, false, Ok, rules}
-use Rattle.op_logic.specs.Term.{Term, var, node, size, occurs, IsWithin, shift, args_of, nth_arg, arity}
-use Rattle.op_logic.specs.Bind.{follow, lookup, apply}
-use Rattle.op_term.specs.Places.{term_at, args_at}
-use Rattle.op_term.specs.Head.{head}
-use Rattle.op_bind.specs.State.{State, bindings, value_of, resolved, undone, mark_of, oldest, IsGoodMark, Marked}
-use Rattle.op_bind.specs.Sound.{IsSound, AreBound, AllWithin, ref_of}
-use Rattle.op_logic.specs.Laws.{Acyclic}
-use Rattle.op_bind.specs.Loaded.{put, put_args, IsPut}
-use Rattle.op_bind.proofs.Facts
-use Rattle.op_bind.proofs.Seen
-use Rattle.op_bind.proofs.Undoing
-use Rattle.op_bind.proofs.Loading
-use Rattle.op_bind.proofs.Weighing
-use Rattle.op_bind.proofs.Zipping
-use Rattle.op_bind.proofs.Turning
+use Rattle.std.proofs.Common.{◌≡◌, ℕ, ◌+◌, Some, None, sym, ◌∙◌, ap, subst, refl, Ok, rules}
+use Rattle.op_logic.specs.Term.{IsWithin, shift}
+use Rattle.op_term.specs.Places.{term_at}
+use Rattle.op_bind.specs.State.{State, bindings, IsGoodMark, Marked}
 use Rattle.op_bind.proofs.Growing
 use Rattle.op_bind.proofs.Renaming
-use Rattle.op_bind.proofs.Building
-use Rattle.op_bind.specs.Built.{visit, visit_args, args_from, join, built, HasArgs, CanBuild, heads}
 use Rattle.op_bind.specs.Pairs.{with_variables}
-use Rattle.op_bind.specs.Grown.{Grows}
-use Rattle.op_bind.proofs.Unifying
-use Rattle.op_bind.specs.Pairs.{zip, IsLater, turn_of, turned, unified}
+use Rattle.op_bind.specs.Pairs.{unified}
 use Rattle.op_bind.proofs.bindings.Bindings.rename.Goals as goal
 
 pub load-requires : goal.load-requires
@@ -36,7 +20,7 @@ load-requires-in-Yes c =
     let a = c.args.self.now in
     let n = c.args.clause.now.vars in
     let count : c.unify.new.self.count ≡ c.in_ok-first.first + n =
-        c.in_ok-unify.ensures.later.count ∙ (c.in_ok-head.ensures.count ∙ (ap (λ (s : State). s.count) c.in_ok-first.ensures.ok ∙ ap (λ k. k + n) (sym c.in_ok-first.ensures.number))) in
+    c.in_ok-unify.ensures.later.count ∙ (c.in_ok-head.ensures.count ∙ (ap (λ (s : State). s.count) c.in_ok-first.ensures.ok ∙ ap (λ k. k + n) (sym c.in_ok-first.ensures.number))) in
     subst (λ (k : ℕ). IsWithin k (shift c.in_ok-first.first c.args.clause.now.body)) (sym count) (Renaming.shift-within n c.in_ok-first.first c.args.clause.now.body c.requires.body)
 
 pub returns-in_err-unify-clause-spent : goal.returns-in_err-unify-clause-spent

@@ -1,21 +1,11 @@
-use Rattle.std.proofs.Common.{◌≡◌, ℕ, ◌+◌, ◌-◌, ◌<◌, ◌≤◌, List, [], ◌∷◌, ◌++◌, length, take, drop, reverse, get_or, All, Option, Some, None, map, sym, ◌∙◌, ap, subst, refl, arith, Bool, true, false}
-use Rattle.op_logic.specs.Term.{Term, var, node, size, occurs, IsWithin, shift, args_of, nth_arg, arity}
-use Rattle.op_logic.specs.Bind.{follow, lookup, apply}
+use Rattle.std.proofs.Common.{◌≡◌, ℕ, ◌-◌, List, length, Option, ◌∙◌, ap, subst, refl, arith}
+use Rattle.op_logic.specs.Term.{args_of}
 use Rattle.op_term.specs.Places.{term_at, args_at}
 use Rattle.op_term.specs.Head.{head}
-use Rattle.op_bind.specs.State.{State, bindings, value_of, resolved, undone, mark_of, oldest, IsGoodMark, Marked}
-use Rattle.op_bind.specs.Sound.{IsSound, AreBound, AllWithin, ref_of}
-use Rattle.op_logic.specs.Laws.{Acyclic}
-use Rattle.op_bind.specs.Loaded.{put, put_args, IsPut}
-use Rattle.op_bind.proofs.Facts
-use Rattle.op_bind.proofs.Seen
-use Rattle.op_bind.proofs.Undoing
-use Rattle.op_bind.proofs.Loading
-use Rattle.op_bind.proofs.Weighing
-use Rattle.op_bind.proofs.Zipping
+use Rattle.op_bind.specs.State.{State}
+use Rattle.op_bind.specs.Sound.{IsSound}
 use Rattle.op_bind.proofs.Turning
-use Rattle.op_bind.proofs.Unifying
-use Rattle.op_bind.specs.Pairs.{step_of, zip, IsLater, turn_of, turned, unified}
+use Rattle.op_bind.specs.Pairs.{step_of}
 use Rattle.op_bind.proofs.bindings.Bindings.take_pair.Goals as goal
 
 pub bind_checked-requires-clause-given_out : goal.bind_checked-requires-clause-given_out

@@ -1,19 +1,10 @@
-use Rattle.std.proofs.Common.{◌≡◌, ℕ, ◌+◌, ◌-◌, ◌<◌, ◌≤◌, List, [], ◌∷◌, ◌++◌, length, take, drop, reverse, get_or, All, Option, Some, None, map, sym, ◌∙◌, ap, subst, refl, arith, Bool, true, false}
-use Rattle.op_logic.specs.Term.{Term, var, node, size, occurs, IsWithin, shift, args_of, nth_arg, arity}
-use Rattle.op_logic.specs.Bind.{follow, lookup, apply}
+use Rattle.std.proofs.Common.{◌≡◌, ℕ, List, sym, ◌∙◌, subst, refl, arith, Bool}
+use Rattle.op_logic.specs.Term.{args_of}
 use Rattle.op_term.specs.Places.{term_at, args_at}
-use Rattle.op_term.specs.Head.{head}
-use Rattle.op_bind.specs.State.{State, bindings, value_of, resolved, undone, mark_of, oldest, IsGoodMark, Marked}
-use Rattle.op_bind.specs.Sound.{IsSound, AreBound, AllWithin, ref_of}
+use Rattle.op_bind.specs.State.{State, bindings}
 use Rattle.op_logic.specs.Laws.{Acyclic}
-use Rattle.op_bind.specs.Loaded.{put, put_args, IsPut}
 use Rattle.op_bind.proofs.Facts
-use Rattle.op_bind.proofs.Seen
-use Rattle.op_bind.proofs.Undoing
-use Rattle.op_bind.proofs.Loading
 use Rattle.op_bind.proofs.Weighing
-use Rattle.op_bind.proofs.Zipping
-use Rattle.op_bind.specs.Pairs.{zip}
 use Rattle.op_bind.proofs.bindings.Bindings.weigh.Goals as goal
 
 pub returns-in_err-spend-clause-spent : goal.returns-in_err-spend-clause-spent
@@ -51,5 +42,5 @@ walk-preserved c =
     let y : Acyclic (bindings s) = subst (λ (x : State). Acyclic (bindings x)) c.self.view_is (Facts.acyclic _ _ _ c.self.invariant.are_bound) in
     let args = subst (λ (x : State). args_at x.terms c.parts.result.now ≡ args_of (term_at x.terms c.follow-at.result)) c.self.view_is c.parts.ensures.value in
     let n = Weighing.weighing-other s c.args.v c.args.r c.args.fuel.now c.walk.fuel c.walk.found c.pop.new.self.items c.in-Some.next w y c.follow-at.result c.spend.new.self c.follow-at.ensures.value c.in_ok-spend.ensures.ok
-        (λ x h. c.in_default-node_at.not-Var x (c.node_at.ensures ∙ h)) c.follow-at.ensures.there c.parts.result.now c.parts.ensures.below args in
+    (λ x h. c.in_default-node_at.not-Var x (c.node_at.ensures ∙ h)) c.follow-at.ensures.there c.parts.result.now c.parts.ensures.below args in
     (subst (λ (xs : List ℕ). Weighing.IsWeighing s c.args.v c.args.r c.args.fuel.now c.spend.new.self c.walk.found xs) (sym c.in_ok-extend_from_slice.ensures.items) n, omega (arith, c.walk.invariant.1, c.in_ok-spend.ensures.ok))
