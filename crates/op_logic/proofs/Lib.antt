@@ -7,3 +7,4 @@ pub mod Solving
 pub mod General
 pub mod Counting
 pub mod Unified
+pub mod Renaming

@@ -1,6 +1,6 @@
 -- What the laws of terms, bindings and unification say.
 use Rattle.std.specs.Prelude.{◌≡◌, ℕ, ◌+◌, ◌-◌, ◌<◌, ◌≤◌, nat_le, Bool, false, List, [], ◌∷◌, ◌++◌, if◌then◌else◌, Option, Some, None}
-use Rattle.op_logic.specs.Term.{Term, var, int, node, Args, no_args, arg, occurs}
+use Rattle.op_logic.specs.Term.{Term, var, int, node, Args, no_args, arg, occurs, rename}
 use Rattle.op_logic.specs.Bind.{Bindings, apply, lookup, Pairs, Turn, clash, goes, Solved}
 
 -- each binding in turn: its variable was not bound, and its term does not lead back to it
@@ -43,3 +43,20 @@ steps_of (goes σ ps c) = c
 abbrev pub pay : {N : Type 0} → ℕ → Turn N → (ℕ → Bindings N → Pairs N → Option (Solved N)) → Option (Solved N)
 pay left (clash c) rest = if nat_le c left then Some (None, left - c) else None
 pay left (goes σ ps c) rest = if nat_le c left then rest (left - c) σ ps else None
+
+-- other names in bindings, in pairs and in a result
+abbrev pub rename_bindings : {N M : Type 0} → (N → M) → Bindings N → Bindings M
+rename_bindings f [] = []
+rename_bindings f (p ∷ σ) = (p.0, rename f p.1) ∷ rename_bindings f σ
+
+abbrev pub rename_pairs : {N M : Type 0} → (N → M) → Pairs N → Pairs M
+rename_pairs f [] = []
+rename_pairs f (p ∷ ps) = (rename f p.0, rename f p.1) ∷ rename_pairs f ps
+
+abbrev pub rename_found : {N M : Type 0} → (N → M) → Option (Bindings N) → Option (Bindings M)
+rename_found f None = None
+rename_found f (Some σ) = Some (rename_bindings f σ)
+
+abbrev pub rename_solved : {N M : Type 0} → (N → M) → Option (Solved N) → Option (Solved M)
+rename_solved f None = None
+rename_solved f (Some r) = Some (rename_found f r.0, r.1)
