@@ -8,3 +8,4 @@ pub mod General
 pub mod Counting
 pub mod Unified
 pub mod Renaming
+pub mod Total

@@ -1,15 +1,15 @@
 -- Unification commutes with a renaming of the names that keeps which are equal.
-use Rattle.std.proofs.Common.{◌≡◌, ℕ, suc, zero, ◌+◌, ◌-◌, ◌==◌, leb, nat_eq, Bool, true, false, ◌&&◌, ◌||◌, cond, List, [], ◌∷◌, Option, Some, None, max, min, sym, ◌∙◌, ap, refl, ℤ, arith, Decides}
+use Rattle.std.proofs.Common.{◌≡◌, ℕ, suc, zero, ◌+◌, ◌-◌, ◌==◌, leb, nat_eq, Bool, true, false, ◌&&◌, cond, List, [], ◌∷◌, Option, Some, None, max, min, sym, ◌∙◌, ap, refl}
 use Rattle.std.specs.Ordering.{int_eq}
 use Rattle.std.specs.Str.{bytes_eq}
 use Rattle.std.proofs.lemmas.Bool.{false≢true}
 use Rattle.std.proofs.lemmas.Bool.Decides.{Decides-eqb}
 use Rattle.std.proofs.lemmas.Slice.Eq.{bytes_eq-Decides}
-use Rattle.op_logic.specs.Term.{Term, var, int, node, Args, no_args, arg, args_of, arity, occurs, occurs_args, size, args_size, replace, replace_args, rename, rename_args}
-use Rattle.op_logic.specs.Bind.{Bindings, apply, follow, follow_on, Pairs, Turn, clash, goes, zip_args, bind_turn, same_head, meet, turn, Solved, add_steps, after, solve, within, unify}
-use Rattle.op_logic.specs.Laws.{rename_bindings, rename_pairs, rename_found, rename_solved}
+use Rattle.op_logic.specs.Term.{Term, var, int, node, Args, no_args, arg, arity, occurs, occurs_args, size, args_size, replace, replace_args, rename, rename_args}
+use Rattle.op_logic.specs.Bind.{Bindings, apply, follow, follow_on, Pairs, Turn, clash, goes, zip_args, bind_turn, meet, turn, Solved, add_steps, after, solve, within, unify}
+use Rattle.op_logic.specs.Laws.{rename_bindings, rename_pairs, rename_solved}
 use Rattle.op_logic.specs.Names.{name_at, IsTable}
-use Rattle.op_logic.proofs.Tests.{by_test, if_true, if_false}
+use Rattle.op_logic.proofs.Tests.{by_test}
 use Rattle.op_logic.proofs.Naming.{same_number}
 
 if-map : {A B : Type 0} (g : A → B) (b : Bool) (x y : A) → g (cond b x y) ≡ cond b (g x) (g y)
@@ -103,8 +103,8 @@ module _ {N M : Type 0} (f : N → M) where
     meet-rename (node n ts) (int j) σ ps = refl
     meet-rename (node n ts) (node g us) σ ps =
         let b : (eq2 (f n) (f g) && (arity (rename_args f ts) == arity (rename_args f us))) ≡ (eq n g && (arity ts == arity us)) =
-            ap (λ x. x && (arity (rename_args f ts) == arity (rename_args f us))) (same n g)
-            ∙ (ap (λ x. eq n g && (x == arity (rename_args f us))) (arity-rename ts) ∙ ap (λ x. eq n g && (arity ts == x)) (arity-rename us)) in
+        ap (λ x. x && (arity (rename_args f ts) == arity (rename_args f us))) (same n g)
+        ∙ (ap (λ x. eq n g && (x == arity (rename_args f us))) (arity-rename ts) ∙ ap (λ x. eq n g && (arity ts == x)) (arity-rename us)) in
         let x : Turn M = goes (rename_bindings f σ) (zip_args (rename_args f ts) (rename_args f us) (rename_pairs f ps)) 1 in
         ap (λ c. cond c x (clash 1)) b
         ∙ (ap (λ qs. cond (eq n g && (arity ts == arity us)) (goes (rename_bindings f σ) qs 1) (clash 1)) (zip-rename ts us ps)
@@ -144,9 +144,9 @@ names-equal names t m n =
     by_test (nat_eq m n)
     (λ e. (bytes_eq-Decides (name_at names m) (name_at names n)).1 (ap (name_at names) ((Decides-eqb m n).0 e)) ∙ sym e)
     (λ e. by_test (bytes_eq (name_at names m) (name_at names n))
-        (λ q. let i : m ≡ n = same_number names t m n ((bytes_eq-Decides (name_at names m) (name_at names n)).0 q) in
-            absurd (false≢true (sym e ∙ (Decides-eqb m n).1 i)))
-        (λ q. q ∙ sym e))
+    (λ q. let i : m ≡ n = same_number names t m n ((bytes_eq-Decides (name_at names m) (name_at names n)).0 q) in
+    absurd (false≢true (sym e ∙ (Decides-eqb m n).1 i)))
+    (λ q. q ∙ sym e))
 
 -- from numbers to texts
 pub unify-named : (names : List (List ℕ)) → IsTable names → (left : ℕ) (σ : Bindings ℕ) (ps : Pairs ℕ) → unify bytes_eq left (rename_bindings (name_at names) σ) (rename_pairs (name_at names) ps) ≡ rename_solved (name_at names) (unify nat_eq left σ ps)
