@@ -1,11 +1,11 @@
-mod Facts
-mod Seen
-mod Undoing
+pub mod Facts
+pub mod Seen
+pub mod Undoing
 mod Loading
 mod Weighing
 mod Zipping
 mod Turning
-mod Unifying
-mod Growing
-mod Renaming
+pub mod Unifying
+pub mod Growing
+pub mod Renaming
 mod Building

@@ -4,3 +4,4 @@ pub mod Grown
 pub mod Loaded
 pub mod Pairs
 pub mod Built
+pub mod Marks

@@ -2,6 +2,7 @@
 #![tactic(auto)]
 
 mod bindings;
+mod laws;
 mod load;
 mod places;
 mod rename;
@@ -10,4 +11,8 @@ mod step;
 mod unify;
 
 pub use bindings::Bindings;
+pub use laws::{growth_joins, marks_nest, terms_stay, undone_is_then};
 pub use places::{Clause, Mark, Ref, Unified};
+
+#[cfg(test)]
+mod tests;
