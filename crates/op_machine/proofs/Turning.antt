@@ -16,11 +16,13 @@ use Rattle.op_machine.specs.Program.{Tables, goal_named}
 use Rattle.op_machine.specs.Core.{setup_of, world_in, state_of, state_with, items_in, choice_of, choice_by, IsSound, AreFrames, IsKind}
 use Rattle.op_machine.specs.Counted.{Counted, event_bound}
 use Rattle.op_machine.specs.Resume.{State, Going, Back, Over, Moved, owed, move, world_of}
+use Rattle.op_machine.specs.Scope.{InStep}
 use Rattle.op_machine.specs.Rows.{Advances, turns_of}
 use Rattle.op_machine.specs.Turned.{turns_in, Follows, Walked, Showed, Ended}
 use Rattle.op_machine.proofs.Clauses.{clauses_for-here}
 use Rattle.op_machine.proofs.Counting.{move-counted, bound-same}
 use Rattle.op_machine.proofs.MoveLaws.{move-row}
+use Rattle.op_machine.proofs.Scoping.{move-in_step}
 use Rattle.op_machine.proofs.Progress.{count_in, IsOnward, move-onward, move-lighter, weight, IsOver, HasClauses}
 
 pub world-with : (t : Tables) (L : List (List Listed)) (F : List Frame) (w : World) (q : Mode) → world_of (state_with t L F w q) ≡ w
@@ -76,6 +78,7 @@ advance-sound old new s h a = record {
   good = a.good;
   counted = subst (λ (x : Setup). Counted x (state_of new)) (setup-same old new a.budget a.wanted)
       (subst (λ (t : State). Counted (setup_of old) t) (sym a.state) (move-counted (setup_of old) (state_of old) h.counted));
+  in_step = subst InStep (sym a.state) (move-in_step (setup_of old) (state_of old) h.in_step);
   limit = omega (arith, h.limit, a.budget);
 }
 

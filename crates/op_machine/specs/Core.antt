@@ -20,6 +20,7 @@ use Rattle.op_machine.specs.Lists.{list_in}
 use Rattle.op_machine.specs.Program.{Tables, clauses, clauses_for, goal_named, body_from}
 use Rattle.op_machine.specs.Resume.{State, Going, Back, Over}
 use Rattle.op_machine.specs.Counted.{Counted}
+use Rattle.op_machine.specs.Scope.{InStep}
 
 abbrev pub item_term : Tables → Item → world.Item
 item_term t (item.Body i j m) = world.Goal (body_from t i j) (world.Call m)
@@ -108,4 +109,5 @@ pub record IsGood (c : Core) : Type 0 where
 pub record IsSound (c : Core) : Type 0 where
   pub good : IsGood c
   pub counted : Counted (setup_of c) (state_of c)
+  pub in_step : InStep (state_of c)
   pub limit : c.budget ≤ 1000000000

@@ -5,5 +5,6 @@ pub mod Machine
 pub mod Program
 pub mod Resume
 pub mod Rows
+pub mod Scope
 pub mod Turned
 pub mod View
