@@ -141,3 +141,28 @@ fn a_deep_term(rt: HostRuntime) -> Result<(), Fail> {
     assert_eq!(rt; fuel.left(), 999_998);
     Ok(())
 }
+
+// a term whose arguments are one and the same, so deep: as a tree it would have 2 to the depth nodes
+fn doubled(alloc: Global, depth: u64) -> Result<Term, Memory>
+    ensures { IfOk result (λ t. IsWithin 0 (shift 0 t)) }
+{
+    let mut builder = Builder::new(alloc);
+    let mut top = builder.atom(Sym(0))?;
+    'down: for _ in 0..depth {
+        top = builder.compound(Sym(1), &[top, top])?;
+    }
+    Ok(builder.finish(top))
+}
+
+// what is shared is brought in once, and only the fuel bounds a walk
+#[test]
+fn a_shared_term(rt: HostRuntime) -> Result<(), Fail> {
+    let term = doubled(rt.alloc(), 200)?;
+    let mut bindings = Bindings::new(rt.alloc());
+    let left = bindings.load(&term, 0)?;
+    let right = bindings.load(&term.copy()?, 0)?;
+    let mut fuel = Fuel::new(1000);
+    assert!(rt; bindings.unify(&left, &right, &mut fuel) == Err(WalkFault::Spent));
+    assert!(rt; bindings.resolve(&left, &mut Fuel::new(1000)).is_err());
+    Ok(())
+}
