@@ -2,8 +2,13 @@
 //! come on standard input, and each answer goes to standard output.
 #![tactic(auto)]
 
+mod answer;
 mod call;
+mod command;
+mod feed;
+mod line;
 mod status;
+mod talk;
 
 fn main(rt: HostRuntime) {
     let _ = rt;
