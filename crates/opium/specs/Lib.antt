@@ -1,3 +1,4 @@
+pub mod Behind
 pub mod Call
 pub mod Feeding
 pub mod Giving

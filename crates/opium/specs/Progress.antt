@@ -7,7 +7,7 @@ use Rattle.op_token.specs.Cut.{texts, behind_texts, IsOpen}
 use Rattle.opium.specs.declared.feed.Feed.{Feed}
 use Rattle.opium.specs.declared.status.Status.{Status}
 use Rattle.opium.specs.declared.status.Status.TheVariants as status
-use Rattle.opium.specs.Call.{Outcome, Session}
+use Rattle.opium.specs.Call.{Outcome, Line, Session}
 use Rattle.opium.specs.Moves.{at_start}
 use Rattle.opium.specs.Session.{answers_from, stand_after, joined}
 use Rattle.opium.specs.Promise.{WhenTold, DoneAs, CostsAs, BrokenAs, TooLongAs, RefusedAs, CountsAs, IsBroken, IsRefused, IsFaultless, HasFile, followed_texts}
@@ -39,6 +39,11 @@ pub record Holds (run : Run) (a b : Sight) (n before after : ℕ) (p : List ℕ)
   pub cost : after ≡ before + feed.machine.steps
   pub calm : Calm a b
 
+-- the words were refused
+abbrev pub IsUsage : Outcome → Type 0
+IsUsage (Line status.Usage text) = Unit {0}
+IsUsage o = ⊥
+
 -- the promises of a call whose outcome may be told
 pub record Leaves (o : Option Outcome) (s : Status) (a b : Sight) (before after : ℕ) : Type 0 where
   pub done : s ≡ status.Done → WhenTold o (λ x. WhenTold a.commands (λ bytes. DoneAs x bytes a.talk b.talk b.commands))
@@ -46,6 +51,7 @@ pub record Leaves (o : Option Outcome) (s : Status) (a b : Sight) (before after 
   pub refused : IsRefused s → WhenTold o (λ x. WhenTold a.commands (λ bytes. RefusedAs x s bytes a.talk b.talk b.commands))
   pub too_long : s ≡ status.TooLong → WhenTold o (λ x. WhenTold a.commands (λ bytes. TooLongAs x bytes a.talk b.talk b.commands))
   pub broken : IsBroken s → WhenTold o (λ x. WhenTold a.commands (λ bytes. BrokenAs x bytes a.talk b.talk b.commands))
+  pub usage : s ≡ status.Usage → WhenTold o IsUsage
   pub different : s ≡ status.Different → ⊥
   pub counts : CountsAs s a.reads b.reads a.writes b.writes
   pub input : b.input ≡ a.input
@@ -68,7 +74,7 @@ Goes run a n before b after p feed (Ok true) = Holds run a b (suc n) before afte
 Goes run a n before b after p feed (Ok false) = Holds run a b n before after p feed × IsAtEnd b.commands
 Goes run a n before b after p feed (Err s) = BreaksOff run s a b
 
--- a text that p ends with was answered, or the session was broken off
-abbrev pub AnswersText : Run → Sight → ℕ → Sight → ℕ → Result (Unit {0}) Status → Type 0
-AnswersText run a before b after (Ok x) = Unit {0}
-AnswersText run a before b after (Err s) = BreaksOff run s a b
+-- the last text was answered, or the session was broken off
+abbrev pub Ends : Run → Sight → ℕ → Sight → ℕ → Result (Unit {0}) Status → Type 0
+Ends run a before b after (Ok x) = Leaves (Some (Session run)) status.Done a b before after
+Ends run a before b after (Err s) = BreaksOff run s a b

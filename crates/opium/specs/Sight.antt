@@ -1,10 +1,11 @@
 -- What a desk shows at a moment, as far as a call of the program speaks of it, and what small steps do to it.
-use Rattle.std.specs.Prelude.{◌≡◌, ℕ, Bool, IsTrue, List, [], ◌∷◌, ◌++◌, length, take, Option, Some, None, Result, Ok, Err}
+use Rattle.std.specs.Prelude.{◌≡◌, ◌≤◌, ℕ, Bool, IsTrue, List, [], ◌∷◌, ◌++◌, length, take, Option, Some, None, Result, Ok, Err}
 use Rattle.std.specs.Io.KnownBytes.{Appends, Consumes, IsAtEnd}
 use Rattle.op_desk.specs.declared.chan.Chan.{Chan}
 use Rattle.op_desk.specs.declared.chan.Chan.TheVariants.{Commands, Input, Output, Talk, Note}
-use Rattle.op_desk.specs.Contents.{Known, Files, AppendsFront}
+use Rattle.op_desk.specs.Contents.{Known, Files, AppendsFront, IsFile, IsLonger, IsMissing}
 use Rattle.opium.specs.declared.status.Status.{Status}
+use Rattle.opium.specs.declared.status.Status.TheVariants as status
 use Rattle.opium.specs.Promise.{CountsAs, IsBroken, IsFaultless}
 
 -- what the channels that are read have left, what was written to the others, the files, and the faults so far
@@ -82,12 +83,60 @@ pub record SaysAll (a b : Sight) (bytes : List ℕ) : Type 0 where
   pub talk : Appends a.talk b.talk bytes
   pub commands : b.commands ≡ a.commands
 
+-- statuses of what could not be written
+abbrev pub IsUnwritten : Status → Type 0
+IsUnwritten status.Write = Unit {0}
+IsUnwritten status.Memory = Unit {0}
+IsUnwritten s = ⊥
+
 -- a front of them was
 pub record SaysFront (s : Status) (a b : Sight) (bytes : List ℕ) : Type 0 where
   pub fault : Fault s a b
+  pub unwritten : IsUnwritten s
   pub talk : AppendsFront a.talk b.talk bytes
   pub commands : b.commands ≡ a.commands
 
 abbrev pub Says : Sight → Sight → List ℕ → Result (Unit {0}) Status → Type 0
 Says a b bytes (Ok x) = SaysAll a b bytes
 Says a b bytes (Err s) = SaysFront s a b bytes
+
+-- the status of a call that ends by this one, where all could be written
+abbrev pub ended_as : Status → Result (Unit {0}) Status → Status
+ended_as s (Ok x) = s
+ended_as s (Err t) = t
+
+-- neither commands nor answers changed, and there was no fault
+pub record Untouched (a b : Sight) : Type 0 where
+  pub calm : Calm a b
+  pub talk : b.talk ≡ a.talk
+  pub commands : b.commands ≡ a.commands
+
+-- statuses of what could not be read
+abbrev pub IsUnread : Status → Type 0
+IsUnread status.Read = Unit {0}
+IsUnread status.Memory = Unit {0}
+IsUnread s = ⊥
+
+-- a file could not be read: a steady desk fails only where it is missing
+pub record Unread (name : List ℕ) (s : Status) (a b : Sight) : Type 0 where
+  pub unread : IsUnread s
+  pub quiet : Quiet a b
+  pub counts : CountsAs s a.reads b.reads a.writes b.writes
+  pub missing : IsTrue a.steady → s ≡ status.Read → IsMissing a.shelf name
+  pub talk : b.talk ≡ a.talk
+  pub commands : b.commands ≡ a.commands
+
+-- a whole file, or it is too long
+pub record ReadsFile (name bytes : List ℕ) (a b : Sight) : Type 0 where
+  pub untouched : Untouched a b
+  pub file : IsFile a.shelf name bytes
+  pub short : length bytes ≤ 16777216
+
+pub record ReadsTooLong (name : List ℕ) (a b : Sight) : Type 0 where
+  pub untouched : Untouched a b
+  pub long : IsLonger a.shelf name 16777216
+
+abbrev pub Reads : List ℕ → Sight → Sight → Result (Option (List ℕ)) Status → Type 0
+Reads name a b (Ok (Some bytes)) = ReadsFile name bytes a b
+Reads name a b (Ok None) = ReadsTooLong name a b
+Reads name a b (Err s) = Unread name s a b

@@ -7,6 +7,7 @@ mod call;
 mod command;
 mod feed;
 mod line;
+mod session;
 mod status;
 mod talk;
 
