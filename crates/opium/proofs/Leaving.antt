@@ -9,7 +9,7 @@ use Rattle.opium.specs.Session.{session_text}
 use Rattle.opium.specs.Promise.{WhenTold, BrokenAs, limit_line, CountsAs, IsBroken, IsFaultless, DoneAs, CostsAs, TooLongAs, RefusedAs, HasFile}
 use Rattle.opium.specs.Sight.{Sight, Quiet, Calm, Fault, SaysAll, SaysFront, Says, Untouched, Unread, ended_as}
 use Rattle.opium.specs.Progress.{Leaves, IsOutcome, IsUsage}
-use Rattle.opium.proofs.Holding.{appends_none, quiet_more, calm_more}
+use Rattle.opium.proofs.Holding.{appends_none, calm_start}
 use Rattle.opium.proofs.Saying.{prefix_take}
 
 -- nothing was said or taken
@@ -156,3 +156,6 @@ leaves_after o s a b c before after u l =
       note = l.note ∙ u.calm.quiet.note;
       faultless = λ t. l.faultless (u.calm.quiet.steady t);
     }
+
+pub untouched_start : (a : Sight) → Untouched a a
+untouched_start a = record { calm = calm_start a; talk = refl; commands = refl }

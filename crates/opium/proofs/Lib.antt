@@ -6,3 +6,4 @@ pub mod Holding
 pub mod NoEnd
 pub mod Finishing
 pub mod Leaving
+pub mod Outcomes
