@@ -3,16 +3,16 @@ use Rattle.std.proofs.Common.{◌≡◌, ℕ, zero, suc, ◌+◌, ◌-◌, ◌<�
 use Rattle.std.specs.Prelude.{slice_index_or}
 use Rattle.std.proofs.lemmas.Bool.Decides.{nat_tests}
 use Rattle.op_trace.specs.World.{World, Event, loaded}
-use Rattle.op_trace.specs.Run.{Run, events_of, worlds_of, world_at, steps_at}
+use Rattle.op_trace.specs.Run.{Run, events_of, worlds_of, steps_at}
 use Rattle.op_trace.specs.Ending as ending
 use Rattle.op_machine.specs.declared.core_state.Ending.{Ending}
 use Rattle.op_machine.specs.declared.core_state.Ending.TheVariants as outcome
-use Rattle.op_machine.specs.Machine.{Kept, to_come, ending_for, event_now, world_now, has_event}
+use Rattle.op_machine.specs.Machine.{Kept, to_come, ending_for, event_now, world_now}
 use Rattle.opium.specs.declared.feed.Feed.{Feed}
 use Rattle.opium.specs.Line.{event_line}
-use Rattle.opium.specs.Moves.{Stand, Found, At, No_event, Past_budget, next_from, moved, event_count, end_found}
+use Rattle.opium.specs.Moves.{Stand, At, next_from, moved, event_count, end_found}
 use Rattle.opium.specs.Session.{line_at}
-use Rattle.opium.specs.Feeding.{AtEnd, Looked, Feeds, ShowsEvent, ShowsEnd, Shows, Arrives, ArrivesAt, Finds, IsHere, next_of}
+use Rattle.opium.specs.Feeding.{AtEnd, Feeds, ShowsEvent, ShowsEnd, Shows, Arrives, ArrivesAt, Finds, IsHere, next_of}
 
 -- where a list goes on
 pub record GoesOn {X : Type 0} (xs : List X) (p : ℕ) (x : X) (ys : List X) : Type 0 where

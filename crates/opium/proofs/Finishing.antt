@@ -1,30 +1,29 @@
 -- How a session ends.
-use Rattle.std.proofs.Common.{◌≡◌, ℕ, zero, suc, ◌+◌, ◌-◌, ◌<◌, ◌≤◌, min, Bool, true, false, cond, List, [], ◌∷◌, ◌++◌, length, take, drop, Option, Some, None, Result, Ok, Err, IsTrue, refl, sym, ap, ◌∙◌, subst, arith, append_assoc, length-append}
+use Rattle.std.proofs.Common.{◌≡◌, ℕ, ◌+◌, ◌<◌, ◌≤◌, min, cond, List, [], ◌∷◌, ◌++◌, length, take, drop, Option, Some, None, Result, Ok, Err, refl, sym, ap, ◌∙◌, subst, arith, length-append}
 use Rattle.std.proofs.lemmas.List.{append-nil, take_at, drop_at}
 use Rattle.std.specs.Io.KnownBytes.{Appends, Consumes, IsAtEnd}
-use Rattle.op_desk.specs.Contents.{Known, AppendsFront}
+use Rattle.op_desk.specs.Contents.{Known}
 use Rattle.op_trace.specs.World.{loaded}
 use Rattle.op_trace.specs.Run.{Run, steps_at}
 use Rattle.op_machine.specs.declared.core_state.Ending.{Ending}
-use Rattle.op_token.specs.declared.piece.Piece.{Piece}
 use Rattle.op_token.specs.declared.piece.Piece.TheVariants.{Text, NoEnd, Empty}
 use Rattle.op_token.specs.Cut.{cut_of, text_in}
 use Rattle.opium.specs.declared.feed.Feed.{Feed}
 use Rattle.opium.specs.declared.status.Status.{Status}
 use Rattle.opium.specs.declared.status.Status.TheVariants as status
-use Rattle.opium.specs.Call.{Outcome, Session, channel_limit}
+use Rattle.opium.specs.Call.{Session, channel_limit}
 use Rattle.opium.specs.Moves.{Stand, at_start, event_count}
-use Rattle.opium.specs.Session.{is_next, answer_to, stand_after, commands_in, session_text, session_furthest}
+use Rattle.opium.specs.Session.{answer_to, stand_after, commands_in, session_text}
 use Rattle.opium.specs.Behind.{rest_texts}
-use Rattle.opium.specs.Promise.{WhenTold, BrokenAs, Broken, IsPrefix, limit_line, too_long_line, answered_text, CountsAs, IsFaultless, IsBroken, Finished, Costs, DoneAs, CostsAs, TooLongAs}
-use Rattle.opium.specs.Sight.{Sight, Quiet, Calm, Fault, SaysAll, SaysFront, Says, ended_as}
+use Rattle.opium.specs.Promise.{WhenTold, BrokenAs, Broken, IsPrefix, limit_line, too_long_line, answered_text, Costs, DoneAs, CostsAs, TooLongAs}
+use Rattle.opium.specs.Sight.{Sight, Calm, SaysAll, SaysFront, Says, ended_as}
 use Rattle.opium.specs.Feeding.{AtEnd, Looked, Feeds}
-use Rattle.opium.specs.Giving.{Pays, GivesAll, Gives, unreadable}
-use Rattle.opium.specs.Progress.{Cuts, Holds, BreaksOff, Leaves, Ends, said_to}
+use Rattle.opium.specs.Giving.{GivesAll, Gives, unreadable}
+use Rattle.opium.specs.Progress.{Holds, BreaksOff, Leaves, Ends, said_to}
 use Rattle.opium.proofs.Feeds.{le_true}
 use Rattle.opium.proofs.NoEnd.{no_end_is_no_next}
-use Rattle.opium.proofs.Saying.{stand_at, said_one, stand_more, enough_open, front_so_far, prefix_take, prefix_more, prefix_longer, prefix_self, commands_at_end}
-use Rattle.opium.proofs.Holding.{consumes_more, appends_more, appends_none, calm_more, quiet_more, fault_more}
+use Rattle.opium.proofs.Saying.{stand_at, said_one, stand_more, enough_open, front_so_far, prefix_take, prefix_more, prefix_longer, commands_at_end}
+use Rattle.opium.proofs.Holding.{appends_more, calm_more, fault_more}
 
 -- a session that was broken off
 pub leaves_broken : (run : Run) (s : Status) (a b : Sight) (before after : ℕ) → BreaksOff run s a b → Leaves (Some (Session run)) s a b before after
@@ -61,7 +60,8 @@ finishes run a b before after taken feed calm c end short talk f e = record {
   refused = λ h. absurd h;
   too_long = λ h. absurd cc;
   broken = λ h. absurd h;
-  usage = λ h. absurd cc; different = λ h. cc;
+  usage = λ h. absurd cc;
+  different = λ h. cc;
   counts = (calm.reads, calm.writes);
   input = calm.quiet.input;
   output = calm.quiet.output;
@@ -92,8 +92,8 @@ ends_empty run a b n before after p feed h end short e =
     let count = h.count in
     let cs : commands_in h.taken ≡ h.passed = commands_at_end h.passed h.taken p h.cuts h.unended ∙ ap (λ x. h.passed ++ rest_texts x p) e ∙ append-nil h.passed in
     finishes run a b before after h.taken feed h.calm h.commands end (omega arith)
-      (subst (λ cs. Appends a.talk b.talk (said_to run cs)) (sym cs) h.talk)
-      (subst (λ cs. Feeds run (stand_after run at_start cs) feed) (sym cs) h.feeds) h.cost
+    (subst (λ cs. Appends a.talk b.talk (said_to run cs)) (sym cs) h.talk)
+    (subst (λ cs. Feeds run (stand_after run at_start cs) feed) (sym cs) h.feeds) h.cost
 
 -- one text is left, and was answered
 ends_given : (run : Run) (a b c : Sight) (n before after paid : ℕ) (p text : List ℕ) (feed new : Feed) (h : Holds run a b n before after p feed) → IsAtEnd b.commands → n < channel_limit → rest_texts (cut_of p) p ≡ text ∷ []
@@ -102,12 +102,12 @@ ends_given run a b c n before after paid p text feed new h end short e g =
     let count = h.count in
     let cs : commands_in h.taken ≡ h.passed ++ text ∷ [] = commands_at_end h.passed h.taken p h.cuts h.unended ∙ ap (λ ts. h.passed ++ ts) e in
     finishes run a c before paid h.taken new (calm_more a b c h.calm g.says.calm)
-      (subst (λ k. Consumes a.commands k h.taken) (sym g.says.commands) h.commands)
-      (subst IsAtEnd (sym g.says.commands) end) (omega arith)
-      (subst (λ cs. Appends a.talk c.talk (said_to run cs)) (sym cs) (subst (Appends a.talk c.talk) (sym (said_one run h.passed text))
-        (appends_more a.talk b.talk c.talk (said_to run h.passed) (answer_to run (stand_at run h.passed) text).text h.talk g.says.talk)))
-      (subst (λ cs. Feeds run (stand_after run at_start cs) new) (sym cs) (subst (λ s. Feeds run s new) (sym (stand_more run at_start h.passed (text ∷ []))) g.feeds))
-      (let cost = h.cost in let pays = g.pays.cost in let later = g.pays.later in omega arith)
+    (subst (λ k. Consumes a.commands k h.taken) (sym g.says.commands) h.commands)
+    (subst IsAtEnd (sym g.says.commands) end) (omega arith)
+    (subst (λ cs. Appends a.talk c.talk (said_to run cs)) (sym cs) (subst (Appends a.talk c.talk) (sym (said_one run h.passed text))
+    (appends_more a.talk b.talk c.talk (said_to run h.passed) (answer_to run (stand_at run h.passed) text).text h.talk g.says.talk)))
+    (subst (λ cs. Feeds run (stand_after run at_start cs) new) (sym cs) (subst (λ s. Feeds run s new) (sym (stand_more run at_start h.passed (text ∷ []))) g.feeds))
+    (let cost = h.cost in let pays = g.pays.cost in let later = g.pays.later in omega arith)
 
 -- or could not be answered
 left_at_end : (run : Run) (commands left talk said : Known) (taken w : List ℕ) → Consumes commands left taken → IsAtEnd left → Appends talk said w
@@ -219,12 +219,16 @@ stops_at_limit run s a b c before after p feed h g = record {
     broken : (commands left : Known) → Consumes commands left h.taken → WhenTold commands (λ bytes. BrokenAs (Session run) bytes a.talk c.talk left)
     broken None left q = tt
     broken (Some bytes) None q = absurd q
-    broken (Some bytes) (Some rest) q =
-        (h.taken, rest, w, take g.talk.count too_long_line,
-          record { taken_is = q; front = subst (λ bytes. IsPrefix w (session_text run bytes)) (sym q) (front_so_far run h.passed h.taken p rest h.cuts); enough = enough_open run h.passed h.taken p h.cuts h.unended },
-          subst (IsPrefix (take g.talk.count too_long_line)) (sym line) (prefix_take g.talk.count too_long_line),
-          appends_more a.talk b.talk c.talk w (take g.talk.count too_long_line) h.talk g.talk.front,
-          refl)
+    broken (Some bytes) (Some rest) q = (
+      h.taken,
+      rest,
+      w,
+      take g.talk.count too_long_line,
+      record { taken_is = q; front = subst (λ bytes. IsPrefix w (session_text run bytes)) (sym q) (front_so_far run h.passed h.taken p rest h.cuts); enough = enough_open run h.passed h.taken p h.cuts h.unended },
+      subst (IsPrefix (take g.talk.count too_long_line)) (sym line) (prefix_take g.talk.count too_long_line),
+      appends_more a.talk b.talk c.talk w (take g.talk.count too_long_line) h.talk g.talk.front,
+      refl,
+    )
 
 -- the rest, as a session meets it
 pub text_ends : (run : Run) (a b c : Sight) (n before after paid f t : ℕ) (p text : List ℕ) (feed new : Feed) (r : Result (Unit {0}) Status) (h : Holds run a b n before after p feed) → IsAtEnd b.commands → n < channel_limit → cut_of p ≡ Text f t → text ≡ text_in (cut_of p) p

@@ -1,8 +1,8 @@
 -- A session between two bytes of its commands.
-use Rattle.std.proofs.Common.{◌≡◌, ℕ, zero, suc, ◌+◌, ◌-◌, ◌<◌, ◌≤◌, List, [], ◌∷◌, ◌++◌, length, take, drop, get_or, Option, Some, None, ◌⊎◌, inl, inr, IsTrue, refl, sym, ap, ◌∙◌, subst, arith, add-one, append_assoc, length-append}
+use Rattle.std.proofs.Common.{◌≡◌, ℕ, suc, ◌-◌, ◌≤◌, List, [], ◌∷◌, ◌++◌, length, take, get_or, Some, None, ◌⊎◌, inl, inr, refl, sym, ap, ◌∙◌, subst, arith, append_assoc, length-append}
 use Rattle.std.proofs.lemmas.List.{append-nil, get_or_default}
-use Rattle.std.specs.Io.KnownBytes.{Appends, Consumes, IsAtEnd}
-use Rattle.op_desk.specs.Contents.{Known, AppendsFront}
+use Rattle.std.specs.Io.KnownBytes.{Appends, Consumes}
+use Rattle.op_desk.specs.Contents.{Known}
 use Rattle.op_trace.specs.Run.{Run}
 use Rattle.op_token.specs.Cut.{cut_of, text_in, rest_in, IsOpen, IsFollowed}
 use Rattle.op_token.proofs.Cutting as cutting
@@ -11,14 +11,14 @@ use Rattle.opium.specs.declared.status.Status.{Status}
 use Rattle.opium.specs.declared.status.Status.TheVariants as status
 use Rattle.opium.specs.Call.{Session}
 use Rattle.opium.specs.Moves.{at_start}
-use Rattle.opium.specs.Session.{answer_to, answers_from, stand_after, session_text}
-use Rattle.opium.specs.Promise.{WhenTold, BrokenAs, Broken, IsPrefix, limit_line, answered_text, CountsAs, IsFaultless}
-use Rattle.opium.specs.Sight.{Sight, Quiet, Calm, Fault, TakesByte, TakesNone, TakesNothing, SaysAll, SaysFront}
+use Rattle.opium.specs.Session.{answer_to, session_text}
+use Rattle.opium.specs.Promise.{WhenTold, BrokenAs, IsPrefix, limit_line, answered_text, CountsAs}
+use Rattle.opium.specs.Sight.{Sight, Quiet, Calm, Fault, TakesByte, TakesNothing, SaysFront}
 use Rattle.opium.specs.Feeding.{Feeds}
-use Rattle.opium.specs.Giving.{Pays, GivesAll}
-use Rattle.opium.specs.Progress.{Cuts, Holds, BreaksOff, said_to}
+use Rattle.opium.specs.Giving.{GivesAll}
+use Rattle.opium.specs.Progress.{Holds, BreaksOff, said_to}
 use Rattle.opium.proofs.Texts.{one_more, followed_length, cuts_start, cuts_byte, cuts_text}
-use Rattle.opium.proofs.Saying.{stand_at, said_one, stand_more, enough_open, enough_followed, front_so_far, front_of_answer, prefix_self, prefix_longer}
+use Rattle.opium.proofs.Saying.{stand_at, said_one, stand_more, enough_open, enough_followed, front_so_far, front_of_answer, prefix_longer}
 
 pub consumes_more : (a b c : Known) (xs ys : List ℕ) → Consumes a b xs → Consumes b c ys → Consumes a c (xs ++ ys)
 consumes_more None b c xs ys p q = tt
@@ -156,7 +156,7 @@ breaks_push run a b c n before after byte p feed h t =
     let taken = h.taken ++ byte ∷ [] in
     let cuts = cuts_byte h.passed h.taken p byte h.cuts in
     let ended : IsFollowed q → IsPrefix (answered_text run taken) (said_to run h.passed) =
-        λ f. enough_followed run h.passed taken q cuts f (rest_open q f) (followed_length q f) in
+    λ f. enough_followed run h.passed taken q cuts f (rest_open q f) (followed_length q f) in
     record {
       fault = fault_more status.Memory a c c (calm_more a b c h.calm t.calm) (memory_fault c);
       left = left_broken run a.commands c.commands a.talk c.talk taken (said_to run h.passed)
@@ -201,8 +201,8 @@ pub goes_text : (run : Run) (a b c d : Sight) (n before after paid byte : ℕ) (
 goes_text run a b c d n before after paid byte p q text rest feed new h t e f et er o g =
     let z = er ∙ ap (λ q. rest_in (cut_of q) q) e in
     subst (λ r. Holds run a d (suc n) before paid r new) (sym z)
-      (holds_text run a b c d n before after paid byte p feed new h t (subst IsFollowed e f) (subst IsOpen z o)
-        (subst (λ t. GivesAll run (stand_at run h.passed) t feed new after paid c d) (et ∙ ap (λ q. text_in (cut_of q) q) e) g))
+    (holds_text run a b c d n before after paid byte p feed new h t (subst IsFollowed e f) (subst IsOpen z o)
+    (subst (λ t. GivesAll run (stand_at run h.passed) t feed new after paid c d) (et ∙ ap (λ q. text_in (cut_of q) q) e) g))
 
 pub stops_text : (run : Run) (s : Status) (a b c d : Sight) (n before after byte : ℕ) (p q text : List ℕ) (feed : Feed) (h : Holds run a b n before after p feed) → TakesByte b c byte
     → q ≡ p ++ byte ∷ [] → IsFollowed q → text ≡ text_in (cut_of q) q
@@ -210,4 +210,4 @@ pub stops_text : (run : Run) (s : Status) (a b c d : Sight) (n before after byte
     → BreaksOff run s a d
 stops_text run s a b c d n before after byte p q text feed h t e f et g =
     breaks_say run s a b c d n before after byte p feed h t (subst IsFollowed e f)
-      (subst (λ t. SaysFront s c d (answer_to run (stand_at run h.passed) t).text) (et ∙ ap (λ q. text_in (cut_of q) q) e) g)
+    (subst (λ t. SaysFront s c d (answer_to run (stand_at run h.passed) t).text) (et ∙ ap (λ q. text_in (cut_of q) q) e) g)

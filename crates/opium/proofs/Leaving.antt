@@ -1,14 +1,13 @@
 -- What calls leave that end before a session, or by one that another layer ran.
-use Rattle.std.proofs.Common.{◌≡◌, ℕ, List, [], ◌∷◌, ◌++◌, length, take, drop, Option, Some, None, option_map, Result, Ok, Err, IsTrue, refl, sym, ap, ◌∙◌, subst}
-use Rattle.op_desk.specs.Contents.{Known, AppendsFront}
-use Rattle.op_trace.specs.Run.{Run}
+use Rattle.std.proofs.Common.{◌≡◌, ℕ, List, [], take, Option, Some, None, Result, Ok, Err, IsTrue, refl, sym, ◌∙◌, subst}
+use Rattle.op_desk.specs.Contents.{Known}
 use Rattle.opium.specs.declared.status.Status.{Status}
 use Rattle.opium.specs.declared.status.Status.TheVariants as status
 use Rattle.opium.specs.Call.{Outcome, Line, Missing, Session}
 use Rattle.opium.specs.Session.{session_text}
-use Rattle.opium.specs.Promise.{WhenTold, BrokenAs, limit_line, CountsAs, IsBroken, IsFaultless, DoneAs, CostsAs, TooLongAs, RefusedAs, HasFile}
-use Rattle.opium.specs.Sight.{Sight, Quiet, Calm, Fault, SaysAll, SaysFront, Says, Untouched, Unread, ended_as}
-use Rattle.opium.specs.Progress.{Leaves, IsOutcome, IsUsage}
+use Rattle.opium.specs.Promise.{WhenTold, BrokenAs, limit_line, CountsAs, IsFaultless, DoneAs, CostsAs, TooLongAs, RefusedAs, HasFile}
+use Rattle.opium.specs.Sight.{Sight, SaysFront, Says, Untouched, Unread, ended_as}
+use Rattle.opium.specs.Progress.{Leaves, IsOutcome}
 use Rattle.opium.proofs.Holding.{appends_none, calm_start}
 use Rattle.opium.proofs.Saying.{prefix_take}
 
@@ -34,30 +33,48 @@ told_any (Some x) P f = f x
 
 pub leaves_memory : (o : Option Outcome) (a b : Sight) (before : ℕ) → Untouched a b → Leaves o status.Memory a b before before
 leaves_memory o a b before u = record {
-  done = λ h. absurd cc; cost = λ h. absurd cc; refused = λ h. absurd h; too_long = λ h. absurd cc;
+  done = λ h. absurd cc;
+  cost = λ h. absurd cc;
+  refused = λ h. absurd h;
+  too_long = λ h. absurd cc;
   broken = λ h. left_untouched o a b u.talk u.commands;
-  usage = λ h. absurd cc; different = λ h. cc;
+  usage = λ h. absurd cc;
+  different = λ h. cc;
   counts = (u.calm.reads, u.calm.writes);
-  input = u.calm.quiet.input; output = u.calm.quiet.output; note = u.calm.quiet.note;
+  input = u.calm.quiet.input;
+  output = u.calm.quiet.output;
+  note = u.calm.quiet.note;
   faultless = λ t. told_any o (λ x. HasFile x → IsFaultless status.Memory) (λ x f. tt);
 }
 
 -- a file that could not be read
 pub leaves_unread : (o : Option Outcome) (name : List ℕ) (s : Status) (a b : Sight) (before : ℕ) → (IsTrue a.steady → s ≡ status.Read → WhenTold o (λ x. HasFile x → ⊥)) → Unread name s a b → Leaves o s a b before before
 leaves_unread o name status.Read a b before m u = record {
-  done = λ h. absurd cc; cost = λ h. absurd cc; refused = λ h. absurd h; too_long = λ h. absurd cc;
+  done = λ h. absurd cc;
+  cost = λ h. absurd cc;
+  refused = λ h. absurd h;
+  too_long = λ h. absurd cc;
   broken = λ h. left_untouched o a b u.talk u.commands;
-  usage = λ h. absurd cc; different = λ h. cc;
+  usage = λ h. absurd cc;
+  different = λ h. cc;
   counts = u.counts;
-  input = u.quiet.input; output = u.quiet.output; note = u.quiet.note;
+  input = u.quiet.input;
+  output = u.quiet.output;
+  note = u.quiet.note;
   faultless = λ t. m t refl;
 }
 leaves_unread o name status.Memory a b before m u = record {
-  done = λ h. absurd cc; cost = λ h. absurd cc; refused = λ h. absurd h; too_long = λ h. absurd cc;
+  done = λ h. absurd cc;
+  cost = λ h. absurd cc;
+  refused = λ h. absurd h;
+  too_long = λ h. absurd cc;
   broken = λ h. left_untouched o a b u.talk u.commands;
-  usage = λ h. absurd cc; different = λ h. cc;
+  usage = λ h. absurd cc;
+  different = λ h. cc;
   counts = u.counts;
-  input = u.quiet.input; output = u.quiet.output; note = u.quiet.note;
+  input = u.quiet.input;
+  output = u.quiet.output;
+  note = u.quiet.note;
   faultless = λ t. told_any o (λ x. HasFile x → IsFaultless status.Memory) (λ x f. tt);
 }
 leaves_unread o name s a b before m u = absurd u.unread
@@ -72,19 +89,31 @@ line_broken s t line a b g = subst (λ left. WhenTold a.commands (λ bytes. Brok
 
 pub leaves_half : (s t : Status) (line : List ℕ) (a b : Sight) (before : ℕ) → SaysFront t a b line → Leaves (Some (Line s line)) t a b before before
 leaves_half s status.Write line a b before g = record {
-  done = λ h. absurd cc; cost = λ h. absurd cc; refused = λ h. absurd h; too_long = λ h. absurd cc;
+  done = λ h. absurd cc;
+  cost = λ h. absurd cc;
+  refused = λ h. absurd h;
+  too_long = λ h. absurd cc;
   broken = λ h. line_broken s status.Write line a b g;
-  usage = λ h. absurd cc; different = λ h. cc;
+  usage = λ h. absurd cc;
+  different = λ h. cc;
   counts = g.fault.counts;
-  input = g.fault.quiet.input; output = g.fault.quiet.output; note = g.fault.quiet.note;
+  input = g.fault.quiet.input;
+  output = g.fault.quiet.output;
+  note = g.fault.quiet.note;
   faultless = λ t h. g.fault.faultless t;
 }
 leaves_half s status.Memory line a b before g = record {
-  done = λ h. absurd cc; cost = λ h. absurd cc; refused = λ h. absurd h; too_long = λ h. absurd cc;
+  done = λ h. absurd cc;
+  cost = λ h. absurd cc;
+  refused = λ h. absurd h;
+  too_long = λ h. absurd cc;
   broken = λ h. line_broken s status.Memory line a b g;
-  usage = λ h. absurd cc; different = λ h. cc;
+  usage = λ h. absurd cc;
+  different = λ h. cc;
   counts = g.fault.counts;
-  input = g.fault.quiet.input; output = g.fault.quiet.output; note = g.fault.quiet.note;
+  input = g.fault.quiet.input;
+  output = g.fault.quiet.output;
+  note = g.fault.quiet.note;
   faultless = λ t h. g.fault.faultless t;
 }
 leaves_half s t line a b before g = absurd g.unwritten
@@ -99,33 +128,51 @@ said_all P a b e f = subst (λ left. WhenTold a.commands (λ bytes. P bytes left
 
 pub leaves_usage : (line : List ℕ) (a b : Sight) (before : ℕ) (r : Result (Unit {0}) Status) → Says a b line r → Leaves (Some (Line status.Usage line)) (ended_as status.Usage r) a b before before
 leaves_usage line a b before (Ok x) g = record {
-  done = λ h. absurd cc; cost = λ h. absurd cc;
+  done = λ h. absurd cc;
+  cost = λ h. absurd cc;
   refused = λ h. said_all (λ bytes left. RefusedAs (Line status.Usage line) status.Usage bytes a.talk b.talk left) a b g.commands (λ bytes. (g.talk, refl));
-  too_long = λ h. absurd cc; broken = λ h. absurd h; usage = λ h. tt; different = λ h. cc;
+  too_long = λ h. absurd cc;
+  broken = λ h. absurd h;
+  usage = λ h. tt;
+  different = λ h. cc;
   counts = (g.calm.reads, g.calm.writes);
-  input = g.calm.quiet.input; output = g.calm.quiet.output; note = g.calm.quiet.note;
+  input = g.calm.quiet.input;
+  output = g.calm.quiet.output;
+  note = g.calm.quiet.note;
   faultless = λ t h. tt;
 }
 leaves_usage line a b before (Err t) g = leaves_half status.Usage t line a b before g
 
 pub leaves_load : (line : List ℕ) (a b : Sight) (before : ℕ) (r : Result (Unit {0}) Status) → Says a b line r → Leaves (Some (Line status.Load line)) (ended_as status.Load r) a b before before
 leaves_load line a b before (Ok x) g = record {
-  done = λ h. absurd cc; cost = λ h. absurd cc;
+  done = λ h. absurd cc;
+  cost = λ h. absurd cc;
   refused = λ h. said_all (λ bytes left. RefusedAs (Line status.Load line) status.Load bytes a.talk b.talk left) a b g.commands (λ bytes. (g.talk, refl));
-  too_long = λ h. absurd cc; broken = λ h. absurd h; usage = λ h. absurd cc; different = λ h. cc;
+  too_long = λ h. absurd cc;
+  broken = λ h. absurd h;
+  usage = λ h. absurd cc;
+  different = λ h. cc;
   counts = (g.calm.reads, g.calm.writes);
-  input = g.calm.quiet.input; output = g.calm.quiet.output; note = g.calm.quiet.note;
+  input = g.calm.quiet.input;
+  output = g.calm.quiet.output;
+  note = g.calm.quiet.note;
   faultless = λ t h. tt;
 }
 leaves_load line a b before (Err t) g = leaves_half status.Load t line a b before g
 
 pub leaves_long : (line : List ℕ) (a b : Sight) (before : ℕ) (r : Result (Unit {0}) Status) → Says a b line r → Leaves (Some (Line status.TooLong line)) (ended_as status.TooLong r) a b before before
 leaves_long line a b before (Ok x) g = record {
-  done = λ h. absurd cc; cost = λ h. absurd cc; refused = λ h. absurd h;
+  done = λ h. absurd cc;
+  cost = λ h. absurd cc;
+  refused = λ h. absurd h;
   too_long = λ h. said_all (λ bytes left. TooLongAs (Line status.TooLong line) bytes a.talk b.talk left) a b g.commands (λ bytes. (g.talk, refl));
-  broken = λ h. absurd h; usage = λ h. absurd cc; different = λ h. cc;
+  broken = λ h. absurd h;
+  usage = λ h. absurd cc;
+  different = λ h. cc;
   counts = (g.calm.reads, g.calm.writes);
-  input = g.calm.quiet.input; output = g.calm.quiet.output; note = g.calm.quiet.note;
+  input = g.calm.quiet.input;
+  output = g.calm.quiet.output;
+  note = g.calm.quiet.note;
   faultless = λ t h. tt;
 }
 leaves_long line a b before (Err t) g = leaves_half status.TooLong t line a b before g
@@ -133,8 +180,18 @@ leaves_long line a b before (Err t) g = leaves_half status.TooLong t line a b be
 -- the outcome under another name, or untold
 pub retell : (o : Option Outcome) (x : Outcome) (s : Status) (a b : Sight) (before after : ℕ) → IsOutcome o x → Leaves (Some x) s a b before after → Leaves o s a b before after
 retell None x s a b before after i l = record {
-  done = λ h. tt; cost = λ h. tt; refused = λ h. tt; too_long = λ h. tt; broken = λ h. tt; usage = λ h. tt; different = l.different;
-  counts = l.counts; input = l.input; output = l.output; note = l.note; faultless = λ t. tt;
+  done = λ h. tt;
+  cost = λ h. tt;
+  refused = λ h. tt;
+  too_long = λ h. tt;
+  broken = λ h. tt;
+  usage = λ h. tt;
+  different = l.different;
+  counts = l.counts;
+  input = l.input;
+  output = l.output;
+  note = l.note;
+  faultless = λ t. tt;
 }
 retell (Some y) x s a b before after i l = subst (λ x. Leaves (Some x) s a b before after) (sym i) l
 

@@ -1,14 +1,13 @@
 -- A rest without an end is no command.
-use Rattle.std.proofs.Common.{◌≡◌, ℕ, zero, suc, ◌+◌, ◌<◌, ◌≤◌, ◌==◌, ◌||◌, ◌&&◌, Bool, true, false, cond, List, [], ◌∷◌, ◌++◌, length, take, drop, map, codes, Option, Some, None, ◌⊎◌, inl, inr, refl, sym, ap, ◌∙◌, subst, arith}
+use Rattle.std.proofs.Common.{◌≡◌, ℕ, suc, ◌≤◌, ◌==◌, ◌||◌, ◌&&◌, Bool, true, false, cond, List, [], ◌∷◌, ◌++◌, take, drop, map, codes, Some, None, ◌⊎◌, inl, inr, refl, sym, ap, ◌∙◌, subst, arith}
 use Rattle.std.specs.Prelude.{nat_le, bytes_eq}
 use Rattle.std.specs.Int.{is_in_range}
 use Rattle.std.proofs.lemmas.Bool.{cases_eq, eqb-true, leb-true}
 use Rattle.std.proofs.lemmas.List.{take-append-drop}
 use Rattle.op_desk.proofs.ShelfLemmas.{same_from_bytes_eq}
-use Rattle.op_token.specs.declared.piece.Piece.{Piece}
-use Rattle.op_token.specs.declared.piece.Piece.TheVariants.{Text, NoEnd, Empty}
+use Rattle.op_token.specs.declared.piece.Piece.TheVariants.{NoEnd}
 use Rattle.op_token.specs.declared.kind.Kind.{Kind}
-use Rattle.op_token.specs.declared.kind.Kind.TheVariants.{Newline, Layout, Dot, Word}
+use Rattle.op_token.specs.declared.kind.Kind.TheVariants.{Newline, Layout, Word}
 use Rattle.op_token.specs.Kind.{kind_of, is_symbol}
 use Rattle.op_token.specs.Cut.{cut_of, end_from, is_text, piece, blank_from}
 use Rattle.opium.specs.Session.{is_next, is_stopped}
@@ -68,7 +67,7 @@ next_text p h =
     let all : codes "next" ++ drop 4 p ≡ p = ap (λ t. t ++ drop 4 p) (sym t) ∙ take-append-drop 4 p in
     let r = end_some (drop 4 p) 4 Word refl q.1 in
     subst (λ p. is_text (cut_of p) ≡ true) all
-      (ap (λ o. is_text (piece 0 o (blank_from 0 (map kind_of (codes "next" ++ drop 4 p))))) r.1)
+    (ap (λ o. is_text (piece 0 o (blank_from 0 (map kind_of (codes "next" ++ drop 4 p))))) r.1)
 
 pub no_end_is_no_next : (p : List ℕ) → cut_of p ≡ NoEnd → is_next p ≡ false
 no_end_is_no_next p e = by (is_next p) refl

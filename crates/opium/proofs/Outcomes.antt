@@ -1,9 +1,9 @@
 -- The outcome of a call, step by step.
-use Rattle.std.proofs.Common.{◌≡◌, ◌||◌, ℕ, suc, ◌<◌, ◌≤◌, Bool, true, false, cond, List, [], ◌∷◌, ◌++◌, length, codes, Option, Some, None, option_map, Result, Ok, Err, IsTrue, refl, sym, ap, ◌∙◌, subst, arith, IsSomeAnd}
+use Rattle.std.proofs.Common.{◌≡◌, ◌||◌, ℕ, suc, ◌<◌, ◌≤◌, true, false, cond, List, [], ◌∷◌, length, codes, Option, Some, None, option_map, Result, Ok, Err, IsTrue, refl, sym, ap, ◌∙◌, subst, arith, IsSomeAnd}
 use Rattle.std.specs.Prelude.{nat_lt, option_and_then, bytes_eq}
 use Rattle.std.specs.List.{list_any}
 use Rattle.std.proofs.lemmas.Bool.Decides.{nat_tests}
-use Rattle.op_logic.specs.Term.{Term, node, atom}
+use Rattle.op_logic.specs.Term.{atom}
 use Rattle.op_desk.specs.Contents.{Known, Files, bytes_of, IsFile, IsLonger, IsMissing}
 use Rattle.op_reader.specs.Form.{Rule, is_known, is_control, only_goal, goal_of, program_of}
 use Rattle.op_reader.specs.Lexis.{Token, name as word, neck, comma, stop, tokens}
@@ -12,11 +12,11 @@ use Rattle.op_trace.specs.Run.{run}
 use Rattle.op_machine.specs.Program.{clause_of, clauses_from, program_clauses}
 use Rattle.opium.specs.declared.status.Status.{Status}
 use Rattle.opium.specs.declared.status.Status.TheVariants as status
-use Rattle.opium.specs.Call.{Outcome, Line, Missing, Session, file_limit, with_bytes, with_rules, with_goal, outcome_of, load_line, long_line}
+use Rattle.opium.specs.Call.{Outcome, Line, Session, file_limit, with_bytes, with_rules, with_goal, outcome_of, load_line, long_line}
 use Rattle.opium.specs.Promise.{WhenTold, IsBroken, IsRefused, IsFaultless, IsWordsRefusal, HasFile, DoneAs, CostsAs, RefusedAs, TooLongAs, BrokenAs}
 use Rattle.opium.proofs.Leaving.{retell, leaves_usage}
 use Rattle.opium.specs.Progress.{Leaves, IsOutcome, IsUsage}
-use Rattle.opium.specs.Sight.{Sight, SaysFront, Says, Unread, ended_as}
+use Rattle.opium.specs.Sight.{Sight, Says, Unread, ended_as}
 
 abbrev pub told_outcome : Option Files → List ℕ → List ℕ → Option Outcome
 told_outcome shelf name goal = option_map (λ files. outcome_of files (name ∷ goal ∷ [])) shelf

@@ -1,15 +1,14 @@
 -- What is said to commands, front by front.
-use Rattle.std.proofs.Common.{◌≡◌, ℕ, zero, suc, ◌+◌, ◌-◌, ◌<◌, ◌≤◌, List, [], ◌∷◌, ◌++◌, length, take, drop, ◌⊎◌, inl, inr, refl, sym, ap, ◌∙◌, subst, arith, append_assoc, length-append}
+use Rattle.std.proofs.Common.{◌≡◌, ℕ, zero, suc, ◌+◌, ◌-◌, ◌<◌, ◌≤◌, List, [], ◌∷◌, ◌++◌, length, take, drop, refl, sym, ap, ◌∙◌, subst, arith, append_assoc, length-append}
 use Rattle.std.proofs.lemmas.List.{append-nil, take-append-drop, take_at}
 use Rattle.op_trace.specs.Run.{Run}
 use Rattle.op_token.specs.Cut.{cut_of, text_in, rest_in, IsOpen, IsFollowed}
-use Rattle.op_token.proofs.Cutting as cutting
 use Rattle.opium.specs.Moves.{Stand, at_start}
-use Rattle.opium.specs.Session.{answer_to, answers_from, stand_after, joined, commands_in, session_text, session_furthest}
+use Rattle.opium.specs.Session.{answer_to, answers_from, stand_after, joined, commands_in, session_text}
 use Rattle.opium.specs.Behind.{commands_from, rest_texts}
-use Rattle.opium.specs.Promise.{followed_texts, front, answered_text, IsPrefix, Broken}
+use Rattle.opium.specs.Promise.{followed_texts, front, answered_text, IsPrefix}
 use Rattle.opium.specs.Progress.{Cuts, said_to}
-use Rattle.opium.proofs.Texts.{followed_none, followed_one, commands_more, commands_text, commands_rest, commands_are, Fuel, fuel}
+use Rattle.opium.proofs.Texts.{followed_none, followed_one, commands_more, commands_text, commands_rest, commands_are, fuel}
 
 pub joined_more : (xs ys : List (List ℕ)) → joined (xs ++ ys) ≡ joined xs ++ joined ys
 joined_more [] ys = refl
@@ -62,12 +61,12 @@ enough_open run passed taken p c o =
     let f = fuel passed taken p [] c in
     let all : length taken ≡ length passed + f.more = ap length (sym (append-nil taken)) ∙ f.all in
     let e : followed_texts (length taken) taken ≡ passed =
-        ap (λ n. followed_texts n taken) all
-        ∙ ap (λ s. followed_texts (length passed + f.more) s) (sym (append-nil taken))
-        ∙ c.followed f.more []
-        ∙ ap (λ s. passed ++ followed_texts f.more s) (append-nil p)
-        ∙ ap (λ ts. passed ++ ts) (followed_none f.more p o)
-        ∙ append-nil passed in
+    ap (λ n. followed_texts n taken) all
+    ∙ ap (λ s. followed_texts (length passed + f.more) s) (sym (append-nil taken))
+    ∙ c.followed f.more []
+    ∙ ap (λ s. passed ++ followed_texts f.more s) (append-nil p)
+    ∙ ap (λ ts. passed ++ ts) (followed_none f.more p o)
+    ∙ append-nil passed in
     subst (λ cs. IsPrefix (said_to run (front cs)) (said_to run passed)) (sym e) (front_prefix run passed)
 
 some_more : (m : ℕ) → 0 < m → (k : ℕ) × (m ≡ suc k)
@@ -82,12 +81,12 @@ enough_followed run passed taken p c f o two =
     let t = text_in (cut_of p) p in
     let all : length taken ≡ length passed + suc k.0 = ap length (sym (append-nil taken)) ∙ u.all ∙ ap (λ m. length passed + m) k.1 in
     let e : followed_texts (length taken) taken ≡ passed ++ t ∷ [] =
-        ap (λ n. followed_texts n taken) all
-        ∙ ap (λ s. followed_texts (length passed + suc k.0) s) (sym (append-nil taken))
-        ∙ c.followed (suc k.0) []
-        ∙ ap (λ ts. passed ++ ts) (followed_one k.0 p [] f)
-        ∙ ap (λ s. passed ++ t ∷ followed_texts k.0 s) (append-nil (rest_in (cut_of p) p))
-        ∙ ap (λ ts. passed ++ t ∷ ts) (followed_none k.0 (rest_in (cut_of p) p) o) in
+    ap (λ n. followed_texts n taken) all
+    ∙ ap (λ s. followed_texts (length passed + suc k.0) s) (sym (append-nil taken))
+    ∙ c.followed (suc k.0) []
+    ∙ ap (λ ts. passed ++ ts) (followed_one k.0 p [] f)
+    ∙ ap (λ s. passed ++ t ∷ followed_texts k.0 s) (append-nil (rest_in (cut_of p) p))
+    ∙ ap (λ ts. passed ++ t ∷ ts) (followed_none k.0 (rest_in (cut_of p) p) o) in
     subst (λ cs. IsPrefix (said_to run (front cs)) (said_to run passed)) (sym e) (subst (λ cs. IsPrefix (said_to run cs) (said_to run passed)) (sym (front_one passed t)) (prefix_self (said_to run passed)))
 
 -- all that is to be said, behind what was said
@@ -108,12 +107,12 @@ front_of_answer run passed taken p r k c f two =
     let t = text_in (cut_of p) p in
     let more = commands_from n.0 (rest_in (cut_of p) p ++ r) in
     let e : session_text run (taken ++ r) ≡ said_to run ((passed ++ t ∷ []) ++ more) =
-        session_more run passed taken p r (suc n.0) c (u.all ∙ ap (λ m. length passed + m) n.1)
-        ∙ ap (λ cs. said_to run (passed ++ cs)) (commands_text n.0 p r f)
-        ∙ ap (said_to run) (sym (append_assoc passed (t ∷ []) more)) in
+    session_more run passed taken p r (suc n.0) c (u.all ∙ ap (λ m. length passed + m) n.1)
+    ∙ ap (λ cs. said_to run (passed ++ cs)) (commands_text n.0 p r f)
+    ∙ ap (said_to run) (sym (append_assoc passed (t ∷ []) more)) in
     let w = said_to run passed ++ take k (answer_to run (stand_at run passed) t).text in
     subst (IsPrefix w) (sym (e ∙ said_more run (passed ++ t ∷ []) more ∙ ap (λ x. x ++ joined (answers_from run (stand_at run (passed ++ t ∷ [])) more)) (said_one run passed t)))
-      (prefix_longer w (said_to run passed ++ (answer_to run (stand_at run passed) t).text) _ (prefix_more (said_to run passed) _ _ (prefix_take k (answer_to run (stand_at run passed) t).text)))
+    (prefix_longer w (said_to run passed ++ (answer_to run (stand_at run passed) t).text) _ (prefix_more (said_to run passed) _ _ (prefix_take k (answer_to run (stand_at run passed) t).text)))
 
 -- where all was taken
 pub commands_at_end : (passed : List (List ℕ)) (taken p : List ℕ) → Cuts passed taken p → IsOpen p → commands_in taken ≡ passed ++ rest_texts (cut_of p) p

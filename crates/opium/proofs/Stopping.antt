@@ -1,5 +1,5 @@
 -- A text behind `next`, byte by byte.
-use Rattle.std.proofs.Common.{◌≡◌, ℕ, zero, suc, ◌+◌, ◌<◌, ◌==◌, ◌||◌, ◌&&◌, Bool, true, false, List, [], ◌∷◌, length, drop, get_or, refl, ap, ◌∙◌, arith, add-one}
+use Rattle.std.proofs.Common.{◌≡◌, ℕ, zero, suc, ◌+◌, ◌<◌, ◌==◌, ◌||◌, ◌&&◌, List, [], ◌∷◌, length, drop, get_or, refl, arith, add-one}
 use Rattle.std.specs.Int.{is_in_range}
 use Rattle.opium.specs.Session.{is_stopped}
 

@@ -1,8 +1,6 @@
 -- The texts of the commands, as they come byte by byte.
-use Rattle.std.proofs.Common.{◌≡◌, ℕ, zero, suc, ◌+◌, ◌-◌, ◌<◌, ◌≤◌, Bool, true, false, cond, List, [], ◌∷◌, ◌++◌, length, drop, ◌⊎◌, inl, inr, refl, sym, ap, ◌∙◌, subst, arith, zero-add, add-suc, append_assoc, length-append}
-use Rattle.std.proofs.lemmas.List.{append-nil}
+use Rattle.std.proofs.Common.{◌≡◌, ℕ, zero, suc, ◌+◌, ◌-◌, ◌<◌, ◌≤◌, Bool, true, false, cond, List, [], ◌∷◌, ◌++◌, length, drop, ◌⊎◌, inl, inr, refl, sym, ap, ◌∙◌, subst, arith, zero-add, append_assoc, length-append}
 use Rattle.std.specs.Prelude.{nat_lt}
-use Rattle.std.specs.Bool.{OnFalse}
 use Rattle.std.proofs.lemmas.Bool.Decides.{nat_tests}
 use Rattle.op_token.specs.declared.piece.Piece.{Piece}
 use Rattle.op_token.specs.declared.piece.Piece.TheVariants.{Text, NoEnd, Empty}
@@ -64,10 +62,10 @@ has_byte p r f =
 pub followed_one : (n : ℕ) (p r : List ℕ) → IsFollowed p → followed_texts (suc n) (p ++ r) ≡ text_in (cut_of p) p ∷ followed_texts n (rest_in (cut_of p) p ++ r)
 followed_one n p r f =
     subst (λ x. cond (has_behind x (length (p ++ r))) (text_in x (p ++ r) ∷ followed_texts n (rest_in x (p ++ r))) [] ≡ text_in (cut_of p) p ∷ followed_texts n (rest_in (cut_of p) p ++ r))
-      (sym (cutting.cut_more p r f))
-      (ap (λ b. cond b (text_in (cut_of p) (p ++ r) ∷ followed_texts n (rest_in (cut_of p) (p ++ r))) []) (has_byte p r f)
-       ∙ ap (λ t. t ∷ followed_texts n (rest_in (cut_of p) (p ++ r))) (cutting.text_more p r f)
-       ∙ ap (λ s. text_in (cut_of p) p ∷ followed_texts n s) (cutting.rest_more p r f))
+    (sym (cutting.cut_more p r f))
+    (ap (λ b. cond b (text_in (cut_of p) (p ++ r) ∷ followed_texts n (rest_in (cut_of p) (p ++ r))) []) (has_byte p r f)
+    ∙ ap (λ t. t ∷ followed_texts n (rest_in (cut_of p) (p ++ r))) (cutting.text_more p r f)
+    ∙ ap (λ s. text_in (cut_of p) p ∷ followed_texts n s) (cutting.rest_more p r f))
 
 -- before the first byte
 pub cuts_start : Cuts [] [] []
@@ -171,12 +169,12 @@ commands_rest m p o h = by (cut_of p) refl
     texts_one : (m f t : ℕ) → cut_of p ≡ Text f t → length p ≤ t → texts (suc m) p ≡ text_in (Text f t) p ∷ []
     texts_one m f t e l =
         subst (λ x. cond (is_text x) (text_in x p ∷ texts m (rest_in x p)) [] ≡ text_in (Text f t) p ∷ []) (sym e)
-          (ap (λ s. text_in (Text f t) p ∷ texts m s) (dropped p t l) ∙ ap (λ ts. text_in (Text f t) p ∷ ts) (no_texts m))
+        (ap (λ s. text_in (Text f t) p ∷ texts m s) (dropped p t l) ∙ ap (λ ts. text_in (Text f t) p ∷ ts) (no_texts m))
 
     behind_one : (m f t : ℕ) → cut_of p ≡ Text f t → length p ≤ t → behind_texts (suc m) p ≡ []
     behind_one m f t e l =
         subst (λ x. cond (is_text x) (behind_texts m (rest_in x p)) p ≡ []) (sym e)
-          (ap (λ s. behind_texts m s) (dropped p t l) ∙ nothing_behind m)
+        (ap (λ s. behind_texts m s) (dropped p t l) ∙ nothing_behind m)
 
     one : (m f t : ℕ) → cut_of p ≡ Text f t → length p ≤ t → commands_from (suc m) p ≡ text_in (Text f t) p ∷ []
     one m f t e l = ap (λ ts. ts ++ last (behind_texts (suc m) p)) (texts_one m f t e l) ∙ ap (λ s. text_in (Text f t) p ∷ last s) (behind_one m f t e l)

@@ -1,7 +1,6 @@
 -- What holds of a session between two bytes of its commands, and what it leaves behind.
-use Rattle.std.specs.Prelude.{◌≡◌, ℕ, ◌+◌, ◌≤◌, suc, List, [], ◌∷◌, ◌++◌, length, Option, Some, None, IsTrue, Result, Ok, Err, Bool, true, false}
+use Rattle.std.specs.Prelude.{◌≡◌, ℕ, ◌+◌, ◌≤◌, suc, List, ◌++◌, length, Option, Some, IsTrue, Result, Ok, Err, Bool, true, false}
 use Rattle.std.specs.Io.KnownBytes.{Appends, Consumes, IsAtEnd}
-use Rattle.op_desk.specs.Contents.{Known}
 use Rattle.op_trace.specs.Run.{Run}
 use Rattle.op_token.specs.Cut.{texts, behind_texts, IsOpen}
 use Rattle.opium.specs.declared.feed.Feed.{Feed}
@@ -11,7 +10,7 @@ use Rattle.opium.specs.Call.{Outcome, Line, Session}
 use Rattle.opium.specs.Moves.{at_start}
 use Rattle.opium.specs.Session.{answers_from, stand_after, joined}
 use Rattle.opium.specs.Promise.{WhenTold, DoneAs, CostsAs, BrokenAs, TooLongAs, RefusedAs, CountsAs, IsBroken, IsRefused, IsFaultless, HasFile, followed_texts}
-use Rattle.opium.specs.Sight.{Sight, Calm, Quiet, Fault}
+use Rattle.opium.specs.Sight.{Sight, Calm, Fault}
 use Rattle.opium.specs.Feeding.{Feeds}
 
 -- these texts were cut from the bytes that were taken, and p is what is left of them, whatever comes behind

@@ -1,11 +1,11 @@
 -- What a call of the program leaves behind, by its status.
-use Rattle.std.specs.Prelude.{◌≡◌, ℕ, zero, suc, ◌+◌, ◌-◌, ◌<◌, ◌≤◌, nat_lt, nat_le, ◌&&◌, Bool, true, false, List, [], ◌∷◌, ◌++◌, length, take, drop, codes, min, Option, Some, None, if◌then◌else◌}
+use Rattle.std.specs.Prelude.{◌≡◌, ℕ, zero, suc, ◌+◌, ◌-◌, ◌<◌, ◌≤◌, nat_lt, nat_le, Bool, false, List, [], ◌∷◌, ◌++◌, length, take, drop, codes, min, Option, Some, None, if◌then◌else◌}
 use Rattle.op_base.specs.Rising.{Rose}
 use Rattle.op_desk.specs.Contents.{Known}
-use Rattle.op_trace.specs.World.{World, loaded}
+use Rattle.op_trace.specs.World.{loaded}
 use Rattle.op_trace.specs.Run.{Run, steps_at}
 use Rattle.op_token.specs.declared.piece.Piece.{Piece}
-use Rattle.op_token.specs.declared.piece.Piece.TheVariants.{Text, NoEnd, Empty}
+use Rattle.op_token.specs.declared.piece.Piece.TheVariants.{Text}
 use Rattle.op_token.specs.Cut.{cut_of, text_in, rest_in}
 use Rattle.opium.specs.declared.status.Status.{Status}
 use Rattle.opium.specs.declared.status.Status.TheVariants as status

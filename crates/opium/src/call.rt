@@ -24,7 +24,12 @@ const BUDGET: u64 = 10_000_000;
 
 /// One call of the program: `words` are those behind its name, the program's file and the goal. The commands are taken
 /// from the desk's Commands a byte at a time, and each answer is written to its Talk at once. A refusal writes one line.
-pub fn opium<D: Desk, L: Ledger>(alloc: Global, words: &[String], desk: &mut D, steps: &mut Steps<L>) -> Status
+pub fn opium<D: Desk, L: Ledger>(
+    alloc: Global,
+    words: &[String],
+    desk: &mut D,
+    steps: &mut Steps<L>,
+) -> Status
     requires { Each (λ (c : Chan). D.fresh desk.old c ≡ true) }
 
     // What the call does, where the desk tells its shelf and its commands.

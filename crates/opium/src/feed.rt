@@ -80,7 +80,10 @@ struct Nothing;
 impl Host for Nothing {}
 
 // Asks a machine for turns up to the next event or its ending: a solution is passed over.
-fn next_event<L: Ledger>(machine: &mut Machine, steps: &mut Steps<L>) -> Result<Option<Ending>, Memory>
+fn next_event<L: Ledger>(
+    machine: &mut Machine,
+    steps: &mut Steps<L>,
+) -> Result<Option<Ending>, Memory>
     ensures shows { IfOk result (λ ended. Shows machine.old machine.new ended) }
     ensures cost { OnOk result (steps.new ≡ steps.old + (machine.new.steps - machine.old.steps)) }
     ensures later { machine.old.steps ≤ machine.new.steps }

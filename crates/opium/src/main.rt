@@ -17,11 +17,10 @@ use call::opium;
 use op_base::Steps;
 use op_desk::FileDesk;
 use status::Status;
-use std::env;
-use std::io;
 use std::marker::Brand;
 use std::process::ExitCode;
 use std::sync::ledger::{Blank, Ledger};
+use std::{env, io};
 
 fn main(rt: HostRuntime) -> ExitCode {
     ExitCode::from(run::<Brand>(rt, Blank::new(1)) as u8)

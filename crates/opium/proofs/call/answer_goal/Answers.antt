@@ -1,4 +1,4 @@
-use Rattle.std.proofs.Common.{◌≡◌, ◌∙◌, ap, sym, Err}
+use Rattle.std.proofs.Common.{◌∙◌, ap, sym, Err}
 use Rattle.op_reader.specs.Form.{named_rules, goal_of}
 use Rattle.opium.proofs.Leaving.{leaves_memory, leaves_load, untouched_start}
 use Rattle.opium.proofs.Outcomes.{outcome_session, outcome_no_goal, renamed}

@@ -1,5 +1,5 @@
 use Rattle.opium.proofs.Leaving.{leaves_unread, leaves_long, leaves_after, retell}
-use Rattle.opium.proofs.Outcomes.{outcome_file, outcome_long, outcome_missing}
+use Rattle.opium.proofs.Outcomes.{outcome_long, outcome_missing}
 use Rattle.opium.proofs.call.answer_words.Goals as goal
 
 pub returns-in-Ok-None-clause-leaves : goal.returns-in-Ok-None-clause-leaves

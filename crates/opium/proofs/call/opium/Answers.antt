@@ -1,4 +1,4 @@
-use Rattle.std.proofs.Common.{◌≡◌, ◌≢◌, length, map, string_bytes, ap, sym, ◌∙◌, arith, rules}
+use Rattle.std.proofs.Common.{◌≢◌, length, map, string_bytes, sym, ◌∙◌, rules}
 use Rattle.std.proofs.lemmas.List.{length-map}
 use Rattle.opium.proofs.Outcomes.{usage_leaves, told_refused, told_broken}
 use Rattle.opium.proofs.call.opium.Goals as goal

@@ -1,4 +1,4 @@
-use Rattle.std.proofs.Common.{◌≡◌, sym, subst, arith}
+use Rattle.std.proofs.Common.{◌≡◌, arith}
 use Rattle.opium.specs.Call.{channel_limit}
 use Rattle.opium.proofs.Holding.{holds_start}
 use Rattle.opium.proofs.Finishing.{leaves_broken, rest_leaves, limit_leaves}

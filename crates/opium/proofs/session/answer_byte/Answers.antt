@@ -1,7 +1,4 @@
-use Rattle.std.proofs.Common.{◌≡◌, ℕ, ap, sym, subst, rules}
 use Rattle.std.proofs.lemmas.Result.{err_from_is_err_and}
-use Rattle.op_trace.specs.Run.{Run}
-use Rattle.opium.specs.Sight.{Sight}
 use Rattle.opium.proofs.session.answer_byte.Goals as goal
 use Rattle.opium.proofs.Holding.{goes_open, goes_text, breaks_take, breaks_push, stops_text}
 

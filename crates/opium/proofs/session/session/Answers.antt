@@ -1,4 +1,3 @@
-use Rattle.opium.proofs.Holding.{calm_start}
 use Rattle.opium.proofs.Leaving.{leaves_memory, untouched_start}
 use Rattle.opium.proofs.session.session.Goals as goal
 

@@ -1,7 +1,3 @@
-use Rattle.std.proofs.Common.{◌≡◌, ◌∙◌, sym, ap, subst}
-use Rattle.opium.specs.declared.feed.Feed.{Feed}
-use Rattle.opium.specs.declared.feed.Next.{Next}
-use Rattle.opium.specs.Feeding.{Feeds, Finds, next_of}
 use Rattle.opium.proofs.Feeds.{finds_asked, finds_known, here_asked, here_known}
 use Rattle.opium.proofs.feed.Feed.next.Goals as goal
 use Rattle.opium.proofs.feed.Feed.next.Goals.{then-is_none+in_ok-self, else-is_none}
