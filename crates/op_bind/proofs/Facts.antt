@@ -1,6 +1,6 @@
 -- What holds of bindings, and stays when they change.
-use Rattle.std.proofs.Common.{◌≡◌, ℕ, zero, suc, ◌+◌, ◌-◌, ◌==◌, ◌<◌, ◌≤◌, Bool, true, false, cond, List, [], ◌∷◌, ◌++◌, length, get_or, set, take, drop, reverse, ◌≢◌, All, Option, Some, None, pos, sym, ◌∙◌, ap, subst, refl, arith, length-append}
-use Rattle.std.proofs.lemmas.List.{get_or_append_left, get_or-take, get_or-append_right, length-take-le, length-replicate, get_or-replicate, get_or-set_same, get_or-set_other, length-set, reverse-append, length-reverse}
+use Rattle.std.proofs.Common.{◌≡◌, ℕ, zero, suc, ◌+◌, ◌-◌, ◌==◌, ◌<◌, ◌≤◌, List, [], ◌∷◌, ◌++◌, length, get_or, set, take, drop, reverse, ◌≢◌, All, Option, Some, None, pos, sym, ◌∙◌, ap, subst, refl, arith, length-append}
+use Rattle.std.proofs.lemmas.List.{get_or_append_left, get_or-take, get_or-append_right, length-take-le, length-replicate, get_or-replicate, get_or-set_same, get_or-set_other, length-set, reverse-append}
 use Rattle.std.proofs.lemmas.Bool.{false≢true}
 use Rattle.std.proofs.Math.ListN.{replicate}
 use Rattle.op_logic.specs.Term.{Term, var, int, node, Args, no_args, arg, IsWithin, ArgsWithin, occurs}
@@ -113,15 +113,15 @@ bound-at n ts [] v r h e = cc
 bound-at n ts (p ∷ ps) v r h e =
     by_test (p.0 == v)
     (λ q. let x : Some p.1 ≡ Some r = sym (if_true (p.0 == v) (Some p.1) (ref_of ps v) q) ∙ e in
-        let i : p.1 ≡ r = cc in
-        let j : p.0 ≡ v = eq_of p.0 v q in
-        record {
-          there = subst (λ (m : ℕ). m < length ts) i h.2;
-          ranked = subst (λ (m : ℕ). IsRanked m (term_at ts r)) j (subst (λ (m : ℕ). IsRanked p.0 (term_at ts m)) i h.3);
-          found = if_true (p.0 == v) _ _ q ∙ ap (λ m. Some (term_at ts m)) i;
-        })
+    let i : p.1 ≡ r = cc in
+    let j : p.0 ≡ v = eq_of p.0 v q in
+    record {
+      there = subst (λ (m : ℕ). m < length ts) i h.2;
+      ranked = subst (λ (m : ℕ). IsRanked m (term_at ts r)) j (subst (λ (m : ℕ). IsRanked p.0 (term_at ts m)) i h.3);
+      found = if_true (p.0 == v) _ _ q ∙ ap (λ m. Some (term_at ts m)) i;
+    })
     (λ q. let b = bound-at n ts ps v r h.0 (sym (if_false (p.0 == v) (Some p.1) (ref_of ps v) q) ∙ e) in
-        record { there = b.there; ranked = b.ranked; found = if_false (p.0 == v) _ _ q ∙ b.found })
+    record { there = b.there; ranked = b.ranked; found = if_false (p.0 == v) _ _ q ∙ b.found })
 
 pub bound-small : (n : ℕ) (ts : List (Term ℕ)) (ps : List (ℕ × ℕ)) (v : ℕ) → AreBound n ts ps → n ≤ v → ref_of ps v ≡ None
 bound-small n ts [] v h l = refl
@@ -141,9 +141,9 @@ sound-fresh ts ps table new n s e =
       looked_up = λ v d h.
           ap (λ (t : List (Option ℕ)). get_or t v d) e
           ∙ by_order v (length table)
-            (λ k. get_or_append_left table (replicate n None) d v k ∙ s.looked_up v d k)
-            (λ k. get_or-append_right table (replicate n None) (length table) v d refl k
-                ∙ (get_or-replicate n (v - length table) None d (omega arith) ∙ sym (bound-small (length table) ts ps v s.are_bound k)));
+          (λ k. get_or_append_left table (replicate n None) d v k ∙ s.looked_up v d k)
+          (λ k. get_or-append_right table (replicate n None) (length table) v d refl k
+          ∙ (get_or-replicate n (v - length table) None d (omega arith) ∙ sym (bound-small (length table) ts ps v s.are_bound k)));
     }
 
 pub sound-cut : (ts : List (Term ℕ)) (ps : List (ℕ × ℕ)) (table : List (Option ℕ)) (k : ℕ) → IsSound ts ps table → k ≤ length ts → All (λ p. p.1 < k) ps → IsSound (take k ts) ps table
@@ -173,11 +173,11 @@ sound-unbind ts p ps table new s e =
           let b : AreBound (length table) ts (p ∷ ps) = s.are_bound in
           by_test (p.0 == v)
           (λ q. let j : v ≡ p.0 = sym (eq_of p.0 v q) in
-              let x : get_or new v d ≡ None = ap (λ (t : List (Option ℕ)). get_or t v d) e ∙ (ap (λ m. get_or (set table p.0 None) m d) j ∙ get_or-set_same table p.0 None d b.1) in
-              x ∙ sym (ap (ref_of ps) j ∙ ref-none ts ps p.0 b.4))
+          let x : get_or new v d ≡ None = ap (λ (t : List (Option ℕ)). get_or t v d) e ∙ (ap (λ m. get_or (set table p.0 None) m d) j ∙ get_or-set_same table p.0 None d b.1) in
+          x ∙ sym (ap (ref_of ps) j ∙ ref-none ts ps p.0 b.4))
           (λ q. let n : v ≢ p.0 = λ i. false≢true (sym q ∙ of_eq p.0 v (sym i)) in
-              ap (λ (t : List (Option ℕ)). get_or t v d) e
-              ∙ (get_or-set_other table p.0 v None d n ∙ (s.looked_up v d (omega arith) ∙ if_false (p.0 == v) _ _ q)));
+          ap (λ (t : List (Option ℕ)). get_or t v d) e
+          ∙ (get_or-set_other table p.0 v None d n ∙ (s.looked_up v d (omega arith) ∙ if_false (p.0 == v) _ _ q)));
     }
 
 -- how far following may still go from a term: it only goes down
@@ -213,7 +213,7 @@ mark-good s m t b r =
     }
 
 -- a node that is followed
-var-of : (t : Term ℕ) (v : ℕ) → nodes.Var v ≡ head t → t ≡ var v
+pub var-of : (t : Term ℕ) (v : ℕ) → nodes.Var v ≡ head t → t ≡ var v
 var-of (var w) v h = let e : v ≡ w = cc in cc
 var-of (int i) v h = cc
 var-of (node f no_args) v h = cc
@@ -258,3 +258,9 @@ module _ (ts : List (Term ℕ)) (ps : List (ℕ × ℕ)) (table : List (Option �
 pub args-within : (n : ℕ) (ts : List (Term ℕ)) → AllWithin n ts → (ps : List ℕ) → All (λ p. p < length ts) ps → ArgsWithin n (args_at ts ps)
 args-within n ts h [] l = tt
 args-within n ts h (p ∷ ps) l = (AllWithin-at n ts p h (l 0 0 (omega arith)), args-within n ts h ps (λ k d m. l (suc k) d (omega arith)))
+
+-- terms that join change no binding
+pub bindings-kept : (n : ℕ) (ts us new : List (Term ℕ)) (ps : List (ℕ × ℕ)) → AreBound n ts ps → new ≡ ts ++ us → resolved new ps ≡ resolved ts ps
+bindings-kept n ts us new ps b e =
+    ap (λ (xs : List (Term ℕ)). resolved xs ps) e
+    ∙ resolved-same (length ts) ts (ts ++ us) (λ r h. get_or_append_left ts us (int (pos 0)) r h) ps (refs-there n ts ps b)

@@ -1,3 +1,11 @@
-mod Facts
-mod Seen
-mod Undoing
+pub mod Facts
+pub mod Seen
+pub mod Undoing
+mod Loading
+mod Weighing
+mod Zipping
+mod Turning
+pub mod Unifying
+pub mod Growing
+pub mod Renaming
+mod Building

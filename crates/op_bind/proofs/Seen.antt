@@ -1,12 +1,11 @@
 -- The outermost node of a value, and its arguments.
-use Rattle.std.proofs.Common.{◌≡◌, ℕ, zero, suc, ◌+◌, ◌<◌, ◌≤◌, List, [], ◌∷◌, length, pos, sym, ◌∙◌, ap, subst, refl, arith}
+use Rattle.std.proofs.Common.{◌≡◌, ℕ, zero, suc, ◌<◌, sym, ◌∙◌, ap, refl, arith}
 use Rattle.op_logic.specs.Term.{Term, var, int, node, Args, no_args, arg, args_of, nth_arg, arity, size, args_size, occurs, occurs_args}
 use Rattle.op_logic.specs.Bind.{Bindings, apply, follow}
 use Rattle.op_logic.specs.Laws.{Acyclic}
 use Rattle.op_logic.proofs.Applied.{apply_args, apply-int, apply-node, apply_args-none, apply_args-arg, apply-free}
 use Rattle.op_logic.proofs.Followed.{apply-follow, follow-free}
 use Rattle.op_term.specs.Head.{head, head_named, sym as name_of}
-use Rattle.op_term.specs.declared.node.Node.{Node}
 use Rattle.op_term.specs.declared.node.Node.TheVariants as nodes
 
 module _ (σ : Bindings ℕ) where
@@ -50,3 +49,32 @@ module _ (σ : Bindings ℕ) where
 
     pub nth-value : (q : Term ℕ) → q ≡ follow σ t → (i : ℕ) → i < arity (args_of q) → nth_arg (args_of (apply σ t)) i ≡ apply σ (nth_arg (args_of q) i)
     nth-value q e i h = ap (λ (us : Args ℕ). nth_arg us i) (args-value q e) ∙ nth-apply (args_of q) i h
+
+    var-followed : (q : Term ℕ) → q ≡ follow σ t → (w : ℕ) → nodes.Var w ≡ head q → apply σ t ≡ var w
+    var-followed (var v) e w h =
+        let n : w ≡ v = cc in
+        value (var v) e ∙ (apply-free σ v (follow-free σ t v acyclic (sym e)) ∙ ap var (sym n))
+    var-followed (int i) e w h = cc
+    var-followed (node f no_args) e w h = cc
+    var-followed (node f (arg u us)) e w h = cc
+
+    -- a variable is its own value
+    pub value-var : (q : Term ℕ) → q ≡ follow σ t → (w : ℕ) → nodes.Var w ≡ head q → apply σ t ≡ var w
+    value-var q e w h = var-followed q e w h
+
+    size-followed : (q : Term ℕ) → q ≡ follow σ t → ((w : ℕ) → head q ≡ nodes.Var w → ⊥) → size (apply σ t) ≡ suc (args_size (apply_args σ (args_of q)))
+    size-followed (var v) e h = absurd (h v refl)
+    size-followed (int i) e h = ap size (value (int i) e ∙ apply-int σ i) ∙ sym (ap (λ us. suc (args_size us)) (apply_args-none σ))
+    size-followed (node f ts) e h = ap size (value (node f ts) e ∙ apply-node σ f ts)
+
+    -- another node has its arguments' values
+    pub size-other : (q : Term ℕ) → q ≡ follow σ t → ((w : ℕ) → head q ≡ nodes.Var w → ⊥) → size (apply σ t) ≡ suc (args_size (apply_args σ (args_of q)))
+    size-other q e h = size-followed q e h
+
+    occurs-followed : (x : ℕ) (q : Term ℕ) → q ≡ follow σ t → ((w : ℕ) → head q ≡ nodes.Var w → ⊥) → occurs x (apply σ t) ≡ occurs_args x (apply_args σ (args_of q))
+    occurs-followed x (var v) e h = absurd (h v refl)
+    occurs-followed x (int i) e h = ap (occurs x) (value (int i) e ∙ apply-int σ i) ∙ sym (ap (occurs_args x) (apply_args-none σ))
+    occurs-followed x (node f ts) e h = ap (occurs x) (value (node f ts) e ∙ apply-node σ f ts)
+
+    pub occurs-other : (x : ℕ) (q : Term ℕ) → q ≡ follow σ t → ((w : ℕ) → head q ≡ nodes.Var w → ⊥) → occurs x (apply σ t) ≡ occurs_args x (apply_args σ (args_of q))
+    occurs-other x q e h = occurs-followed x q e h

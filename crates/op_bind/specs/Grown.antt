@@ -1,5 +1,5 @@
 -- A later state: what was there is still there.
-use Rattle.std.specs.Prelude.{◌≡◌, ℕ, ◌≤◌, length, take}
+use Rattle.std.specs.Prelude.{◌≡◌, ◌≤◌, length, take}
 use Rattle.op_bind.specs.State.{State, oldest}
 
 -- the terms of the old are the first of the new, and its bindings the oldest

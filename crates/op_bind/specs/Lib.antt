@@ -3,3 +3,5 @@ pub mod Sound
 pub mod Grown
 pub mod Loaded
 pub mod Pairs
+pub mod Built
+pub mod Marks

@@ -1,8 +1,8 @@
 -- Pairs that are still to be made equal, and what unifying leaves.
-use Rattle.std.specs.Prelude.{◌≡◌, ℕ, ◌+◌, ◌-◌, ◌<◌, ◌≤◌, ◌==◌, ◌&&◌, nat_eq, nat_lt, nat_le, Bool, true, false, if◌then◌else◌, List, [], ◌∷◌, reverse, length, Option, Some, None}
+use Rattle.std.specs.Prelude.{◌≡◌, ℕ, ◌-◌, ◌<◌, ◌≤◌, ◌==◌, ◌&&◌, nat_eq, nat_lt, nat_le, Bool, false, if◌then◌else◌, List, [], ◌∷◌, reverse, length, Option, Some, None}
 use Rattle.std.specs.Ordering.{int_eq}
 use Rattle.op_logic.specs.Term.{Term}
-use Rattle.op_logic.specs.Bind.{Bindings, Pairs, Turn, clash, goes, bind_turn, turn, Solved, unify}
+use Rattle.op_logic.specs.Bind.{Pairs, Turn, clash, goes, bind_turn, turn, Solved, unify}
 use Rattle.op_term.specs.Places.{term_at}
 use Rattle.op_term.specs.declared.node.Node.{Node}
 use Rattle.op_term.specs.declared.node.Node.TheVariants.{Var, Int, Atom, Struct}
@@ -42,10 +42,6 @@ pub record IsLater (old new : State) : Type 0 where
 abbrev pub turn_of : State → List (ℕ × ℕ) → ℕ → ℕ → Turn ℕ
 turn_of s todo a b = turn nat_eq (bindings s) (term_at s.terms a) (term_at s.terms b) (stack_pairs s.terms todo)
 
-abbrev pub steps_of : Turn ℕ → ℕ
-steps_of (clash c) = c
-steps_of (goes σ ps c) = c
-
 -- what a turn came to
 abbrev pub turned : Bool → State → List (ℕ × ℕ) → ℕ → Turn ℕ
 turned went s todo c = if went then goes (bindings s) (stack_pairs s.terms todo) c else clash c
@@ -69,3 +65,8 @@ ArePairs n (p ∷ ps) = (p.0 < n) × (p.1 < n) × ArePairs n ps
 abbrev pub IsBindTurn : Bool → State → State → ℕ → ℕ → ℕ → Type 0
 IsBindTurn went old new v r c =
     (ps : Pairs ℕ) → bind_turn v (term_at old.terms r) (bindings old) ps ≡ (if went then goes (bindings new) ps c else clash c)
+
+-- the pairs of two lists
+abbrev pub zip : List ℕ → List ℕ → List (ℕ × ℕ)
+zip (x ∷ xs) (y ∷ ys) = (x, y) ∷ zip xs ys
+zip _ _ = []

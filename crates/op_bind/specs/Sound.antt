@@ -1,9 +1,9 @@
 -- What holds of all bindings.
-use Rattle.std.specs.Prelude.{◌≡◌, ℕ, ◌<◌, ◌==◌, List, [], ◌∷◌, length, slice_index_or, Option, Some, None, Bool, false, if◌then◌else◌}
+use Rattle.std.specs.Prelude.{◌≡◌, ℕ, ◌<◌, ◌==◌, List, [], ◌∷◌, length, slice_index_or, Option, Some, None, false, if◌then◌else◌}
 use Rattle.op_logic.specs.Term.{Term, var, int, node, IsWithin, occurs}
 use Rattle.op_logic.specs.Bind.{apply, lookup}
 use Rattle.op_term.specs.Places.{term_at}
-use Rattle.op_bind.specs.State.{State, resolved}
+use Rattle.op_bind.specs.State.{resolved}
 
 abbrev pub AllWithin : ℕ → List (Term ℕ) → Type 0
 AllWithin n [] = Unit {0}

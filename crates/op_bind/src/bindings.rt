@@ -72,6 +72,7 @@ impl Bindings {
         requires there { All (λ r. r < length self.old.terms) args.now }
         requires some { 0 < length args.now }
         ensures number { IfOk result (λ r. r ≡ length self.old.terms) }
+        ensures bindings { bindings self.new ≡ bindings self.old }
         ensures ok { OnOk result (self.new ≡ record self.old { terms = self.old.terms ++ node name.0 (args_at self.old.terms args.now) ∷ [] }) }
         ensures err { OnErr result (self.new ≡ self.old) }
         ensures grows { Grows self.old self.new }

@@ -2,9 +2,17 @@
 #![tactic(auto)]
 
 mod bindings;
+mod laws;
 mod load;
 mod places;
+mod rename;
+mod resolve;
 mod step;
+mod unify;
 
 pub use bindings::Bindings;
+pub use laws::{growth_joins, marks_nest, terms_stay, undone_is_then};
 pub use places::{Clause, Mark, Ref, Unified};
+
+#[cfg(test)]
+mod tests;

@@ -3,6 +3,7 @@ ghost use Rattle.op_logic.specs.Term.{var, IsWithin, shift};
 ghost use Rattle.op_term.specs.Places.{term_at};
 ghost use Rattle.op_bind.specs.Loaded.{put, IsPut};
 ghost use Rattle.op_bind.specs.Grown.{Grows};
+ghost use Rattle.op_bind.specs.State.{bindings};
 
 use crate::bindings::Bindings;
 use crate::places::Ref;
@@ -90,13 +91,20 @@ impl Bindings {
         ensures there { IfOk result (λ r. r < length self.new.terms) }
         ensures value { IfOk result (λ r. term_at self.new.terms r ≡ shift first term.now) }
         ensures bound { self.new.bound ≡ self.old.bound }
+        ensures bindings { bindings self.new ≡ bindings self.old }
         ensures count { self.new.count ≡ self.old.count }
         ensures err { OnErr result (self.new ≡ self.old) }
         ensures grows { Grows self.old self.new }
     {
         let whole = Whole::new(term);
         let base = self.nodes.len();
-        put_all(self.alloc, &mut self.nodes, whole.nodes(), first, self.table.len() as u64)?;
+        put_all(
+            self.alloc,
+            &mut self.nodes,
+            whole.nodes(),
+            first,
+            self.table.len() as u64,
+        )?;
         let _end = self.nodes.len();
         Ok(Ref {
             at: base + whole.root(),

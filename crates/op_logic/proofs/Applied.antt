@@ -1,5 +1,5 @@
 -- Bindings that are applied to a term.
-use Rattle.std.proofs.Common.{◌≡◌, ℕ, ◌==◌, Bool, true, false, cond, ℤ, List, [], ◌∷◌, ◌++◌, Option, Some, None, sym, ◌∙◌, ap, subst, refl}
+use Rattle.std.proofs.Common.{◌≡◌, ℕ, ◌==◌, true, false, ℤ, [], ◌∷◌, ◌++◌, Some, None, sym, ◌∙◌, ap, refl}
 use Rattle.std.proofs.lemmas.Bool.Decides.{Decides-eqb}
 use Rattle.op_logic.specs.Term.{Term, var, int, node, Args, no_args, arg, occurs, replace, replace_args}
 use Rattle.op_logic.specs.Bind.{Bindings, apply, lookup}
@@ -67,8 +67,8 @@ module _ {N : Type 0} where
   apply-bound (p ∷ σ) v s a h =
       by_test (p.0 == v)
       (λ e. let i : p.1 ≡ s = (let q : Some p.1 ≡ Some s = sym (lookup-here p σ v e) ∙ h in cc) in
-          let n : p.0 ≡ v = eq_of p.0 v e in
-          ap (λ w. apply (p ∷ σ) (var w)) (sym n) ∙ (apply-last p.0 p.1 σ a ∙ ap (apply (p ∷ σ)) i))
+      let n : p.0 ≡ v = eq_of p.0 v e in
+      ap (λ w. apply (p ∷ σ) (var w)) (sym n) ∙ (apply-last p.0 p.1 σ a ∙ ap (apply (p ∷ σ)) i))
       (λ e. ap (replace p.0 (apply σ p.1)) (apply-bound σ v s a.0 (sym (lookup-there p σ v e) ∙ h)))
 
   pub apply-append-same : (ρ σ : Bindings N) (t u : Term N) → apply σ t ≡ apply σ u → apply (ρ ++ σ) t ≡ apply (ρ ++ σ) u
@@ -82,4 +82,4 @@ module _ {N : Type 0} where
       by_test (p.0 == v)
       (λ e. ap (λ w. occurs w (apply (p ∷ σ) t)) (sym (eq_of p.0 v e)) ∙ occurs-replaced p.0 (apply σ p.1) (apply σ t) a.2)
       (λ e. let l = sym (lookup-there p σ v e) ∙ h in
-          occurs-replace v p.0 (apply σ p.1) (apply σ t) (occurs-apply σ v s p.1 a.0 l) (occurs-apply σ v s t a.0 l))
+      occurs-replace v p.0 (apply σ p.1) (apply σ t) (occurs-apply σ v s p.1 a.0 l) (occurs-apply σ v s t a.0 l))

@@ -1,9 +1,9 @@
 -- The count of steps: more turns give the same, and a budget decides by the count alone.
-use Rattle.std.proofs.Common.{◌≡◌, ℕ, suc, zero, ◌+◌, ◌-◌, ◌==◌, ◌<◌, ◌≤◌, leb, cond, Bool, true, false, ◌&&◌, List, [], ◌∷◌, Option, Some, None, max, min, sym, ◌∙◌, ap, subst, refl, ℤ, arith}
-use Rattle.std.proofs.lemmas.Bool.{le-leb, lt-leb, leb-true, leb-false}
-use Rattle.op_logic.specs.Term.{Term, var, int, node, Args, no_args, arg, args_of, arity, occurs, size}
+use Rattle.std.proofs.Common.{◌≡◌, ℕ, suc, zero, ◌+◌, ◌-◌, ◌==◌, ◌<◌, ◌≤◌, leb, cond, Bool, true, false, [], ◌∷◌, Option, Some, None, max, min, sym, ◌∙◌, ap, subst, refl, arith}
+use Rattle.std.proofs.lemmas.Bool.{le-leb, lt-leb}
+use Rattle.op_logic.specs.Term.{Term, var, int, node, occurs, size}
 use Rattle.op_logic.specs.Bind.{Bindings, apply, follow, Pairs, Turn, clash, goes, zip_args, bind_turn, same_head, meet, turn, Solved, add_steps, after, solve, within, unify}
-use Rattle.op_logic.specs.Laws.{pay}
+use Rattle.op_logic.specs.Laws.{pay, steps_of}
 use Rattle.op_logic.proofs.Tests.{by_test, by_order, if_true, if_false}
 
 within-there : {A : Type 0} (n : ℕ) (r : A × ℕ) → r.1 ≤ n → within n (Some r) ≡ Some (r.0, n - r.1)
@@ -20,13 +20,9 @@ module _ {N : Type 0} where
       by_order n c
       (λ l. within-over n (r.0, c + r.1) (omega arith) ∙ sym (if_false _ _ _ (lt-leb c n l)))
       (λ l. by_order n (c + r.1)
-          (λ k. within-over n (r.0, c + r.1) k ∙ sym (if_true _ _ _ (le-leb c n l) ∙ within-over (n - c) r (omega arith)))
-          (λ k. let e : n - (c + r.1) ≡ (n - c) - r.1 = omega arith in
-              within-there n (r.0, c + r.1) k ∙ (ap (λ m. Some (r.0, m)) e ∙ sym (if_true _ _ _ (le-leb c n l) ∙ within-there (n - c) r (omega arith)))))
-
-  abbrev pub steps_of : Turn N → ℕ
-  steps_of (clash c) = c
-  steps_of (goes σ ps c) = c
+      (λ k. within-over n (r.0, c + r.1) k ∙ sym (if_true _ _ _ (le-leb c n l) ∙ within-over (n - c) r (omega arith)))
+      (λ k. let e : n - (c + r.1) ≡ (n - c) - r.1 = omega arith in
+      within-there n (r.0, c + r.1) k ∙ (ap (λ m. Some (r.0, m)) e ∙ sym (if_true _ _ _ (le-leb c n l) ∙ within-there (n - c) r (omega arith)))))
 
   bind-paid : (v : ℕ) (t : Term N) (σ : Bindings N) (ps : Pairs N) → 0 < steps_of (bind_turn v t σ ps)
   bind-paid v t σ ps =
@@ -85,7 +81,7 @@ module _ {N : Type 0} where
         let t : Turn N = turn eq σ p.0 p.1 ps in
         within-after (suc n) t (λ τ qs. solve eq k τ qs)
         ∙ (pay-same (suc n) t (λ m τ qs. within m (solve eq k τ qs)) (λ m τ qs. within m (solve eq n τ qs)) (turn-paid eq σ p.0 p.1 ps)
-            (λ m τ qs w. unify-enough b m k (omega arith) (omega arith) τ qs ∙ sym (unify-enough b m n (omega arith) (omega arith) τ qs))
+        (λ m τ qs w. unify-enough b m k (omega arith) (omega arith) τ qs ∙ sym (unify-enough b m n (omega arith) (omega arith) τ qs))
         ∙ sym (within-after (suc n) t (λ τ qs. solve eq n τ qs)))
 
     -- one turn of the loop
@@ -95,7 +91,7 @@ module _ {N : Type 0} where
         let t : Turn N = turn eq σ p.0 p.1 ps in
         within-after (suc n) t (λ τ qs. solve eq n τ qs)
         ∙ pay-same (suc n) t (λ m τ qs. within m (solve eq n τ qs)) (unify eq) (turn-paid eq σ p.0 p.1 ps)
-            (λ m τ qs w. unify-enough n m n (omega arith) (omega arith) τ qs)
+        (λ m τ qs w. unify-enough n m n (omega arith) (omega arith) τ qs)
 
     -- more turns give the same
     abbrev Stays : Option (Solved N) → Option (Solved N) → Type 0

@@ -1,10 +1,9 @@
 -- Whatever makes the pairs equal respects what solving gives, and so there is nothing that does where it gives none.
-use Rattle.std.proofs.Common.{◌≡◌, ℕ, suc, zero, ◌+◌, ◌==◌, ◌<◌, ◌≤◌, Bool, true, false, ◌&&◌, ◌||◌, List, [], ◌∷◌, Option, Some, None, max, min, sym, ◌∙◌, ap, subst, refl, ℤ, Decides, arith}
-use Rattle.std.specs.Ordering.{int_eq}
+use Rattle.std.proofs.Common.{◌≡◌, ℕ, suc, zero, ◌+◌, ◌==◌, ◌<◌, ◌≤◌, Bool, true, false, ◌&&◌, ◌||◌, [], ◌∷◌, Option, Some, None, max, min, sym, ◌∙◌, ap, subst, refl, ℤ, Decides, arith}
 use Rattle.std.proofs.lemmas.Bool.{false≢true}
 use Rattle.std.proofs.lemmas.Bool.Decides.{Decides-int_eq}
-use Rattle.op_logic.specs.Term.{Term, var, int, node, Args, no_args, arg, args_of, arity, occurs, occurs_args, size, args_size, replace, replace_args}
-use Rattle.op_logic.specs.Bind.{Bindings, apply, lookup, follow, follow_on, Pairs, Turn, clash, goes, zip_args, bind_turn, same_head, meet, turn, Solved, add_steps, after, solve}
+use Rattle.op_logic.specs.Term.{Term, var, int, node, Args, no_args, arg, arity, occurs, occurs_args, size, args_size, replace, replace_args}
+use Rattle.op_logic.specs.Bind.{Bindings, apply, lookup, follow, Pairs, Turn, clash, goes, zip_args, bind_turn, meet, turn, Solved, add_steps, after, solve}
 use Rattle.op_logic.specs.Laws.{Acyclic, instance_of, instances_of, Respects, Unifies}
 use Rattle.op_logic.proofs.Tests.{by_test, by_order, if_true, if_false}
 use Rattle.op_logic.proofs.Applied.{eq_of, of_eq, apply_args, apply-int, apply-node, apply-free}
@@ -86,26 +85,26 @@ module _ {N : Type 0} (θ : ℕ → Term N) where
       let a : apply σ (node f ts) ≡ node f (apply_args σ ts) = apply-node σ f ts in
       by_test (occurs v (apply σ (node f ts)))
       (λ o. let o2 : occurs_args v (apply_args σ ts) ≡ true = sym (ap (occurs v) a) ∙ o in
-          let l : size (θ v) ≤ args_size (instances_of θ (apply_args σ ts)) = occurs_args-size v (apply_args σ ts) o2 in
-          let k : node f (instances_of θ (apply_args σ ts)) ≡ θ v = sym (ap (instance_of θ) a) ∙ (apply-instance σ (node f ts) r ∙ sym e) in
-          let m : suc (args_size (instances_of θ (apply_args σ ts))) ≡ size (θ v) = ap size k in
-          absurd (omega arith))
+      let l : size (θ v) ≤ args_size (instances_of θ (apply_args σ ts)) = occurs_args-size v (apply_args σ ts) o2 in
+      let k : node f (instances_of θ (apply_args σ ts)) ≡ θ v = sym (ap (instance_of θ) a) ∙ (apply-instance σ (node f ts) r ∙ sym e) in
+      let m : suc (args_size (instances_of θ (apply_args σ ts))) ≡ size (θ v) = ap size k in
+      absurd (omega arith))
       (λ o. o)
 
   best-vars : (v w : ℕ) (σ : Bindings N) (ps : Pairs N) → Respects θ σ → lookup σ v ≡ None → lookup σ w ≡ None → (v == w) ≡ false → θ v ≡ θ w → Unifies θ ps → BestTurn (bind_turn (max v w) (var (min v w)) σ ps)
   best-vars v w σ ps r hv hw n e u =
       by_order v w
       (λ l. let x : max v w ≡ w = omega arith in
-          let m : min v w ≡ v = omega arith in
-          let o : (w == v) ≡ false = by_test (w == v) (λ q. absurd (false≢true (sym n ∙ of_eq v w (sym (eq_of w v q))))) (λ q. q) in
-          subst (λ (k : ℕ). BestTurn (bind_turn k (var (min v w)) σ ps)) (sym x)
-          (subst (λ (k : ℕ). BestTurn (bind_turn w (var k) σ ps)) (sym m)
-          (best-bind w (var v) σ ps r (sym e) u (absent-var w v σ hv o))))
+      let m : min v w ≡ v = omega arith in
+      let o : (w == v) ≡ false = by_test (w == v) (λ q. absurd (false≢true (sym n ∙ of_eq v w (sym (eq_of w v q))))) (λ q. q) in
+      subst (λ (k : ℕ). BestTurn (bind_turn k (var (min v w)) σ ps)) (sym x)
+      (subst (λ (k : ℕ). BestTurn (bind_turn w (var k) σ ps)) (sym m)
+      (best-bind w (var v) σ ps r (sym e) u (absent-var w v σ hv o))))
       (λ l. let x : max v w ≡ v = omega arith in
-          let m : min v w ≡ w = omega arith in
-          subst (λ (k : ℕ). BestTurn (bind_turn k (var (min v w)) σ ps)) (sym x)
-          (subst (λ (k : ℕ). BestTurn (bind_turn v (var k) σ ps)) (sym m)
-          (best-bind v (var w) σ ps r e u (absent-var v w σ hw n))))
+      let m : min v w ≡ w = omega arith in
+      subst (λ (k : ℕ). BestTurn (bind_turn k (var (min v w)) σ ps)) (sym x)
+      (subst (λ (k : ℕ). BestTurn (bind_turn v (var k) σ ps)) (sym m)
+      (best-bind v (var w) σ ps r e u (absent-var v w σ hw n))))
 
   arity-instances : (ts : Args N) → arity (instances_of θ ts) ≡ arity ts
   arity-instances no_args = refl

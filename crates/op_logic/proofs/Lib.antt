@@ -6,3 +6,6 @@ pub mod Followed
 pub mod Solving
 pub mod General
 pub mod Counting
+pub mod Unified
+pub mod Renaming
+pub mod Total

@@ -1,5 +1,5 @@
 -- A term in place of a variable.
-use Rattle.std.proofs.Common.{◌≡◌, ℕ, ◌==◌, Bool, true, false, ◌||◌, sym, ◌∙◌, ap, refl}
+use Rattle.std.proofs.Common.{◌≡◌, ℕ, ◌==◌, Bool, true, false, ◌||◌, ◌∙◌, ap, refl}
 use Rattle.op_logic.specs.Term.{Term, var, int, node, Args, no_args, arg, occurs, occurs_args, replace, replace_args}
 use Rattle.op_logic.proofs.Tests.{by_test, if_true, if_false}
 

@@ -1,12 +1,12 @@
 -- What solving gives makes both sides of each pair equal, and only adds bindings.
-use Rattle.std.proofs.Common.{◌≡◌, ℕ, suc, ◌+◌, ◌==◌, nat_eq, Bool, true, false, ◌&&◌, List, [], ◌∷◌, ◌++◌, Option, Some, None, cond, max, min, sym, ◌∙◌, ap, subst, refl, append_assoc, ℤ, Decides, arith, zero, ◌<◌, ◌≤◌}
+use Rattle.std.proofs.Common.{◌≡◌, ℕ, suc, ◌+◌, ◌==◌, Bool, true, false, ◌&&◌, [], ◌∷◌, ◌++◌, Option, Some, None, max, min, sym, ◌∙◌, ap, subst, refl, append_assoc, Decides, arith, zero}
 use Rattle.std.specs.Ordering.{int_eq}
 use Rattle.std.proofs.lemmas.Bool.Decides.{Decides-int_eq}
-use Rattle.op_logic.specs.Term.{Term, var, int, node, Args, no_args, arg, args_of, arity, occurs, size}
-use Rattle.op_logic.specs.Bind.{Bindings, apply, lookup, follow, Pairs, Turn, clash, goes, zip_args, bind_turn, same_head, meet, turn, Solved, add_steps, after, solve}
+use Rattle.op_logic.specs.Term.{Term, var, int, node, Args, no_args, arg, arity, occurs, size}
+use Rattle.op_logic.specs.Bind.{Bindings, apply, lookup, follow, Pairs, Turn, clash, goes, zip_args, bind_turn, meet, turn, Solved, add_steps, after, solve}
 use Rattle.op_logic.specs.Laws.{Acyclic, AreEqual}
 use Rattle.op_logic.proofs.Tests.{by_test, by_order, if_true, if_false}
-use Rattle.op_logic.proofs.Applied.{eq_of, of_eq, apply_args, apply-int, apply-node, apply_args-none, apply_args-arg, apply-bound, apply-append-same, lookup-here}
+use Rattle.op_logic.proofs.Applied.{eq_of, of_eq, apply_args, apply-node, apply_args-arg, apply-bound, apply-append-same, lookup-here}
 use Rattle.op_logic.proofs.Followed.{apply-follow, follow-free}
 
 pub and_left : (a b : Bool) → (a && b) ≡ true → a ≡ true
@@ -47,23 +47,23 @@ module _ {N : Type 0} where
       by_test (occurs v s)
       (λ o. subst (GoodTurn σ (var v) t ps) (sym (if_true (occurs v s) (clash (1 + size s)) (goes τ ps (1 + size s)) o)) tt)
       (λ o. let c : Acyclic τ = (a, h, o) in
-          let g : GoodTurn σ (var v) t ps (goes τ ps (1 + size s)) =
-              ((v, t) ∷ [], (refl, c, λ χ e. (apply-append-same χ τ (var v) t (apply-bound τ v t c (lookup-here (v, t) σ v (of_eq v v refl))), e))) in
-          subst (GoodTurn σ (var v) t ps) (sym (if_false (occurs v s) (clash (1 + size s)) (goes τ ps (1 + size s)) o)) g)
+      let g : GoodTurn σ (var v) t ps (goes τ ps (1 + size s)) =
+      ((v, t) ∷ [], (refl, c, λ χ e. (apply-append-same χ τ (var v) t (apply-bound τ v t c (lookup-here (v, t) σ v (of_eq v v refl))), e))) in
+      subst (GoodTurn σ (var v) t ps) (sym (if_false (occurs v s) (clash (1 + size s)) (goes τ ps (1 + size s)) o)) g)
 
   good-vars : (v w : ℕ) (σ : Bindings N) (ps : Pairs N) → Acyclic σ → lookup σ v ≡ None → lookup σ w ≡ None → GoodTurn σ (var v) (var w) ps (bind_turn (max v w) (var (min v w)) σ ps)
   good-vars v w σ ps a hv hw =
       by_order v w
       (λ l. let x : max v w ≡ w = omega arith in
-          let n : min v w ≡ v = omega arith in
-          subst (λ (m : ℕ). GoodTurn σ (var v) (var w) ps (bind_turn m (var (min v w)) σ ps)) (sym x)
-          (subst (λ (m : ℕ). GoodTurn σ (var v) (var w) ps (bind_turn w (var m) σ ps)) (sym n)
-          (good-flip σ (var w) (var v) ps (bind_turn w (var v) σ ps) (good-bind w (var v) σ ps a hw))))
+      let n : min v w ≡ v = omega arith in
+      subst (λ (m : ℕ). GoodTurn σ (var v) (var w) ps (bind_turn m (var (min v w)) σ ps)) (sym x)
+      (subst (λ (m : ℕ). GoodTurn σ (var v) (var w) ps (bind_turn w (var m) σ ps)) (sym n)
+      (good-flip σ (var w) (var v) ps (bind_turn w (var v) σ ps) (good-bind w (var v) σ ps a hw))))
       (λ l. let x : max v w ≡ v = omega arith in
-          let n : min v w ≡ w = omega arith in
-          subst (λ (m : ℕ). GoodTurn σ (var v) (var w) ps (bind_turn m (var (min v w)) σ ps)) (sym x)
-          (subst (λ (m : ℕ). GoodTurn σ (var v) (var w) ps (bind_turn v (var m) σ ps)) (sym n)
-          (good-bind v (var w) σ ps a hv)))
+      let n : min v w ≡ w = omega arith in
+      subst (λ (m : ℕ). GoodTurn σ (var v) (var w) ps (bind_turn m (var (min v w)) σ ps)) (sym x)
+      (subst (λ (m : ℕ). GoodTurn σ (var v) (var w) ps (bind_turn v (var m) σ ps)) (sym n)
+      (good-bind v (var w) σ ps a hv)))
 
   abbrev pub IsFree : Bindings N → Term N → Type 0
   IsFree σ (var v) = lookup σ v ≡ None
@@ -78,7 +78,7 @@ module _ {N : Type 0} where
     good-meet (var v) (var w) σ ps c hv hw =
         by_test (v == w)
         (λ e. subst (GoodTurn σ (var v) (var w) ps) (sym (if_true _ _ _ e))
-            (good-same (var v) (var w) σ ps ps c (λ υ q. (ap (λ x. apply υ (var x)) (eq_of v w e), q))))
+        (good-same (var v) (var w) σ ps ps c (λ υ q. (ap (λ x. apply υ (var x)) (eq_of v w e), q))))
         (λ e. subst (GoodTurn σ (var v) (var w) ps) (sym (if_false _ _ _ e)) (good-vars v w σ ps c hv hw))
     good-meet (var v) (int j) σ ps c hv hw = good-bind v (int j) σ ps c hv
     good-meet (var v) (node g us) σ ps c hv hw = good-bind v (node g us) σ ps c hv
@@ -86,7 +86,7 @@ module _ {N : Type 0} where
     good-meet (int i) (int j) σ ps c hv hw =
         by_test (int_eq i j)
         (λ e. subst (GoodTurn σ (int i) (int j) ps) (sym (if_true _ _ _ e))
-            (good-same (int i) (int j) σ ps ps c (λ υ q. (ap (λ x. apply υ (int x)) ((Decides-int_eq i j).0 e), q))))
+        (good-same (int i) (int j) σ ps ps c (λ υ q. (ap (λ x. apply υ (int x)) ((Decides-int_eq i j).0 e), q))))
         (λ e. subst (GoodTurn σ (int i) (int j) ps) (sym (if_false _ _ _ e)) tt)
     good-meet (int i) (node g us) σ ps c hv hw = tt
     good-meet (node f ts) (var w) σ ps c hv hw = good-flip σ (var w) (node f ts) ps (bind_turn w (node f ts) σ ps) (good-bind w (node f ts) σ ps c hw)
@@ -94,12 +94,12 @@ module _ {N : Type 0} where
     good-meet (node f ts) (node g us) σ ps c hv hw =
         by_test (eq f g && (arity ts == arity us))
         (λ e. subst (GoodTurn σ (node f ts) (node g us) ps) (sym (if_true _ _ _ e))
-            (good-same (node f ts) (node g us) σ ps (zip_args ts us ps) c
-            (λ υ q. let n : f ≡ g = (d f g).0 (and_left (eq f g) (arity ts == arity us) e) in
-                let z = zip-equal υ ts us ps (eq_of (arity ts) (arity us) (and_right (eq f g) (arity ts == arity us) e)) q in
-                let k : apply_args υ ts ≡ apply_args υ us = z.0 in
-                let l : node f (apply_args υ ts) ≡ node g (apply_args υ us) = cc in
-                (apply-node υ f ts ∙ (l ∙ sym (apply-node υ g us)), z.1))))
+        (good-same (node f ts) (node g us) σ ps (zip_args ts us ps) c
+        (λ υ q. let n : f ≡ g = (d f g).0 (and_left (eq f g) (arity ts == arity us) e) in
+        let z = zip-equal υ ts us ps (eq_of (arity ts) (arity us) (and_right (eq f g) (arity ts == arity us) e)) q in
+        let k : apply_args υ ts ≡ apply_args υ us = z.0 in
+        let l : node f (apply_args υ ts) ≡ node g (apply_args υ us) = cc in
+        (apply-node υ f ts ∙ (l ∙ sym (apply-node υ g us)), z.1))))
         (λ e. subst (GoodTurn σ (node f ts) (node g us) ps) (sym (if_false _ _ _ e)) tt)
 
     free-followed : (σ : Bindings N) (t q : Term N) → Acyclic σ → follow σ t ≡ q → IsFree σ q
@@ -116,10 +116,16 @@ module _ {N : Type 0} where
 
     good-followed : (σ : Bindings N) (a b : Term N) (ps : Pairs N) (t : Turn N) → Acyclic σ → GoodTurn σ (follow σ a) (follow σ b) ps t → GoodTurn σ a b ps t
     good-followed σ a b ps (clash c) y h = tt
-    good-followed σ a b ps (goes τ qs c) y h =
-        (h.0, (h.1.0, h.1.1, λ χ e.
+    good-followed σ a b ps (goes τ qs c) y h = (
+      h.0,
+      (
+        h.1.0,
+        h.1.1,
+        λ χ e.
             (let r = h.1.2 χ e in
-            (sym (later-followed σ τ χ h.0 a y h.1.0) ∙ (r.0 ∙ later-followed σ τ χ h.0 b y h.1.0), r.1))))
+            (sym (later-followed σ τ χ h.0 a y h.1.0) ∙ (r.0 ∙ later-followed σ τ χ h.0 b y h.1.0), r.1)),
+      ),
+    )
 
     pub good-turn : (σ : Bindings N) (a b : Term N) (ps : Pairs N) → Acyclic σ → GoodTurn σ a b ps (turn eq σ a b ps)
     good-turn σ a b ps y =

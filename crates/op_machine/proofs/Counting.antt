@@ -1,12 +1,12 @@
 -- Each move keeps the bounds on what a machine counts.
-use Rattle.std.proofs.Common.{◌≡◌, ℕ, zero, suc, ◌+◌, ◌-◌, ◌*◌, ◌^◌, ◌<◌, ◌≤◌, ◌==◌, nat_le, Bool, true, false, List, [], ◌∷◌, ◌++◌, length, Option, Some, None, refl, sym, ap, subst, arith, if◌then◌else◌}
+use Rattle.std.proofs.Common.{◌≡◌, ℕ, suc, ◌+◌, ◌-◌, ◌*◌, ◌^◌, ◌<◌, ◌≤◌, ◌==◌, nat_le, Bool, true, false, List, [], ◌∷◌, length, Option, Some, None, refl, subst, arith, if◌then◌else◌}
 use Rattle.std.proofs.lemmas.Bool.Decides.{nat_tests}
 use Rattle.op_logic.specs.Term.{Term, shift}
 use Rattle.op_logic.specs.Bind.{Bindings, solve, unify, Solved as Result}
 use Rattle.op_trace.specs.World.{Text, text_eq, Clause, World, Setup, Barrier, Call, Item, Goal, Exit, open_boxes, procedure}
-use Rattle.op_trace.specs.Visit.{Verdict, Stopped, Failed, Spent, with_event, Control, Succeed, Give_up, Both, Invoke, control, is_true, entered, Choice, Redo, More, Fail}
+use Rattle.op_trace.specs.Visit.{Stopped, Control, Succeed, Give_up, Both, Invoke, control, is_true, entered, Choice, Redo, More, Fail}
 use Rattle.op_trace.proofs.Later.{IsLess, within-less}
-use Rattle.op_machine.specs.Resume.{with_more, State, Going, Back, Over, Moved, silent, paid, pay, invoked, chosen, met, tried, at_solution, move, world_of}
+use Rattle.op_machine.specs.Resume.{with_more, State, Going, Back, Over, Moved, paid, chosen, met, tried, move}
 use Rattle.op_machine.specs.Counted.{pending, IsNested, AreNested, event_bound, Counts, Counted}
 
 -- the bound rises with the steps
@@ -43,16 +43,16 @@ nested-length n (Goal t b ∷ J) i = nested-length n J i
 nested-length n (Exit k g ∷ J) i = omega (arith, i.0, i.1)
 
 pub paid-counted : (t : Bool) (s : Setup) (n : ℕ) (w : World) (h : World → Moved) → nat_le (w.steps + n) s.budget ≡ t
-  → Counts s w → (w.events ≤ event_bound w.steps) → (w.solutions ≤ suc w.steps)
-  → (w.steps + n ≤ s.budget → Counted s (h (record w { steps = w.steps + n })).state)
-  → Counted s (paid t s n w h).state
+    → Counts s w → (w.events ≤ event_bound w.steps) → (w.solutions ≤ suc w.steps)
+    → (w.steps + n ≤ s.budget → Counted s (h (record w { steps = w.steps + n })).state)
+    → Counted s (paid t s n w h).state
 paid-counted true s n w h test c e q k = let fits : w.steps + n ≤ s.budget = grind (arith, nat_tests) in k fits
 paid-counted false s n w h test c e q k =
     let more : event_bound w.steps ≤ event_bound s.budget = bound-same w.steps s.budget c.steps in
     (record { steps = omega arith; calls = omega (arith, c.steps, c.calls) }, omega arith, omega (arith, c.steps))
 
 pub more-nested : (n : ℕ) (cs : List Clause) (k : ℕ) (g : Term Text) (σ : Bindings Text) (J : List Item) (K : List Choice)
-  → IsNested n (Exit k g ∷ J) → AreNested n K → AreNested n (with_more cs k g σ J K)
+    → IsNested n (Exit k g ∷ J) → AreNested n K → AreNested n (with_more cs k g σ J K)
 more-nested n [] k g σ J K i a = a
 more-nested n (c ∷ cs) k g σ J K i a = (i, a)
 
@@ -62,13 +62,14 @@ more-pending (c ∷ cs) k g σ J K = refl
 
 -- a goal of which a step was paid, from n steps
 pub chosen-counted : (q : Control) (s : Setup) (n : ℕ) (t : Term Text) (m : Barrier) (J : List Item) (K : List Choice) (σ : Bindings Text) (w : World)
-  → w.steps ≡ n + 1 → w.steps ≤ s.budget → w.calls ≤ n → w.solutions ≤ n
-  → w.events + (2 * length (open_boxes J) + pending K) ≤ event_bound n → IsNested w.calls J → AreNested w.calls K
-  → Counted s (chosen q t m J K σ w).state
+    → w.steps ≡ n + 1 → w.steps ≤ s.budget → w.calls ≤ n → w.solutions ≤ n
+    → w.events + (2 * length (open_boxes J) + pending K) ≤ event_bound n → IsNested w.calls J → AreNested w.calls K
+    → Counted s (chosen q t m J K σ w).state
 chosen-counted q s n t m J K σ w e below c sol ev nest all = go q
   where
     up : event_bound n + (4 * n + 6) ≤ event_bound w.steps
     up = bound-up n w.steps (omega arith)
+
     go : (q : Control) → Counted s (chosen q t m J K σ w).state
     go Succeed = (record { steps = below; calls = omega arith }, omega (arith, up), omega arith, nest, all)
     go Give_up = (record { steps = below; calls = omega arith }, omega (arith, up), omega arith, all)
@@ -77,9 +78,12 @@ chosen-counted q s n t m J K σ w e below c sol ev nest all = go q
         let more : w.calls ≤ w.calls + 1 = omega arith in
         let deep : length (open_boxes J) ≤ w.calls = nested-length w.calls J nest in
         let this : IsNested (w.calls + 1) (Exit (w.calls + 1) t ∷ J) = (omega arith, omega arith, nested-more w.calls (w.calls + 1) J more nest) in
-        let cs : List Clause = procedure w.clauses t in
-        (record { steps = below; calls = omega arith }, omega (arith, up, more-pending cs (w.calls + 1) t σ J (Fail (w.calls + 1) t σ J ∷ K)), omega arith,
-          more-nested (w.calls + 1) cs (w.calls + 1) t σ J (Fail (w.calls + 1) t σ J ∷ K) this (this, all-nested-more w.calls (w.calls + 1) K more all))
+        let cs : List Clause = procedure w.clauses t in (
+          record { steps = below; calls = omega arith },
+          omega (arith, up, more-pending cs (w.calls + 1) t σ J (Fail (w.calls + 1) t σ J ∷ K)),
+          omega arith,
+          more-nested (w.calls + 1) cs (w.calls + 1) t σ J (Fail (w.calls + 1) t σ J ∷ K) this (this, all-nested-more w.calls (w.calls + 1) K more all),
+        )
 
 pub entered-nested : (f : ℕ) (c : Clause) (k : ℕ) (g : Term Text) (J : List Item) (n : ℕ) → IsNested n (Exit k g ∷ J) → IsNested n (entered f c k g J)
 entered-nested f c k g J n i = go (is_true c.body)
@@ -97,9 +101,9 @@ entered-open f c k g J = go (is_true c.body)
 
 -- a clause that was tried, from n steps, with one step paid
 pub met-counted : (s : Setup) (n : ℕ) (c : Clause) (k : ℕ) (g : Term Text) (J : List Item) (K : List Choice) (w : World) (o : Option (Result Text))
-  → w.steps ≡ n + 1 → w.steps ≤ s.budget → w.calls ≤ n → w.solutions ≤ suc n → w.events + pending K ≤ event_bound n
-  → IsNested w.calls (Exit k g ∷ J) → AreNested w.calls K → IsLess (s.budget - w.steps) o
-  → Counted s (met s c k g J K w o).state
+    → w.steps ≡ n + 1 → w.steps ≤ s.budget → w.calls ≤ n → w.solutions ≤ suc n → w.events + pending K ≤ event_bound n
+    → IsNested w.calls (Exit k g ∷ J) → AreNested w.calls K → IsLess (s.budget - w.steps) o
+    → Counted s (met s c k g J K w o).state
 met-counted s n c k g J K w None e below cal sol ev nest all less =
     let more : event_bound n ≤ event_bound s.budget = bound-same n s.budget (omega arith) in
     (record { steps = omega arith; calls = omega arith }, omega (arith, more), omega arith)
@@ -109,21 +113,21 @@ met-counted s n c k g J K w (Some (None, left)) e below cal sol ev nest all less
 met-counted s n c k g J K w (Some (Some τ, left)) e below cal sol ev nest all less =
     let here : event_bound n ≤ event_bound (s.budget - left) = bound-same n (s.budget - left) (omega arith) in
     paid-counted (nat_le (s.budget - left + c.variables) s.budget) s c.variables (record w { steps = s.budget - left }) _ refl
-      (record { steps = omega arith; calls = omega arith }) (omega (arith, here)) (omega arith)
-      (λ fits.
-        let up : event_bound n + (4 * n + 6) ≤ event_bound (s.budget - left + c.variables) = bound-up n (s.budget - left + c.variables) (omega arith) in
-        let deep : length (open_boxes J) < n + 1 = omega (arith, nest.0, nest.1) in
-        (record { steps = fits; calls = omega arith }, omega (arith, up, entered-open w.variables c k g J), omega arith, entered-nested w.variables c k g J w.calls nest, all))
+    (record { steps = omega arith; calls = omega arith }) (omega (arith, here)) (omega arith)
+    (λ fits.
+    let up : event_bound n + (4 * n + 6) ≤ event_bound (s.budget - left + c.variables) = bound-up n (s.budget - left + c.variables) (omega arith) in
+    let deep : length (open_boxes J) < n + 1 = omega (arith, nest.0, nest.1) in
+    (record { steps = fits; calls = omega arith }, omega (arith, up, entered-open w.variables c k g J), omega arith, entered-nested w.variables c k g J w.calls nest, all))
 
 pub tried-counted : (s : Setup) (c : Clause) (k : ℕ) (g : Term Text) (σ : Bindings Text) (J : List Item) (K : List Choice) (w : World)
-  → Counts s w → w.solutions ≤ suc w.steps → w.events + pending K ≤ event_bound w.steps
-  → IsNested w.calls (Exit k g ∷ J) → AreNested w.calls K
-  → Counted s (tried s c k g σ J K w).state
+    → Counts s w → w.solutions ≤ suc w.steps → w.events + pending K ≤ event_bound w.steps
+    → IsNested w.calls (Exit k g ∷ J) → AreNested w.calls K
+    → Counted s (tried s c k g σ J K w).state
 tried-counted s c k g σ J K w counts sol ev nest all =
     paid-counted (nat_le (w.steps + 1) s.budget) s 1 w _ refl counts (omega arith) sol
-      (λ fits. met-counted s w.steps c k g J K (record w { steps = w.steps + 1 })
-        (unify text_eq (s.budget - (w.steps + 1)) σ ((g, shift w.variables c.head) ∷ [])) refl fits counts.calls sol ev nest all
-        (within-less {A = Option (Bindings Text)} (s.budget - (w.steps + 1)) (solve text_eq (s.budget - (w.steps + 1)) σ ((g, shift {N = Text} w.variables c.head) ∷ []))))
+    (λ fits. met-counted s w.steps c k g J K (record w { steps = w.steps + 1 })
+    (unify text_eq (s.budget - (w.steps + 1)) σ ((g, shift w.variables c.head) ∷ [])) refl fits counts.calls sol ev nest all
+    (within-less {A = Option (Bindings Text)} (s.budget - (w.steps + 1)) (solve text_eq (s.budget - (w.steps + 1)) σ ((g, shift {N = Text} w.variables c.head) ∷ []))))
 
 pub move-counted : (s : Setup) (t : State) → Counted s t → Counted s (move s t).state
 move-counted s (Going [] K σ w) h = go (w.solutions + 1 == s.wanted)
@@ -135,7 +139,7 @@ move-counted s (Going (Exit k g ∷ J) K σ w) h =
     (record { steps = h.0.steps; calls = h.0.calls }, omega arith, h.2, h.3.2, (h.3, h.4))
 move-counted s (Going (Goal t m ∷ J) K σ w) h =
     paid-counted (nat_le (w.steps + 1) s.budget) s 1 w _ refl h.0 (omega arith) (omega arith)
-      (λ fits. chosen-counted (control t) s w.steps t m J K σ (record w { steps = w.steps + 1 }) refl fits h.0.calls h.2 h.1 h.3 h.4)
+    (λ fits. chosen-counted (control t) s w.steps t m J K σ (record w { steps = w.steps + 1 }) refl fits h.0.calls h.2 h.1 h.3 h.4)
 move-counted s (Back [] w) h = (record { steps = h.0.steps; calls = h.0.calls }, omega arith, h.2)
 move-counted s (Back (Redo k g σ J ∷ K) w) h = (record { steps = h.0.steps; calls = h.0.calls }, omega arith, h.2, h.3.1)
 move-counted s (Back (Fail k g σ J ∷ K) w) h = (record { steps = h.0.steps; calls = h.0.calls }, omega arith, h.2, h.3.1)

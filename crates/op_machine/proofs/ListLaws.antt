@@ -1,5 +1,5 @@
 -- Laws of lists that share their ends.
-use Rattle.std.proofs.Common.{◌≡◌, ℕ, zero, suc, ◌+◌, ◌-◌, ◌<◌, ◌≤◌, List, [], ◌∷◌, ◌++◌, length, get_or, refl, sym, ap, ◌∙◌, subst, arith, length-append, append_assoc}
+use Rattle.std.proofs.Common.{◌≡◌, ℕ, zero, suc, ◌+◌, ◌-◌, ◌<◌, ◌≤◌, List, [], ◌∷◌, ◌++◌, length, get_or, refl, sym, ap, ◌∙◌, subst, arith, length-append}
 use Rattle.std.proofs.lemmas.List.{get_or_append_left}
 use Rattle.std.proofs.Math.Seq.{get_or-append_seam}
 use Rattle.op_logic.proofs.Tests.{by_order}
@@ -33,10 +33,10 @@ lists_after-push L [] c = refl
 lists_after-push L (b ∷ cs) c = lists_after-push (joined L b) cs c
 
 pub AreLinked-push : (L : List (List Item)) (cs : List Cell) (c : Cell) → AreLinked L cs
-  → c.rest < length (lists_after L cs)
-  → c.parent ≡ head_number (opened (c.item ∷ list_in (lists_after L cs) c.rest))
-  → c.depth ≡ length (opened (c.item ∷ list_in (lists_after L cs) c.rest))
-  → AreLinked L (cs ++ c ∷ [])
+    → c.rest < length (lists_after L cs)
+    → c.parent ≡ head_number (opened (c.item ∷ list_in (lists_after L cs) c.rest))
+    → c.depth ≡ length (opened (c.item ∷ list_in (lists_after L cs) c.rest))
+    → AreLinked L (cs ++ c ∷ [])
 AreLinked-push L [] c l r p d = (r, p, d, tt)
 AreLinked-push L (b ∷ cs) c l r p d = (l.0, l.1, l.2, AreLinked-push (joined L b) cs c l.3 r p d)
 
@@ -55,15 +55,15 @@ opened-cons (item.Exit k g) I = omega arith
 pub joined-shallow : (L : List (List Item)) (c : Cell) → c.rest < length L → AreShallow L → AreShallow (joined L c)
 joined-shallow L c r s m h =
     by_order m (length L)
-      (λ l. subst (λ (I : List Item). length (opened I) ≤ m) (sym (list_in-joined L c m l)) (s m l))
-      (λ g.
-        let e : m ≡ length L = omega (arith, length-joined L c) in
-        let at_end : list_in (joined L c) m ≡ c.item ∷ list_in L c.rest = ap (λ n. list_in (joined L c) n) e ∙ get_or-append_seam L (c.item ∷ list_in L c.rest) [] [] in
-        let small : length (opened (c.item ∷ list_in L c.rest)) ≤ m = omega (arith, opened-cons c.item (list_in L c.rest), s c.rest r) in
-        subst (λ (I : List Item). length (opened I) ≤ m) (sym at_end) small)
+    (λ l. subst (λ (I : List Item). length (opened I) ≤ m) (sym (list_in-joined L c m l)) (s m l))
+    (λ g.
+    let e : m ≡ length L = omega (arith, length-joined L c) in
+    let at_end : list_in (joined L c) m ≡ c.item ∷ list_in L c.rest = ap (λ n. list_in (joined L c) n) e ∙ get_or-append_seam L (c.item ∷ list_in L c.rest) [] [] in
+    let small : length (opened (c.item ∷ list_in L c.rest)) ≤ m = omega (arith, opened-cons c.item (list_in L c.rest), s c.rest r) in
+    subst (λ (I : List Item). length (opened I) ≤ m) (sym at_end) small)
 
 pub cell-begins : (L : List (List Item)) (cs : List Cell) (i : ℕ) (d : Cell) → AreShallow L → AreLinked L cs → i < length cs
-  → Begins (lists_after L cs) (length L + i) (get_or cs i d)
+    → Begins (lists_after L cs) (length L + i) (get_or cs i d)
 cell-begins L [] i d s l h = absurd (omega arith)
 cell-begins L (c ∷ cs) zero d s l h =
     let M : List (List Item) = lists_after (joined L c) cs in

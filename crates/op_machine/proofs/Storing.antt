@@ -1,5 +1,5 @@
 -- What a store keeps when it reads.
-use Rattle.std.proofs.Common.{◌≡◌, ℕ, zero, suc, ◌+◌, ◌<◌, ◌≤◌, List, [], ◌∷◌, length, get_or, take, map, All, codes, refl, sym, ap, ◌∙◌, subst, arith, length-take}
+use Rattle.std.proofs.Common.{◌≡◌, ℕ, zero, suc, ◌<◌, ◌≤◌, List, [], ◌∷◌, length, take, map, All, refl, ap, ◌∙◌, arith, length-take}
 use Rattle.op_logic.specs.Names.{name_at, IsTable}
 use Rattle.op_logic.proofs.Naming.{name-more}
 use Rattle.op_reader.specs.Form.{Rule, AreBelow, named_rules}
@@ -12,7 +12,7 @@ heads_below (r ∷ rs) n b (suc k) d h = heads_below rs n (λ i e l. b (suc i) e
 
 -- the names of a store that grows, with rules over the new names
 pub stored_more : (old : Tables) (names : List (List ℕ)) (rules : List (Rule ℕ)) → IsStored old → IsTable names → take (length old.names) names ≡ old.names
-  → AreBelow (length names) rules → IsStored (record { names = names; rules = rules })
+    → AreBelow (length names) rules → IsStored (record { names = names; rules = rules })
 stored_more old names rules s t kept below =
     let more : length old.names ≤ length names = omega (arith, length-take (length old.names) names, ap length kept) in
     record {
@@ -36,7 +36,7 @@ names_more old new (x ∷ xs) kept b =
 
 -- rules over names that were there are the same over a table that grew
 pub named_rules_more : (old new : List (List ℕ)) (rules : List (Rule ℕ)) → take (length old) new ≡ old → AreBelow (length old) rules
-  → named_rules new rules ≡ named_rules old rules
+    → named_rules new rules ≡ named_rules old rules
 named_rules_more old new [] kept b = refl
 named_rules_more old new (r ∷ rs) kept b =
     let head : name_at new r.0 ≡ name_at old r.0 = name-more old new kept r.0 (b 0 r (omega arith)).0 in

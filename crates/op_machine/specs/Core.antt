@@ -1,7 +1,6 @@
 -- What a machine's parts mean.
-use Rattle.std.specs.Prelude.{◌≡◌, ℕ, suc, ◌+◌, ◌<◌, ◌≤◌, List, [], ◌∷◌, ◌++◌, length, map, reverse, slice_index_or}
-use Rattle.op_logic.specs.Term.{Term}
-use Rattle.op_reader.specs.Form.{Rule, rule_at}
+use Rattle.std.specs.Prelude.{◌≡◌, ℕ, ◌<◌, ◌≤◌, List, [], ◌∷◌, length, map, reverse}
+use Rattle.op_reader.specs.Form.{rule_at}
 use Rattle.op_trace.specs.World as world
 use Rattle.op_trace.specs.World.{World, Setup, Event, Turn, Shown, Solved, loaded}
 use Rattle.op_trace.specs.Visit as visit

@@ -1,8 +1,8 @@
 -- Bounds on what a machine counts: between two steps each box that is open or can be entered again shows few events.
-use Rattle.std.specs.Prelude.{◌≡◌, ℕ, suc, ◌+◌, ◌*◌, ◌<◌, ◌≤◌, List, [], ◌∷◌, length}
+use Rattle.std.specs.Prelude.{ℕ, suc, ◌+◌, ◌*◌, ◌<◌, ◌≤◌, List, [], ◌∷◌, length}
 use Rattle.op_trace.specs.World.{World, Setup, Item, Goal, Exit, open_boxes}
 use Rattle.op_trace.specs.Visit.{Choice, Redo, More, Fail}
-use Rattle.op_machine.specs.Resume.{State, Going, Back, Over, world_of}
+use Rattle.op_machine.specs.Resume.{State, Going, Back, Over}
 
 -- how many events the choices show by themselves
 abbrev pub pending : List Choice → ℕ

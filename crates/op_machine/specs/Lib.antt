@@ -4,4 +4,6 @@ pub mod Lists
 pub mod Machine
 pub mod Program
 pub mod Resume
+pub mod Rows
+pub mod Turned
 pub mod View

@@ -1,6 +1,5 @@
 -- What callers see of a machine, and what its calls answer.
-use Rattle.std.specs.Prelude.{◌≡◌, ℕ, suc, ◌+◌, ◌-◌, ◌^◌, ◌<◌, ◌≤◌, ◌&&◌, not, Bool, true, false, List, [], ◌∷◌, length}
-use Rattle.op_logic.specs.Term.{Term}
+use Rattle.std.specs.Prelude.{◌≡◌, ℕ, ◌+◌, ◌&&◌, not, Bool, true, false, List, [], ◌∷◌}
 use Rattle.op_trace.specs.World.{World, Setup, Event, Turn, Shown, Solved, loaded}
 use Rattle.op_trace.specs.Run.{Run, ran}
 use Rattle.op_trace.specs.Ending as ending
@@ -36,8 +35,21 @@ pub record Kept : Type 0 where
   pub wanted : ℕ
 
 abbrev pub kept_of : Core → Last → Bool → Kept
-kept_of c l f = record { tables = c.store; lists = c.lists; frames = c.frames.items; mode = c.mode; seen = c.seen; last = l; faulted = f;
-    calls = c.calls; steps = c.steps; events = c.events; solutions = c.solutions; budget = c.budget; wanted = c.wanted }
+kept_of c l f = record {
+  tables = c.store;
+  lists = c.lists;
+  frames = c.frames.items;
+  mode = c.mode;
+  seen = c.seen;
+  last = l;
+  faulted = f;
+  calls = c.calls;
+  steps = c.steps;
+  events = c.events;
+  solutions = c.solutions;
+  budget = c.budget;
+  wanted = c.wanted;
+}
 
 abbrev pub setup : Kept → Setup
 setup k = record { budget = k.budget; wanted = k.wanted }
@@ -95,3 +107,8 @@ Answers turn.Solution old new =
     (to_come old ≡ with_turn (Solved [] (world_now new)) (to_come new)) × (has_solution new ≡ true) × (answered new ≡ answered old + 1)
 Answers (turn.Ended e) old new =
     (to_come old ≡ only_ending e (world_now new)) × (to_come new ≡ to_come old) × (has_event new ≡ false) × (answered new ≡ answered old)
+
+abbrev pub last_after : declared.Turn → Last
+last_after turn.Event = last.Event
+last_after turn.Solution = last.Solution
+last_after (turn.Ended e) = last.Nothing

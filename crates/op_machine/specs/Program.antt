@@ -1,5 +1,5 @@
 -- The clauses of a propositional program, and how a store keeps them.
-use Rattle.std.specs.Prelude.{◌≡◌, ◌≢◌, ℕ, suc, ◌+◌, ◌<◌, ◌≤◌, List, [], ◌∷◌, length, map, drop, filter, codes, slice_index, slice_index_or, Option, option_map, All}
+use Rattle.std.specs.Prelude.{◌≡◌, ◌≢◌, ℕ, suc, ◌<◌, ◌≤◌, List, [], ◌∷◌, length, map, drop, filter, codes, slice_index, slice_index_or, Option, option_map, All}
 use Rattle.op_logic.specs.Term.{Term, node, no_args, arg, atom}
 use Rattle.op_logic.specs.Names.{name_at, IsTable}
 use Rattle.op_reader.specs.Form.{Rule, AreBelow, named_rules, program_of}

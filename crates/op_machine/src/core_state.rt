@@ -26,6 +26,14 @@ pub enum Mode {
     Over { ending: Ending },
 }
 
+/// What a row has shown.
+#[derive(Clone, Copy, Debug, PartialEq, Eq)]
+pub enum Step {
+    Silent,
+    Event,
+    Solution,
+}
+
 /// The last event that was shown.
 #[derive(Clone, Copy, Debug)]
 pub struct Seen {

@@ -7,7 +7,9 @@ mod index;
 mod kind;
 mod lists;
 mod machine;
+mod moves;
 mod rows;
+mod run;
 mod store;
 mod turn;
 mod view;
@@ -16,4 +18,7 @@ pub use core_state::Ending;
 pub use machine::{Host, Machine};
 pub use store::{Goal, Store};
 pub use turn::{Cause, MachineFault, Turn};
-pub use view::EventView;
+pub use view::{EventView, SolutionView};
+
+#[cfg(test)]
+mod tests;

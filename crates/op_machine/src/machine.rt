@@ -1,12 +1,13 @@
-ghost use Rattle.std.specs.Prelude.{◌≡◌, ◌≢◌, ◌+◌, ◌-◌, ◌^◌, ◌<◌, ◌≤◌, ◌↔◌, true, false, length, IfOk, IsErrOf, IfSome, is_some, OnOk};
+ghost use Rattle.std.specs.Prelude.{◌≡◌, ◌≢◌, ◌+◌, ◌-◌, ◌^◌, ◌<◌, ◌≤◌, ◌↔◌, true, false, length, IfOk, OnErr, IsErrOf, IfSome, is_some, OnOk};
 ghost use Rattle.op_logic.specs.Term.{atom};
 ghost use Rattle.op_trace.specs.Run.{run};
 ghost use Rattle.op_trace.specs.World.{loaded};
+ghost use Rattle.op_machine.specs.Machine.{last_after};
 
 use crate::core_state::{Core, Ending, Mode, Seen};
 use crate::store::{Goal, Store};
 use crate::turn::{Cause, Last, MachineFault, Turn};
-use crate::view::EventView;
+use crate::view::{EventView, SolutionView};
 use op_base::{Memory, Steps};
 use op_term::Symbols;
 use op_trace::Port;
@@ -32,19 +33,26 @@ impl Model for Machine {
 
     ghost view = { λ m. kept_of m.core m.last m.faulted };
 
+    ghost use Rattle.std.specs.Prelude.{◌≡◌, false};
     ghost use Rattle.op_machine.specs.Core.{IsSound};
 
-    ghost invariant = { λ m. IsSound m.core };
+    ghost invariant = { λ m. m.faulted ≡ false → IsSound m.core };
 }
 
 impl Machine {
     ghost use Rattle.op_machine.specs.Machine.{to_come, Answers, answered, event_now, has_event, has_solution};
     ghost use Rattle.op_machine.specs.Program.{clauses, goal_named};
-    ghost use Rattle.op_machine.specs.View.{event_in};
+    ghost use Rattle.op_machine.specs.View.{event_in, names_in};
 
     /// A machine before the first turn of a goal's run over the clauses of a store: the run may take `budget` steps,
     /// from 1 to 1,000,000,000, and ends at the solution numbered `wanted`, from 1, or at none for 0.
-    pub fn start(alloc: Global, store: Store, goal: Goal, budget: u64, wanted: u64) -> Result<Machine, Memory>
+    pub fn start(
+        alloc: Global,
+        store: Store,
+        goal: Goal,
+        budget: u64,
+        wanted: u64,
+    ) -> Result<Machine, Memory>
         requires goal { goal.name.0 < length store.names }
         requires some { 1 ≤ budget }
         requires limit { budget ≤ 1000000000 }
@@ -55,33 +63,48 @@ impl Machine {
         ensures none { IfOk result (λ m. has_event m ≡ false) }
         ensures whole { IfOk result (λ m. m.faulted ≡ false) }
     {
-        let _ = alloc;
-        let _ = (goal, budget, wanted);
-        let _ = store.len();
-        Err(Memory)
+        let core = Core::begin(alloc, store, goal, budget, wanted)?;
+        Ok(Machine {
+            core,
+            last: Last::Nothing,
+            faulted: false,
+        })
     }
 
     /// The next turn, or the ending, again each time. The ledger rises by the run's steps. After `Memory` the machine has
     /// ended, and answers so from then on.
-    pub fn next<H: Host, L: Ledger>(&mut self, host: &mut H, steps: &mut Steps<L>) -> Result<Turn, MachineFault>
+    pub fn next<H: Host, L: Ledger>(
+        &mut self,
+        host: &mut H,
+        steps: &mut Steps<L>,
+    ) -> Result<Turn, MachineFault>
         ensures answers { IfOk result (λ t. Answers t self.old self.new) }
         ensures cost { OnOk result (steps.new ≡ steps.old + (self.new.steps - self.old.steps)) }
-        ensures later { self.old.steps ≤ self.new.steps }
-        ensures paid { steps.new ≤ steps.old + (self.new.steps - self.old.steps) }
-        ensures names { self.new.tables ≡ self.old.tables }
+        ensures later { OnOk result (self.old.steps ≤ self.new.steps) }
+        ensures unpaid { OnErr result (steps.new ≡ steps.old) }
+        ensures names { OnOk result (self.new.tables ≡ self.old.tables) }
         ensures few { OnOk result (answered self.new < 2 ^ 63) }
-        ensures fault { IsErrOf result MachineFault.Memory → self.new.faulted ≡ true }
         ensures whole { OnOk result (self.new.faulted ≡ false) }
+        ensures fault { IsErrOf result MachineFault.Memory → self.new.faulted ≡ true }
         ensures ended { IsErrOf result (MachineFault.Ended Cause.Memory) ↔ (self.old.faulted ≡ true) }
         ensures same { self.old.faulted ≡ true → self.new ≡ self.old }
     {
         let _ = host;
-        steps.tick(0);
         if self.faulted {
             return Err(MachineFault::Ended(Cause::Memory));
         }
-        self.faulted = true;
-        Err(MachineFault::Memory)
+        let before = self.core.steps;
+        match self.core.turn() {
+            Ok(turn) => {
+                self.last = last_of(turn);
+                steps.tick(self.core.steps - before);
+                Ok(turn)
+            }
+            Err(Memory) => {
+                self.faulted = true;
+                Err(MachineFault::Memory)
+            }
+        }
     }
 
     /// How many steps the run has made up to the last turn, or to its end.
@@ -100,5 +123,26 @@ impl Machine {
             return None;
         }
         Some(EventView::new(self.core.seen, self.core.store.symbols()))
+    }
+
+    /// The solution that was the last turn; None where the last turn was no solution or a fault was answered.
+    pub fn solution(&self) -> Option<SolutionView<'_>>
+        ensures there { is_some result ≡ has_solution self.now }
+        ensures names { IfSome result (λ v. names_in v ≡ self.now.tables.names) }
+    {
+        if self.faulted || self.last != Last::Solution {
+            return None;
+        }
+        Some(SolutionView::new(self.core.store.symbols()))
+    }
+}
+
+fn last_of(turn: Turn) -> Last
+    ensures { result ≡ last_after turn }
+{
+    match turn {
+        Turn::Event => Last::Event,
+        Turn::Solution => Last::Solution,
+        Turn::Ended(_) => Last::Nothing,
     }
 }

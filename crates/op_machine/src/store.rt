@@ -1,5 +1,5 @@
 ghost use Rattle.std.specs.Prelude.{◌≡◌, ◌+◌, ◌<◌, ◌≤◌, [], Some, None, length, take, slice_index, suc, IfOk, OnOk, OnErr, IsErrOf};
-ghost use Rattle.op_logic.specs.Names.{name_at};
+ghost use Rattle.op_logic.specs.Names.{name_at, IsTable};
 ghost use Rattle.op_reader.specs.Form.{named_rules, rule_at, program_of, goal_of};
 ghost use Rattle.op_trace.specs.Visit.{control_of_atom};
 
@@ -38,7 +38,8 @@ impl Model for Store {
 }
 
 impl Store {
-    ghost use Rattle.op_machine.specs.Program.{Tables, clauses, clauses_in, heads, IsNext, IsEmpty, IsStored, control_of_kind};
+    ghost use Rattle.op_trace.specs.World.{procedure};
+    ghost use Rattle.op_machine.specs.Program.{Tables, clauses, clauses_for, goal_named, clauses_in, heads, IsNext, IsEmpty, IsStored, control_of_kind};
 
     /// A store without clauses.
     pub fn new(alloc: Global) -> Result<Store, Memory>
@@ -101,20 +102,38 @@ impl Store {
         self.program.len()
     }
 
+    fn first_place(&self, name: Sym) -> u64
+        requires { name.0 < length self.now.names }
+        ensures next { IsNext (heads self.now.rules) name.0 0 result }
+        ensures table { IsTable self.now.names }
+    {
+        first_of(&self.index, name, self.program.len())
+    }
+
+    fn next_place(&self, rule: u64) -> u64
+        requires { rule < length self.now.rules }
+        ensures next { IsNext (heads self.now.rules) (rule_at self.now.rules rule).0 (suc rule) result }
+        ensures table { IsTable self.now.names }
+    {
+        self.index.next[rule as usize]
+    }
+
     /// The place of the first rule for a name, or the number of all rules.
     pub fn first_rule(&self, name: Sym) -> u64
         requires { name.0 < length self.now.names }
-        ensures { IsNext (heads self.now.rules) name.0 0 result }
+        ensures clauses { procedure (clauses self.now) (goal_named self.now name.0) ≡ clauses_for self.now name.0 result }
+        ensures here { result < length self.now.rules → (rule_at self.now.rules result).0 ≡ name.0 }
     {
-        first_of(&self.index, name, self.program.len())
+        self.first_place(name)
     }
 
     /// The place of the next rule for the name of a rule, or the number of all rules.
     pub fn next_rule(&self, rule: u64) -> u64
         requires { rule < length self.now.rules }
-        ensures { IsNext (heads self.now.rules) (rule_at self.now.rules rule).0 (suc rule) result }
+        ensures clauses { clauses_for self.now (rule_at self.now.rules rule).0 (suc rule) ≡ clauses_for self.now (rule_at self.now.rules rule).0 result }
+        ensures here { result < length self.now.rules → (rule_at self.now.rules result).0 ≡ (rule_at self.now.rules rule).0 }
     {
-        self.index.next[rule as usize]
+        self.next_place(rule)
     }
 
     /// How many goals a rule's body has.

@@ -66,3 +66,26 @@ impl<'m> EventView<'m> {
         self.symbols.name_of(self.seen.goal)
     }
 }
+
+/// A solution, as the machine lends it until its next turn. A propositional goal has no variable to show.
+#[derive(Clone, Copy)]
+pub struct SolutionView<'m> {
+    symbols: &'m Symbols,
+}
+
+impl<'m> SolutionView<'m> {
+    ghost use Rattle.op_machine.specs.View.{names_in};
+
+    pub(crate) fn new(symbols: &'m Symbols) -> SolutionView<'m>
+        ensures { result.symbols.now ≡ symbols.now }
+    {
+        SolutionView { symbols }
+    }
+
+    /// The names of the run.
+    pub fn symbols(&self) -> &'m Symbols
+        ensures { result.now ≡ names_in self.now }
+    {
+        self.symbols
+    }
+}

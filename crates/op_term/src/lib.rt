@@ -14,3 +14,6 @@ pub use node::{Node, Tree};
 pub use symbols::{Sym, Symbols};
 pub use term::{Term, Whole};
 pub use walk::WalkFault;
+
+#[cfg(test)]
+mod tests;

@@ -1,2 +1,14 @@
 pub mod Walking
 pub mod Cutting
+pub mod Dropping
+pub mod Steps
+pub mod Within
+pub mod Lexing
+pub mod Unquoting
+pub mod Characters
+pub mod Texts
+pub mod MakingUp
+pub mod Names
+pub mod TokenTexts
+pub mod Prefixes
+pub mod Longest

@@ -2,3 +2,9 @@ pub mod Kind
 pub mod Cut
 pub mod Walk
 pub mod Examples
+pub mod Set
+pub mod Character
+pub mod Class
+pub mod Spelling
+pub mod Tokens
+pub mod MadeUp

@@ -1,6 +1,15 @@
 //! Laws of the definitions, for the layers above. Each is a function without a parameter, whose contract is the law.
 
-ghost use Rattle.std.specs.Prelude.{◌≡◌, ℕ, suc, List, ◌≤◌, ◌<◌, ◌+◌, ◌++◌, ◌∷◌, length, drop};
+ghost use Rattle.std.specs.Prelude.{◌≡◌, ℕ, suc, List, ◌≤◌, ◌<◌, ◌+◌, ◌++◌, ◌∷◌, length, drop, take, ◌-◌, Some, Bool, encode_utf8, Contains, IsUtf8, slice_range};
+ghost use Rattle.std.specs.Char.{IsScalar};
+ghost use Rattle.op_token.specs.Character.{char_at, first_char};
+ghost use Rattle.op_token.specs.Tokens.{scan_of, unquoted, IsPlain, IsQuoted};
+ghost use Rattle.op_token.specs.MadeUp.{MadeUp};
+ghost use Rattle.op_token.specs.declared.token.Token.{Token};
+ghost use Rattle.op_token.specs.declared.token.TokenKind.{TokenKind};
+ghost use Rattle.op_token.specs.declared.spelling.Spelling.TheVariants.{Whole};
+ghost use Rattle.op_token.specs.Spelling.{begins};
+ghost use Rattle.op_token.specs.declared.character.Character.{Character};
 ghost use Rattle.op_token.specs.Cut.{cut_of, text_in, rest_in, IsText, IsFollowed, IsBehindGap, moved, texts, behind_texts};
 ghost use Rattle.op_token.specs.Kind.{kind_of};
 ghost use Rattle.op_token.specs.declared.kind.Kind.TheVariants.{Newline, Layout};
@@ -11,7 +20,8 @@ pub fn cut_more()
     ensures piece { (p r : List ℕ) → IsFollowed p → cut_of (p ++ r) ≡ cut_of p }
     ensures text { (p r : List ℕ) → IsFollowed p → text_in (cut_of p) (p ++ r) ≡ text_in (cut_of p) p }
     ensures rest { (p r : List ℕ) → IsFollowed p → rest_in (cut_of p) (p ++ r) ≡ rest_in (cut_of p) p ++ r }
-    ensures any { (p r : List ℕ) (f t : ℕ) → cut_of p ≡ Piece.Text f t → t < length p → cut_of (p ++ r) ≡ Piece.Text f t }
+    ensures any { (p r : List ℕ) (f t : ℕ) → cut_of p ≡ Piece.Text f t → t < length p →
+        cut_of (p ++ r) ≡ Piece.Text f t }
 {}
 
 /// A text has a byte at least, and ends among the bytes; behind it are layout, `%` or the end.
@@ -29,6 +39,38 @@ pub fn cut_layout()
 
 /// The texts of a whole byte list are those that come when it is taken byte by byte.
 pub fn cut_one_by_one()
-    ensures text { (n : ℕ) (p r : List ℕ) → IsFollowed p → texts (suc n) (p ++ r) ≡ text_in (cut_of p) p ∷ texts n (rest_in (cut_of p) p ++ r) }
-    ensures behind { (n : ℕ) (p r : List ℕ) → IsFollowed p → behind_texts (suc n) (p ++ r) ≡ behind_texts n (rest_in (cut_of p) p ++ r) }
+    ensures text { (n : ℕ) (p r : List ℕ) → IsFollowed p →
+        texts (suc n) (p ++ r) ≡ text_in (cut_of p) p ∷ texts n (rest_in (cut_of p) p ++ r) }
+    ensures behind { (n : ℕ) (p r : List ℕ) → IsFollowed p →
+        behind_texts (suc n) (p ++ r) ≡ behind_texts n (rest_in (cut_of p) p ++ r) }
+{}
+
+/// A text is made up of its tokens, with layout and whole comments between them, to its end or to the first fault.
+pub fn tokens_make_up()
+    ensures { (text : List ℕ) → MadeUp text 0 Bool.false (scan_of text).tokens (scan_of text).fault }
+{}
+
+/// A character is read exactly where the bytes begin with it in UTF-8.
+pub fn characters()
+    ensures read { (a : ℕ) (s : List ℕ) (c : Character) → char_at a s ≡ Some c →
+        IsScalar c.code × (encode_utf8 c.code ≡ a ∷ take c.more s) }
+    ensures every { (c : ℕ) (s : List ℕ) → IsScalar c →
+        first_char (encode_utf8 c ++ s) ≡ Some (record { code = c; more = length (encode_utf8 c) - 1 }) }
+{}
+
+/// What the tokens of a text stand for is text too.
+pub fn token_texts()
+    ensures within { (text : List ℕ) (t : Token) → Contains (scan_of text).tokens t →
+        (t.from < t.to) × (t.to ≤ length text) }
+    ensures plain { (text : List ℕ) (t : Token) → Contains (scan_of text).tokens t → IsPlain t.kind →
+        IsUtf8 (slice_range text t.from t.to) }
+    ensures quoted { (text : List ℕ) (t : Token) → Contains (scan_of text).tokens t → IsQuoted t.kind →
+        IsUtf8 (unquoted text t) }
+{}
+
+/// A token is the longest at its place: no longer beginning of what stands there is a token.
+pub fn tokens_are_longest()
+    ensures { (at : ℕ) (minus : Bool) (s : List ℕ) (kind other : TokenKind) (end n : ℕ) →
+        begins at minus s ≡ Whole kind end → end < at + n →
+        begins at minus (take n s) ≡ Whole other (at + n) → ⊥ }
 {}

@@ -5,7 +5,7 @@ use crate::kind::Kind;
 use crate::walk::Walk;
 
 /// The first term text of some bytes.
-#[derive(Clone, Copy)]
+#[derive(Clone, Copy, Debug, PartialEq, Eq)]
 pub enum Piece {
     /// From its first byte to its end: the place behind the `.` that ends it.
     Text(u64, u64),

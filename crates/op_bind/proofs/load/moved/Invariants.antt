@@ -1,15 +1,4 @@
-use Rattle.std.proofs.Common.{◌≡◌, ℕ, ◌+◌, ◌-◌, ◌<◌, ◌≤◌, List, [], ◌∷◌, ◌++◌, length, take, drop, reverse, get_or, All, Option, Some, None, map, sym, ◌∙◌, ap, subst, refl, arith, Bool, true, false}
-use Rattle.op_logic.specs.Term.{Term, var, node, size, occurs, IsWithin, shift, args_of, nth_arg, arity}
-use Rattle.op_logic.specs.Bind.{follow, lookup, apply}
-use Rattle.op_term.specs.Places.{term_at, args_at}
-use Rattle.op_term.specs.Head.{head}
-use Rattle.op_bind.specs.State.{State, bindings, value_of, resolved, undone, mark_of, oldest, IsGoodMark, Marked}
-use Rattle.op_bind.specs.Sound.{IsSound, AreBound, AllWithin, ref_of}
-use Rattle.op_logic.specs.Laws.{Acyclic}
-use Rattle.op_bind.specs.Loaded.{put, put_args, IsPut}
-use Rattle.op_bind.proofs.Facts
-use Rattle.op_bind.proofs.Seen
-use Rattle.op_bind.proofs.Undoing
+use Rattle.std.proofs.Common.{◌≡◌, ◌+◌, take, map}
 use Rattle.op_bind.proofs.load.moved.Given as goal
 
 abbrev pub invariant-loop-n : goal.invariant-loop-n

@@ -1,7 +1,6 @@
-use Rattle.std.proofs.Common.{◌≡◌, ℕ, suc, ◌+◌, ◌-◌, ◌<◌, ◌≤◌, length, get_or, List, sym, subst, ◌∙◌, arith}
+use Rattle.std.proofs.Common.{◌≡◌, ℕ, suc, ◌-◌, ◌<◌, length, get_or, List, sym, subst, ◌∙◌, arith}
 use Rattle.std.proofs.Math.ListN.{length-set}
 use Rattle.std.proofs.lemmas.Grind.{get_or_default_zero}
-use Rattle.op_reader.specs.Form.{rule_at}
 use Rattle.op_machine.specs.Program.{heads, IsNext, AreFirst, AreNext}
 use Rattle.op_machine.proofs.Indexing.{length_heads, head_in, head_below, firsts_step, nexts_step}
 use Rattle.op_machine.proofs.index.index_of.Goals as goal
@@ -32,7 +31,10 @@ loop-i-preserved c =
     let old_next : AreNext (heads rules) (suc j) next = subst (λ n. AreNext (heads rules) n next) (sym e) inv.4 in
     let read : get_or first h 0 ≡ f = sym (get_or_default_zero first h f small) ∙ sym c.index.ensures in
     let found : IsNext (heads rules) h (suc j) f = subst (λ m. IsNext (heads rules) h (suc j) m) read (old_first h small) in
-    let found_here : IsNext (heads rules) (get_or (heads rules) j 0) (suc j) f = subst (λ x. IsNext (heads rules) x (suc j) f) (sym here) found in
-    (omega arith, length-set first h j ∙ inv.1, length-set next j f ∙ inv.2,
+    let found_here : IsNext (heads rules) (get_or (heads rules) j 0) (suc j) f = subst (λ x. IsNext (heads rules) x (suc j) f) (sym here) found in (
+      omega arith,
+      length-set first h j ∙ inv.1,
+      length-set next j f ∙ inv.2,
       firsts_step (heads rules) first j h (omega (arith, length_heads rules)) small here old_first,
-      nexts_step (heads rules) next j f (omega (arith, inv.2)) found_here old_next)
+      nexts_step (heads rules) next j f (omega (arith, inv.2)) found_here old_next,
+    )

@@ -1,4 +1,4 @@
-use Rattle.std.proofs.Common.{arith, subst, sym, ◌≡◌, ◌<◌, ◌-◌, ℕ, [], length, get_or}
+use Rattle.std.proofs.Common.{arith, subst, sym, ◌≡◌, ℕ, []}
 use Rattle.op_machine.specs.declared.lists.Cell.{Cell}
 use Rattle.op_machine.specs.Lists.{list_in, lists_of, Begins}
 use Rattle.op_machine.proofs.ListLaws.{length_lists_of, first_list, list_begins}
@@ -14,4 +14,4 @@ index-requires c = omega (arith, c.args.cells.now.ok.0, length_lists_of c.args.c
 pub returns-clause-begins : goal.returns-clause-begins
 returns-clause-begins c =
     subst (λ (x : Cell). Begins (lists_of c.args.cells.now.items) c.args.n x) (sym c.index.ensures)
-      (list_begins c.args.cells.now.items c.args.n c.index.result.now c.requires.linked (omega arith) c.requires.there)
+    (list_begins c.args.cells.now.items c.args.n c.index.result.now c.requires.linked (omega arith) c.requires.there)

@@ -1,9 +1,8 @@
-use Rattle.std.proofs.Common.{◌≡◌, ℕ, ◌+◌, ◌-◌, ◌<◌, ◌≤◌, List, [], ◌∷◌, ◌++◌, length, take, drop, reverse, get_or, All, Option, Some, None, sym, ◌∙◌, ap, subst, refl, arith}
-use Rattle.op_logic.specs.Term.{Term, var, node}
-use Rattle.op_logic.specs.Bind.{follow, lookup}
-use Rattle.op_term.specs.Places.{term_at, args_at}
-use Rattle.op_bind.specs.State.{State, bindings, resolved, undone, mark_of, oldest, IsGoodMark}
-use Rattle.op_bind.specs.Sound.{IsSound, AreBound, AllWithin, ref_of}
+use Rattle.std.proofs.Common.{◌≡◌, ℕ, ◌<◌, List, [], ◌∷◌, length, take, reverse, All, sym, ◌∙◌, ap, subst, arith}
+use Rattle.op_logic.specs.Term.{Term, node}
+use Rattle.op_term.specs.Places.{args_at}
+use Rattle.op_bind.specs.State.{State, bindings}
+use Rattle.op_bind.specs.Sound.{IsSound}
 use Rattle.op_bind.proofs.Facts
 use Rattle.op_bind.proofs.bindings.Bindings.compound.Goals as goal
 
@@ -19,3 +18,8 @@ invariant_of-self-2 c =
     subst (λ (us : List (Term ℕ)). IsSound us (reverse c.self.inside.trail.items) c.self.inside.table.items) (sym c.in_ok-at.ensures.ok)
     (Facts.sound-append ts (node c.args.name.0 (args_at ts c.deref.result.now) ∷ []) (reverse c.self.inside.trail.items) c.self.inside.table.items c.self.invariant
     (Facts.args-within n ts c.self.invariant.within c.deref.result.now here, tt))
+
+pub returns-clause-bindings : goal.returns-clause-bindings
+returns-clause-bindings c =
+    Facts.bindings-kept (length c.self.inside.table.items) c.self.inside.nodes _ c.compound.new.self (reverse c.self.inside.trail.items) c.self.invariant.are_bound c.in_ok-at.ensures.ok
+    ∙ ap bindings c.self.view_is

@@ -1,9 +1,7 @@
-use Rattle.std.proofs.Common.{◌≡◌, ℕ, ◌+◌, ◌-◌, ◌<◌, ◌≤◌, List, [], ◌∷◌, ◌++◌, length, take, drop, reverse, get_or, All, Option, Some, None, sym, ◌∙◌, ap, subst, refl, arith}
-use Rattle.op_logic.specs.Term.{Term, var, node}
-use Rattle.op_logic.specs.Bind.{follow, lookup}
-use Rattle.op_term.specs.Places.{term_at, args_at}
-use Rattle.op_bind.specs.State.{State, bindings, resolved, undone, mark_of, oldest, IsGoodMark}
-use Rattle.op_bind.specs.Sound.{IsSound, AreBound, AllWithin, ref_of}
+use Rattle.std.proofs.Common.{◌≡◌, ◌<◌, length, reverse, sym, ◌∙◌, subst, arith}
+use Rattle.op_logic.specs.Bind.{follow}
+use Rattle.op_term.specs.Places.{term_at}
+use Rattle.op_bind.specs.State.{State, bindings}
 use Rattle.op_bind.proofs.Facts
 use Rattle.op_bind.proofs.bindings.Bindings.follow.Goals as goal
 

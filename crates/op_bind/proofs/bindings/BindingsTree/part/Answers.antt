@@ -1,14 +1,11 @@
-use Rattle.std.proofs.Common.{◌≡◌, ℕ, ◌+◌, ◌-◌, ◌<◌, ◌≤◌, List, [], ◌∷◌, ◌++◌, length, take, drop, reverse, get_or, All, Option, Some, None, map, sym, ◌∙◌, ap, subst, refl, arith, Bool, true, false}
-use Rattle.op_logic.specs.Term.{Term, var, node, size, occurs, IsWithin, shift, args_of, nth_arg, arity}
-use Rattle.op_logic.specs.Bind.{follow, lookup, apply}
-use Rattle.op_term.specs.Places.{term_at, args_at}
-use Rattle.op_term.specs.Head.{head}
-use Rattle.op_bind.specs.State.{State, bindings, value_of, resolved, undone, mark_of, oldest, IsGoodMark, Marked}
-use Rattle.op_bind.specs.Sound.{IsSound, AreBound, AllWithin, ref_of}
+use Rattle.std.proofs.Common.{◌≡◌, ℕ, ◌<◌, sym, ◌∙◌, ap, subst, arith}
+use Rattle.op_logic.specs.Term.{args_of, nth_arg, arity}
+use Rattle.op_logic.specs.Bind.{follow, apply}
+use Rattle.op_term.specs.Places.{term_at}
+use Rattle.op_bind.specs.State.{State, bindings}
 use Rattle.op_logic.specs.Laws.{Acyclic}
 use Rattle.op_bind.proofs.Facts
 use Rattle.op_bind.proofs.Seen
-use Rattle.op_bind.proofs.Undoing
 use Rattle.op_bind.proofs.bindings.BindingsTree.part.Goals as goal
 
 pub part-requires-clause-there : goal.part-requires-clause-there

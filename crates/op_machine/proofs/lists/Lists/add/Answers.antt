@@ -1,4 +1,4 @@
-use Rattle.std.proofs.Common.{◌≡◌, ◌<◌, ◌+◌, List, [], ◌∷◌, ◌++◌, length, ap, sym, ◌∙◌, subst, arith}
+use Rattle.std.proofs.Common.{◌<◌, List, [], ◌∷◌, ◌++◌, length, ap, sym, ◌∙◌, subst, arith}
 use Rattle.op_machine.specs.declared.lists.Item.{Item}
 use Rattle.op_machine.specs.declared.lists.Cell.{Cell}
 use Rattle.op_machine.specs.Lists.{list_in, lists_of, only_empty, AreLinked}
@@ -9,8 +9,8 @@ pub invariant_of-self-2 : goal.invariant_of-self-2
 invariant_of-self-2 c =
     let there : c.args.rest < length (lists_of c.self.inside.cells.items) = subst (λ (L : List (List Item)). c.args.rest < length L) (sym c.self.view_is) c.requires in
     subst (λ (cs : List Cell). AreLinked only_empty cs) (sym c.in_ok-push.ensures.items)
-      (AreLinked-push only_empty c.self.inside.cells.items _ c.self.invariant there
-        c.opened_before-parent.ensures.parent c.opened_before-parent.ensures.depth)
+    (AreLinked-push only_empty c.self.inside.cells.items _ c.self.invariant there
+    c.opened_before-parent.ensures.parent c.opened_before-parent.ensures.depth)
 
 pub returns-clause-number : goal.returns-clause-number
 returns-clause-number c =
@@ -19,4 +19,4 @@ returns-clause-number c =
 pub returns-clause-ok : goal.returns-clause-ok
 returns-clause-ok c =
     ap lists_of c.in_ok-push.ensures.items ∙ (lists_after-push only_empty c.self.inside.cells.items _
-      ∙ ap (λ (L : List (List Item)). L ++ (c.args.item ∷ list_in L c.args.rest) ∷ []) c.self.view_is)
+    ∙ ap (λ (L : List (List Item)). L ++ (c.args.item ∷ list_in L c.args.rest) ∷ []) c.self.view_is)

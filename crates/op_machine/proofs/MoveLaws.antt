@@ -69,7 +69,7 @@ push-row s v c K = and_then-assoc v (after (visit s) s c) (resume s K)
 
 -- no further clauses are no choice
 pub resume-with_more : (s : Setup) (cs : List Clause) (k : ℕ) (g : Term Text) (σ : Bindings Text) (J : List Item) (K : List Choice) (r : Verdict) (w : World)
-  → resume s (with_more cs k g σ J K) r w ≡ resume s (More cs k g σ J ∷ K) r w
+    → resume s (with_more cs k g σ J K) r w ≡ resume s (More cs k g σ J ∷ K) r w
 unfolding resume
 resume-with_more s [] k g σ J K r w = refl
 resume-with_more s (c ∷ cs) k g σ J K r w = refl
@@ -82,7 +82,7 @@ boxed-row s g J σ w K =
     let u : World = record w { calls = k } in
     ap (with_turns (Shown (event_of port.Call k g σ J u) (with_event u) ∷ []))
     (and_then-assoc (alternatives (visit s) s (procedure w.clauses g) k g σ J Failed (with_event u)) (after (visit s) s (Fail k g σ J)) (resume s K)
-        ∙ sym (resume-with_more s (procedure w.clauses g) k g σ J (Fail k g σ J ∷ K) Failed (with_event u)))
+    ∙ sym (resume-with_more s (procedure w.clauses g) k g σ J (Fail k g σ J ∷ K) Failed (with_event u)))
 
 pub selected-row : (s : Setup) (q : Control) (t : Term Text) (m : Barrier) (J : List Item) (σ : Bindings Text) (w : World) (K : List Choice)
     → and_then (selected (visit s) s q t m J σ w) (resume s K) ≡ comes s (chosen q t m J K σ w)
@@ -130,5 +130,5 @@ move-row s (Back (More [] k g σ J ∷ K) w) below = refl
 move-row s (Back (More (c ∷ cs) k g σ J ∷ K) w) below =
     let v : Visited = tries (visit s) s c k g σ J w in
     push-row s v (More cs k g σ J) K
-      ∙ (ap (with_turns v.turns) (sym (resume-with_more s cs k g σ J K v.verdict v.world)) ∙ tried-row s c k g σ J w (with_more cs k g σ J K))
+    ∙ (ap (with_turns v.turns) (sym (resume-with_more s cs k g σ J K v.verdict v.world)) ∙ tried-row s c k g σ J w (with_more cs k g σ J K))
 move-row s (Over r w) below = refl

@@ -1,0 +1,5 @@
+use Rattle.op_bind.proofs.Growing.{mark-stays}
+use Rattle.op_bind.proofs.laws.marks_nest.Goals as goal
+
+pub returns : goal.returns
+returns c = mark-stays

@@ -1,0 +1,5 @@
+use Rattle.op_bind.proofs.Growing.{term-stays}
+use Rattle.op_bind.proofs.laws.terms_stay.Goals as goal
+
+pub returns : goal.returns
+returns c = term-stays

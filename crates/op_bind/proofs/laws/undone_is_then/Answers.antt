@@ -1,0 +1,5 @@
+use Rattle.op_bind.proofs.Growing.{undone-later}
+use Rattle.op_bind.proofs.laws.undone_is_then.Goals as goal
+
+pub returns : goal.returns
+returns c = undone-later

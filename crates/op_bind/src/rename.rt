@@ -1,0 +1,68 @@
+ghost use Rattle.std.specs.Prelude.{◌≡◌, ◌+◌, ◌<◌, ◌≤◌, ℕ, length, Ok, None, Some, IfOk, IfSome};
+ghost use Rattle.op_logic.specs.Term.{IsWithin, shift};
+ghost use Rattle.op_term.specs.Places.{term_at};
+ghost use Rattle.op_bind.specs.State.{State, bindings};
+ghost use Rattle.op_bind.specs.Sound.{AllWithin, AreBound};
+ghost use Rattle.op_bind.specs.Grown.{Grows};
+ghost use Rattle.op_bind.specs.Pairs.{unified, with_variables};
+
+use crate::bindings::Bindings;
+use crate::places::{Clause, Ref, Unified};
+use op_term::{Fuel, WalkFault};
+
+impl Bindings {
+    /// Matches a goal with a clause's head, whose variables are numbered from the present count on, and gives the body. It
+    /// takes the unification's steps, and one for each variable where the two match. Where they don't, None, no number is
+    /// given out and all is as before.
+    pub fn rename(
+        &mut self,
+        clause: &Clause,
+        goal: &Ref,
+        fuel: &mut Fuel,
+    ) -> Result<Option<Ref>, WalkFault>
+        requires there { goal.now < length self.old.terms }
+        requires head { IsWithin clause.now.vars clause.now.head }
+        requires body { IsWithin clause.now.vars clause.now.body }
+        ensures yes { IfOk result (λ o. IfSome o (λ _. with_variables clause.now.vars
+            (unified fuel.old self.old (term_at self.old.terms goal.now) (shift self.old.count clause.now.head))
+            ≡ Some (Some (bindings self.new), fuel.new))) }
+        ensures no { result ≡ Ok None → with_variables clause.now.vars
+            (unified fuel.old self.old (term_at self.old.terms goal.now) (shift self.old.count clause.now.head))
+            ≡ Some (None, fuel.new) }
+        ensures spent { result ≡ Err WalkFault.Spent → with_variables clause.now.vars
+            (unified fuel.old self.old (term_at self.old.terms goal.now) (shift self.old.count clause.now.head))
+            ≡ None }
+        ensures place { IfOk result (λ o. IfSome o (λ r. r < length self.new.terms)) }
+        ensures value { IfOk result (λ o. IfSome o (λ r. term_at self.new.terms r ≡ shift self.old.count clause.now.body)) }
+        ensures count { IfOk result (λ o. IfSome o (λ _. self.new.count ≡ self.old.count + clause.now.vars)) }
+        ensures kept { result ≡ Ok None → self.new ≡ self.old }
+        ensures grows { Grows self.old self.new }
+    {
+        let _ = &self.nodes;
+        let mark = self.mark();
+        let first = self.fresh(clause.vars)?;
+        let head = self.load(&clause.head, first)?;
+        match self.unify(goal, &head, fuel)? {
+            Unified::Yes => {
+                fuel.spend(clause.vars)?;
+                let body = self.load(&clause.body, first)?;
+                return Ok(Some(body));
+            }
+            Unified::No => {
+                self.undo_to(mark);
+                self.give_back(first);
+                return Ok(None);
+            }
+        }
+    }
+
+    // Takes numbers back that no term and no binding has.
+    fn give_back(&mut self, n: u64)
+        requires enough { n ≤ self.old.count }
+        requires terms { AllWithin n self.old.terms }
+        requires bound { AreBound n self.old.terms self.old.bound }
+        ensures { self.new ≡ record self.old { count = n } }
+    {
+        self.table.truncate(n as usize);
+    }
+}

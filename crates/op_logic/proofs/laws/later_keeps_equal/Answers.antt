@@ -1,0 +1,5 @@
+use Rattle.op_logic.proofs.Applied.{apply-append-same}
+use Rattle.op_logic.proofs.laws.later_keeps_equal.Goals as goal
+
+pub returns : goal.returns
+returns c = apply-append-same

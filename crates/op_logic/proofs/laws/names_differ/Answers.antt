@@ -1,0 +1,5 @@
+use Rattle.op_logic.proofs.Naming.{names-same}
+use Rattle.op_logic.proofs.laws.names_differ.Goals as goal
+
+pub returns : goal.returns
+returns c = names-same

@@ -1,0 +1,5 @@
+use Rattle.op_logic.proofs.Naming.{named-more}
+use Rattle.op_logic.proofs.laws.names_stay.Goals as goal
+
+pub returns : goal.returns
+returns c = named-more

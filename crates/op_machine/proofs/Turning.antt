@@ -1,0 +1,170 @@
+-- Moves, one after another, up to a turn or the ending.
+use Rattle.std.proofs.Common.{◌≡◌, ℕ, suc, ◌+◌, ◌^◌, ◌<◌, ◌≤◌, List, [], ◌∷◌, length, map, reverse, refl, sym, ap, ◌∙◌, subst, arith}
+use Rattle.op_trace.specs.World.{World, Setup, Turn, Clause}
+use Rattle.op_trace.specs.Visit.{with_turns, Choice, More}
+use Rattle.op_machine.specs.declared.core_state.Core.{Core}
+use Rattle.op_machine.specs.declared.core_state.Ending.{Ending}
+use Rattle.op_machine.specs.declared.core_state.Mode.{Mode}
+use Rattle.op_machine.specs.declared.core_state.Mode.TheVariants as mode
+use Rattle.op_machine.specs.declared.core_state.Step.{Step}
+use Rattle.op_machine.specs.declared.core_state.Step.TheVariants as step
+use Rattle.op_machine.specs.declared.frame.Frame.{Frame}
+use Rattle.op_machine.specs.declared.frame.FrameKind.{FrameKind}
+use Rattle.op_machine.specs.declared.frame.FrameKind.TheVariants as kind
+use Rattle.op_machine.specs.declared.lists.Item.{Item as Listed}
+use Rattle.op_machine.specs.Program.{Tables, goal_named}
+use Rattle.op_machine.specs.Core.{setup_of, world_in, state_of, state_with, items_in, choice_of, choice_by, IsSound, AreFrames, IsKind}
+use Rattle.op_machine.specs.Counted.{Counted, event_bound}
+use Rattle.op_machine.specs.Resume.{State, Going, Back, Over, Moved, owed, move, world_of}
+use Rattle.op_machine.specs.Rows.{Advances, turns_of}
+use Rattle.op_machine.specs.Turned.{turns_in, Follows, Walked, Showed, Ended}
+use Rattle.op_machine.proofs.Clauses.{clauses_for-here}
+use Rattle.op_machine.proofs.Counting.{move-counted, bound-same}
+use Rattle.op_machine.proofs.MoveLaws.{move-row}
+use Rattle.op_machine.proofs.Progress.{count_in, IsOnward, move-onward, move-lighter, weight, IsOver, HasClauses}
+
+pub world-with : (t : Tables) (L : List (List Listed)) (F : List Frame) (w : World) (q : Mode) → world_of (state_with t L F w q) ≡ w
+world-with t L F w (mode.Forward n) = refl
+world-with t L F w mode.Backward = refl
+world-with t L F w (mode.Over e) = refl
+
+pub world-is : (c : Core) → world_of (state_of c) ≡ world_in c
+world-is c = world-with c.store c.lists c.frames.items (world_in c) c.mode
+
+-- what the bounds say of a machine's numbers
+pub record Fits (c : Core) : Type 0 where
+  pub steps : c.steps ≤ c.budget
+  pub events : c.events < 2 ^ 63
+  pub solutions : c.solutions < 2 ^ 63
+  pub calls : c.calls < 2 ^ 63
+  pub turns : turns_in c < 2 ^ 63
+
+pub counted-numbers : (s : Setup) (t : State) → s.budget ≤ 1000000000 → Counted s t
+    → ((world_of t).steps ≤ s.budget) × ((world_of t).events ≤ event_bound (world_of t).steps) × ((world_of t).solutions ≤ suc (world_of t).steps) × ((world_of t).calls ≤ (world_of t).steps)
+counted-numbers s (Going I K σ w) b h = (h.0.steps, omega arith, omega arith, h.0.calls)
+counted-numbers s (Back K w) b h = (h.0.steps, omega arith, omega arith, h.0.calls)
+counted-numbers s (Over r w) b h = (h.0.steps, omega arith, omega arith, h.0.calls)
+
+pub bound-top : (n : ℕ) → n ≤ 1000000000 → event_bound n ≤ 2000000004000000000
+bound-top n h = bound-same n 1000000000 h
+
+pub numbers-fit : (c : Core) (w : World) → world_of (state_of c) ≡ w → c.budget ≤ 1000000000
+    → (w.steps ≤ c.budget) × (w.events ≤ event_bound w.steps) × (w.solutions ≤ suc w.steps) × (w.calls ≤ w.steps) → w ≡ world_in c → Fits c
+numbers-fit c w e b h same =
+    let s : w.steps ≡ c.steps = ap (λ (x : World). x.steps) same in
+    let ev : w.events ≡ c.events = ap (λ (x : World). x.events) same in
+    let so : w.solutions ≡ c.solutions = ap (λ (x : World). x.solutions) same in
+    let ca : w.calls ≡ c.calls = ap (λ (x : World). x.calls) same in
+    let top : event_bound w.steps ≤ 2000000004000000000 = bound-top w.steps (omega (arith, h.0)) in
+    record { steps = omega (arith, h.0); events = omega (arith, h.1, top); solutions = omega (arith, h.0, h.2); calls = omega (arith, h.0, h.3); turns = omega (arith, h.0, h.1, h.2, top) }
+
+pub sound-fits : (c : Core) → IsSound c → Fits c
+sound-fits c s = numbers-fit c (world_of (state_of c)) refl s.limit (counted-numbers (setup_of c) (state_of c) s.limit s.counted) (world-is c)
+
+abbrev pub moved_from : Core → Moved
+moved_from c = move (setup_of c) (state_of c)
+
+pub below-budget : (c : Core) → IsSound c → (world_of (state_of c)).steps ≤ (setup_of c).budget
+below-budget c s = (counted-numbers (setup_of c) (state_of c) s.limit s.counted).0
+
+pub setup-same : (old new : Core) → new.budget ≡ old.budget → new.wanted ≡ old.wanted → setup_of old ≡ setup_of new
+setup-same old new b w =
+    ap (λ (x : ℕ). record { budget = x; wanted = old.wanted }) (sym b) ∙ ap (λ (x : ℕ). record { budget = new.budget; wanted = x }) (sym w)
+
+pub advance-sound : (old new : Core) (s : Step) → IsSound old → Advances old new (moved_from old) s → IsSound new
+advance-sound old new s h a = record {
+  good = a.good;
+  counted = subst (λ (x : Setup). Counted x (state_of new)) (setup-same old new a.budget a.wanted)
+      (subst (λ (t : State). Counted (setup_of old) t) (sym a.state) (move-counted (setup_of old) (state_of old) h.counted));
+  limit = omega (arith, h.limit, a.budget);
+}
+
+pub advance-onward : (old new : Core) (s : Step) → IsSound old → Advances old new (moved_from old) s
+    → (turns_in new ≡ turns_in old + length (turns_of s new)) × (old.steps ≤ new.steps)
+advance-onward old new s h a =
+    let on : IsOnward (setup_of old) (world_of (state_of old)) (moved_from old) = move-onward (setup_of old) (state_of old) (below-budget old h) in
+    let before : world_of (state_of old) ≡ world_in old = world-is old in
+    let after : world_of (moved_from old).state ≡ world_in new = ap world_of (sym a.state) ∙ world-is new in
+    let be : (world_of (state_of old)).events + (world_of (state_of old)).solutions ≡ turns_in old = ap (λ (w : World). w.events + w.solutions) before in
+    let ae : count_in (moved_from old).state ≡ turns_in new = ap (λ (w : World). w.events + w.solutions) after in
+    let n : length (turns_of s new) ≡ length (moved_from old).turns = ap length a.turns in
+    let bs : (world_of (state_of old)).steps ≡ old.steps = ap (λ (w : World). w.steps) before in
+    let as_ : (world_of (moved_from old).state).steps ≡ new.steps = ap (λ (w : World). w.steps) after in
+    (omega (arith, on.count, be, ae, n), omega (arith, on.steps, bs, as_))
+
+pub advance-owed : (old new : Core) (s : Step) → IsSound old → Advances old new (moved_from old) s
+    → owed (setup_of old) (state_of old) ≡ with_turns (turns_of s new) (owed (setup_of new) (state_of new))
+advance-owed old new s h a =
+    move-row (setup_of old) (state_of old) (below-budget old h)
+    ∙ (ap (λ (ts : List Turn). with_turns ts (owed (setup_of old) (moved_from old).state)) (sym a.turns)
+    ∙ (ap (λ (t : State). with_turns (turns_of s new) (owed (setup_of old) t)) (sym a.state)
+    ∙ ap (λ (x : Setup). with_turns (turns_of s new) (owed x (state_of new))) (setup-same old new a.budget a.wanted)))
+
+pub follows-on : (first mid new : Core) (s : Step) → Follows first mid → Advances mid new (moved_from mid) s → Follows first new
+follows-on first mid new s f a = record {
+  sound = advance-sound mid new s f.sound a;
+  store = a.store ∙ f.store;
+  budget = a.budget ∙ f.budget;
+  wanted = a.wanted ∙ f.wanted;
+  later = omega (arith, f.later, (advance-onward mid new s f.sound a).1);
+}
+
+pub walked-on : (first mid new : Core) → Walked first mid → Advances mid new (moved_from mid) step.Silent → Walked first new
+walked-on first mid new w a = record {
+  follows = follows-on first mid new step.Silent w.follows a;
+  owed = w.owed ∙ advance-owed mid new step.Silent w.follows.sound a;
+  count = omega (arith, w.count, (advance-onward mid new step.Silent w.follows.sound a).0);
+}
+
+pub showed-on : (first mid new : Core) (s : Step) (t : Turn) → turns_of s new ≡ t ∷ [] → Walked first mid → Advances mid new (moved_from mid) s → Showed first new t
+showed-on first mid new s t one w a = record {
+  follows = follows-on first mid new s w.follows a;
+  owed = w.owed ∙ (advance-owed mid new s w.follows.sound a ∙ ap (λ (ts : List Turn). with_turns ts (owed (setup_of new) (state_of new))) one);
+  count = omega (arith, w.count, (advance-onward mid new s w.follows.sound a).0, ap length one);
+}
+
+pub ended-at : (first mid : Core) (e : Ending) → Walked first mid → mid.mode ≡ mode.Over e → Ended first mid e
+unfolding owed
+ended-at first mid e w m = record {
+  walked = w;
+  owed = w.owed ∙ ap (λ (q : Mode). owed (setup_of mid) (state_with mid.store mid.lists mid.frames.items (world_in mid) q)) m;
+}
+
+pub walked-self : (c : Core) → IsSound c → Walked c c
+walked-self c s = record {
+  follows = record { sound = s; store = refl; budget = refl; wanted = refl; later = omega arith };
+  owed = refl;
+  count = refl;
+}
+
+abbrev mapped : Tables → List (List Listed) → List Frame → List Choice
+mapped t L F = map (choice_of t L) F
+
+-- a machine that isn't at the end, and whose choices have clauses
+pub frames-clauses : (t : Tables) (L : List (List Listed)) (n : ℕ) (F : List Frame) (w : World) → AreFrames t n F → HasClauses (Back (mapped t L F) w)
+frames-clauses t L n [] w a = tt
+frames-clauses t L n (f ∷ F) w a = go f.kind a.0.2
+  where
+    go : (q : FrameKind) → IsKind t f.goal.0 q → HasClauses (Back (choice_by t L q f.call f.goal.0 f.rest ∷ mapped t L F) w)
+    go kind.Redo k = tt
+    go (kind.More i) k = subst (λ (cs : List Clause). HasClauses (Back (More cs f.call (goal_named t f.goal.0) [] (items_in t L f.rest) ∷ mapped t L F) w)) (sym (clauses_for-here t f.goal.0 i k.0 k.1)) tt
+    go kind.Fail k = tt
+
+pub has-clauses : (t : Tables) (L : List (List Listed)) (F : List Frame) (w : World) (q : Mode) (n : ℕ) → AreFrames t n (reverse F) → HasClauses (state_with t L F w q)
+has-clauses t L F w (mode.Forward i) n a = tt
+has-clauses t L F w mode.Backward n a = frames-clauses t L n (reverse F) w a
+has-clauses t L F w (mode.Over e) n a = tt
+
+pub not-over : (t : Tables) (L : List (List Listed)) (F : List Frame) (w : World) (q : Mode) → ((e : Ending) → q ≡ mode.Over e → ⊥) → IsOver (state_with t L F w q) → ⊥
+not-over t L F w (mode.Forward i) no_end o = o
+not-over t L F w mode.Backward no_end o = o
+not-over t L F w (mode.Over e) no_end o = no_end e refl
+
+pub lighter-on : (mid new : Core) → IsSound mid → ((e : Ending) → mid.mode ≡ mode.Over e → ⊥) → Advances mid new (moved_from mid) step.Silent
+    → weight (setup_of new) (state_of new) < weight (setup_of mid) (state_of mid)
+lighter-on mid new s no_end a =
+    let l : weight (setup_of mid) (moved_from mid).state < weight (setup_of mid) (state_of mid) =
+    move-lighter (setup_of mid) (state_of mid) (below-budget mid s) (not-over mid.store mid.lists mid.frames.items (world_in mid) mid.mode no_end)
+    (has-clauses mid.store mid.lists mid.frames.items (world_in mid) mid.mode (length mid.lists) s.good.frames) (sym a.turns) in
+    subst (λ (x : Setup). weight x (state_of new) < weight (setup_of mid) (state_of mid)) (setup-same mid new a.budget a.wanted)
+    (subst (λ (t : State). weight (setup_of mid) t < weight (setup_of mid) (state_of mid)) (sym a.state) l)

@@ -1,0 +1,52 @@
+-- What a machine's parts come to at the next turn.
+use Rattle.std.specs.Prelude.{◌≡◌, ℕ, ◌+◌, ◌≤◌, [], ◌∷◌}
+use Rattle.op_trace.specs.World.{Turn, Shown, Solved, Call, Goal, loaded}
+use Rattle.op_trace.specs.Visit.{gives, with_turns}
+use Rattle.op_machine.specs.declared.core_state.Core.{Core}
+use Rattle.op_machine.specs.declared.core_state.Ending.{Ending}
+use Rattle.op_machine.specs.declared.turn.Turn as declared
+use Rattle.op_machine.specs.declared.turn.Turn.TheVariants as turn
+use Rattle.op_machine.specs.Core.{setup_of, world_in, state_of, event_seen, verdict_of, IsSound}
+use Rattle.op_machine.specs.Resume.{owed, Going}
+use Rattle.op_machine.specs.Program.{Tables, clauses, goal_named}
+
+-- how many turns a machine has answered
+abbrev pub turns_in : Core → ℕ
+turns_in c = c.events + c.solutions
+
+-- the same run goes on from one to the other
+pub record Follows (old new : Core) : Type 0 where
+  pub sound : IsSound new
+  pub store : new.store ≡ old.store
+  pub budget : new.budget ≡ old.budget
+  pub wanted : new.wanted ≡ old.wanted
+  pub later : old.steps ≤ new.steps
+
+-- by silent moves
+pub record Walked (old new : Core) : Type 0 where
+  pub follows : Follows old new
+  pub owed : owed (setup_of old) (state_of old) ≡ owed (setup_of new) (state_of new)
+  pub count : turns_in new ≡ turns_in old
+
+-- by silent moves, and one that showed this turn
+pub record Showed (old new : Core) (t : Turn) : Type 0 where
+  pub follows : Follows old new
+  pub owed : owed (setup_of old) (state_of old) ≡ with_turns (t ∷ []) (owed (setup_of new) (state_of new))
+  pub count : turns_in new ≡ turns_in old + 1
+
+-- by silent moves, to the end
+pub record Ended (old new : Core) (e : Ending) : Type 0 where
+  pub walked : Walked old new
+  pub owed : owed (setup_of old) (state_of old) ≡ gives (verdict_of e) (world_in new)
+
+abbrev pub Turned : Core → Core → declared.Turn → Type 0
+Turned old new turn.Event = Showed old new (Shown (event_seen new.store new.seen) (world_in new))
+Turned old new turn.Solution = Showed old new (Solved [] (world_in new))
+Turned old new (turn.Ended e) = Ended old new e
+
+-- nothing was done yet
+pub record IsBegun (t : Tables) (g budget wanted : ℕ) (c : Core) : Type 0 where
+  pub state : state_of c ≡ Going (Goal (goal_named t g) (Call 0) ∷ []) [] [] (loaded (clauses t))
+  pub setup : setup_of c ≡ record { budget = budget; wanted = wanted }
+  pub steps : c.steps ≡ 0
+  pub turns : turns_in c ≡ 0

@@ -1,0 +1,48 @@
+-- A text is made up of its tokens, with layout and comments between them.
+use Rattle.std.proofs.Common.{◌≡◌, ℕ, zero, suc, ◌+◌, ◌-◌, ◌<◌, ◌≤◌, Bool, true, false, List, [], None, length, drop, get_or, refl, ap, sym, ◌∙◌, subst, cond, arith, inl, inr}
+use Rattle.std.proofs.lemmas.Bool.{cases_lt}
+use Rattle.op_token.specs.declared.spelling.Spelling.{Spelling}
+use Rattle.op_token.specs.declared.spelling.Spelling.TheVariants.{Gap, Whole, Fault}
+use Rattle.op_token.specs.Spelling.{begins, EndsBy}
+use Rattle.op_token.specs.Tokens.{Lexed, is_minus, lex}
+use Rattle.op_token.specs.MadeUp.{Gaps, none, further, MadeUp}
+use Rattle.op_token.proofs.Dropping.{drop_all}
+use Rattle.op_token.proofs.Lexing.{ends_front, lex_gap, lex_whole, lex_fault}
+
+abbrev pub Made : List ℕ → ℕ → Bool → Lexed → Type 0
+Made text at minus l = MadeUp text at minus l.tokens l.fault
+
+-- a flag of layout since a place
+abbrev pub Since : ℕ → ℕ → Bool → Type 0
+Since from at l = (l ≡ true → from < at) × (l ≡ false → from ≡ at)
+
+at_end : (text : List ℕ) (at : ℕ) (l m : Bool) → at ≡ length text → lex at 0 l m (drop at text) ≡ record { tokens = []; fault = None }
+at_end text at l m e = ap (λ n. lex at 0 l m (drop n text)) e ∙ ap (lex at 0 l m) (drop_all text)
+
+module _ (text : List ℕ) (from at : ℕ) (before l m : Bool) (i : at < length text) (g : Gaps text from at) (s : Since from at l) (e : m ≡ cond l false before)
+    (gap : (k : ℕ) → at + 1 ≤ k → k ≤ length text → Gaps text from k → Made text from before (lex k 0 true false (drop k text)))
+    (whole : (k : ℕ) (n : Bool) → at + 1 ≤ k → k ≤ length text → Made text k n (lex k 0 false n (drop k text))) where
+  made_step : (x : Spelling) → begins at m (drop at text) ≡ x → EndsBy (at + 1) (length text) x → Made text from before (lex at 0 l m (drop at text))
+  made_step (Gap k) p b = subst (Made text from before) (sym (lex_gap text at l m i k p)) (gap k b.0 b.1 (further m g p))
+  made_step (Whole kind k) p b =
+      subst (Made text from before) (sym (lex_whole text at l m i kind k p))
+      (g, s, subst (λ n. begins at n (drop at text) ≡ Whole kind k) e p, (omega (arith, b.0), b.1), whole k (is_minus kind (get_or text at 0) (k - at)) b.0 b.1)
+  made_step (Fault f) p b = subst (Made text from before) (sym (lex_fault text at l m i f p)) (at, (m, (g, p)))
+
+pub made_up : (f : ℕ) (text : List ℕ) (from at : ℕ) (before l m : Bool) → length text ≤ at + f → at ≤ length text → Gaps text from at → from ≤ at → Since from at l → m ≡ cond l false before → Made text from before (lex at 0 l m (drop at text))
+made_up zero text from at before l m h w g o s e =
+    let q : at ≡ length text = omega arith in
+    subst (Made text from before) (sym (at_end text at l m q)) (subst (Gaps text from) q g)
+made_up (suc f) text from at before l m h w g o s e = elim (cases_lt at (length text)) [
+  | inr n ↦
+      let q : at ≡ length text = omega arith in
+      subst (Made text from before) (sym (at_end text at l m q)) (subst (Gaps text from) q g)
+  | inl i ↦
+      made_step text from at before l m i g s e
+      (λ k a b h2. made_up f text from k before true false (omega arith) b h2 (omega arith) ((λ t. omega arith), (λ t. cc)) refl)
+      (λ k n a b. made_up f text k k n false n (omega arith) b none (omega arith) ((λ t. cc), (λ t. refl)) refl)
+      (begins at m (drop at text)) refl (ends_front text at m i)
+]
+
+pub text_made_up : (text : List ℕ) → Made text 0 false (lex 0 0 false false text)
+text_made_up text = made_up (length text) text 0 0 false false false (omega arith) (omega arith) none (omega arith) ((λ t. cc), (λ t. refl)) refl

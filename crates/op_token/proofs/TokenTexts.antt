@@ -1,0 +1,107 @@
+-- The text of each name, variable and quoted token is UTF-8.
+use Rattle.std.proofs.Common.{◌≡◌, ℕ, zero, suc, ◌+◌, ◌-◌, ◌<◌, ◌≤◌, Bool, false, ◌&&◌, ◌||◌, List, [], ◌∷◌, Option, length, take, drop, get_or, refl, ap, sym, ◌∙◌, subst, cond, arith}
+use Rattle.std.specs.Prelude.{◌==◌, nat_le, IsUtf8, slice_range, slice_index, slice_index_or, Contains}
+use Rattle.std.proofs.lemmas.Bool.{eqb-true}
+use Rattle.op_token.specs.declared.class.Class.{Class}
+use Rattle.op_token.specs.declared.class.Class.TheVariants.{Layout, Percent, Small, Capital, Digit, SingleQuote, DoubleQuote, Slash, Dot, Symbol, Solo, Mark, Bad}
+use Rattle.op_token.specs.declared.set.Set.TheVariants.{Symbol as symbols}
+use Rattle.op_token.specs.declared.spelling.Spelling.TheVariants.{Whole}
+use Rattle.op_token.specs.declared.token.Token.{Token}
+use Rattle.op_token.specs.declared.token.TokenFault.{TokenFault}
+use Rattle.op_token.specs.declared.token.TokenKind.{TokenKind}
+use Rattle.op_token.specs.declared.token.TokenKind.TheVariants.{Name, QuotedName, Variable, Text, OpenRound, CloseRound, OpenSquare, CloseSquare, OpenCurly, CloseCurly, Comma, Bar, End}
+use Rattle.op_token.specs.Set.{run, has, begins_with}
+use Rattle.op_token.specs.Class.{class_of, mark_of}
+use Rattle.op_token.specs.Spelling.{block_from, ends_clause, spelled, begins}
+use Rattle.op_token.specs.Tokens.{text_from, unquoted, scan_of, is_minus, IsPlain, IsQuoted}
+use Rattle.op_token.specs.MadeUp.{MadeUp}
+use Rattle.op_token.proofs.Dropping.{drop_one}
+use Rattle.op_token.proofs.Within.{if_either}
+use Rattle.op_token.proofs.Names.{Not, line_not, block_not, number_not, plain_utf8}
+use Rattle.op_token.proofs.Texts.{IsWhole, quoted_utf8}
+use Rattle.op_token.proofs.MakingUp.{text_made_up}
+
+-- the quotes are the bytes that begin quoted text
+abbrev QuoteClass : ℕ → Class → Type 0
+QuoteClass b c = (c ≡ SingleQuote → b ≡ 39) × (c ≡ DoubleQuote → b ≡ 34) × ((k : TokenKind) → c ≡ Mark k → IsQuoted k → ⊥)
+
+quote_class : (b : ℕ) → QuoteClass b (class_of b)
+quote_class b =
+    let P : Class → Type 0 = QuoteClass b in
+    if_either P (b == 32 || (nat_le 9 b && nat_le b 13)) Layout _ (λ e. (λ h. cc, λ h. cc, λ k h. cc))
+    (λ e. if_either P (b == 37) Percent _ (λ e. (λ h. cc, λ h. cc, λ k h. cc))
+    (λ e. if_either P (nat_le 97 b && nat_le b 122) Small _ (λ e. (λ h. cc, λ h. cc, λ k h. cc))
+    (λ e. if_either P ((nat_le 65 b && nat_le b 90) || b == 95) Capital _ (λ e. (λ h. cc, λ h. cc, λ k h. cc))
+    (λ e. if_either P (nat_le 48 b && nat_le b 57) Digit _ (λ e. (λ h. cc, λ h. cc, λ k h. cc))
+    (λ e. if_either P (b == 39) SingleQuote _ (λ e. (λ h. eqb-true b 39 e, λ h. cc, λ k h. cc))
+    (λ e. if_either P (b == 34) DoubleQuote _ (λ e. (λ h. cc, λ h. eqb-true b 34 e, λ k h. cc))
+    (λ e. if_either P (b == 47) Slash _ (λ e. (λ h. cc, λ h. cc, λ k h. cc))
+    (λ e. if_either P (b == 46) Dot _ (λ e. (λ h. cc, λ h. cc, λ k h. cc))
+    (λ e. if_either P (has symbols b) Symbol _ (λ e. (λ h. cc, λ h. cc, λ k h. cc))
+    (λ e. if_either P (b == 33 || b == 59) Solo (mark_of b) (λ e. (λ h. cc, λ h. cc, λ k h. cc)) (λ e. marks b)))))))))))
+  where
+    mark : (b : ℕ) (j : TokenKind) → (IsQuoted j → ⊥) → QuoteClass b (Mark j)
+    mark b j n = (λ h. cc, λ h. cc, λ k h q. let e : j ≡ k = cc in n (subst IsQuoted (sym e) q))
+
+    marks : (b : ℕ) → QuoteClass b (mark_of b)
+    marks b =
+        let P : Class → Type 0 = QuoteClass b in
+        if_either P (b == 40) _ _ (λ e. mark b OpenRound (λ h. h)) (λ e. if_either P (b == 41) _ _ (λ e. mark b CloseRound (λ h. h)) (λ e. if_either P (b == 91) _ _ (λ e. mark b OpenSquare (λ h. h)) (λ e. if_either P (b == 93) _ _ (λ e. mark b CloseSquare (λ h. h))
+        (λ e. if_either P (b == 123) _ _ (λ e. mark b OpenCurly (λ h. h)) (λ e. if_either P (b == 125) _ _ (λ e. mark b CloseCurly (λ h. h)) (λ e. if_either P (b == 44) _ _ (λ e. mark b Comma (λ h. h)) (λ e. if_either P (b == 124) _ _ (λ e. mark b Bar (λ h. h)) (λ e. (λ h. cc, λ h. cc, λ k h. cc)))))))))
+
+not_kind : (j kind : TokenKind) (a to : ℕ) → (IsQuoted j → ⊥) → Whole j a ≡ Whole kind to → IsQuoted kind → ⊥
+not_kind j kind a to n e q = let f : j ≡ kind = cc in n (subst IsQuoted (sym f) q)
+
+quoted_spelled : (k : Class) (at : ℕ) (minus : Bool) (b : ℕ) (s : List ℕ) (kind : TokenKind) (to : ℕ) → QuoteClass b k → spelled k at minus b s ≡ Whole kind to → IsQuoted kind → IsUtf8 (text_from b 0 s)
+quoted_spelled Layout at minus b s kind to c e q = cc
+quoted_spelled Percent at minus b s kind to c e q = absurd (subst (Not IsQuoted) e (line_not IsQuoted (λ n h. h) (at + 1) 0 s) q)
+quoted_spelled Small at minus b s kind to c e q = absurd (not_kind Name kind _ to (λ h. h) e q)
+quoted_spelled Capital at minus b s kind to c e q = absurd (not_kind Variable kind _ to (λ h. h) e q)
+quoted_spelled Digit at minus b s kind to c e q = absurd (subst (Not IsQuoted) e (number_not IsQuoted (λ n h. h) at minus b s) q)
+quoted_spelled SingleQuote at minus b s kind to c e q =
+    let w : IsWhole (Whole kind to) = tt in
+    subst (λ x. IsUtf8 (text_from x 0 s)) (sym (c.0 refl)) (quoted_utf8 (length s) QuotedName 39 at (at + 1) s (omega arith) (omega arith) (subst IsWhole (sym e) w))
+quoted_spelled DoubleQuote at minus b s kind to c e q =
+    let w : IsWhole (Whole kind to) = tt in
+    subst (λ x. IsUtf8 (text_from x 0 s)) (sym (c.1 refl)) (quoted_utf8 (length s) Text 34 at (at + 1) s (omega arith) (omega arith) (subst IsWhole (sym e) w))
+quoted_spelled Slash at minus b s kind to c e q =
+    if_either (λ x. x ≡ Whole kind to → IsUtf8 (text_from b 0 s)) (begins_with 42 s) (block_from at (at + 2) 0 (drop 1 s)) (Whole Name (at + 1 + run symbols s))
+    (λ t f. absurd (subst (Not IsQuoted) f (block_not IsQuoted (λ n h. h) at (at + 2) 0 (drop 1 s)) q))
+    (λ t f. absurd (not_kind Name kind _ to (λ h. h) f q)) e
+quoted_spelled Dot at minus b s kind to c e q =
+    if_either (λ x. x ≡ Whole kind to → IsUtf8 (text_from b 0 s)) (run symbols s == 0 && ends_clause s) (Whole End (at + 1)) (Whole Name (at + 1 + run symbols s))
+    (λ t f. absurd (not_kind End kind _ to (λ h. h) f q))
+    (λ t f. absurd (not_kind Name kind _ to (λ h. h) f q)) e
+quoted_spelled Symbol at minus b s kind to c e q = absurd (not_kind Name kind _ to (λ h. h) e q)
+quoted_spelled Solo at minus b s kind to c e q = absurd (not_kind Name kind _ to (λ h. h) e q)
+quoted_spelled (Mark k) at minus b s kind to c e q = absurd (not_kind k kind _ to (c.2 k refl) e q)
+quoted_spelled Bad at minus b s kind to c e q = cc
+
+-- a token begins at its place
+abbrev pub Begun : List ℕ → Token → Type 0
+Begun text t = (m : Bool) × ((begins t.from m (drop t.from text) ≡ Whole t.kind t.to) × (t.from < t.to) × (t.to ≤ length text))
+
+pub token_begun : (text : List ℕ) (ts : List Token) (at : ℕ) (m : Bool) (f : Option TokenFault) → MadeUp text at m ts f → (k : ℕ) → k < length ts → (t : Token) → slice_index_or ts k t ≡ t → Begun text t
+token_begun text [] at m f u k h t e = absurd (omega arith)
+token_begun text (x ∷ ts) at m f u zero h t e = subst (Begun text) e (cond x.layout_before false m, (u.2, u.3.0, u.3.1))
+token_begun text (x ∷ ts) at m f u (suc k) h t e = token_begun text ts x.to (is_minus x.kind (slice_index text x.from) (x.to - x.from)) f u.4 k (omega arith) t e
+
+pub token_of : (text : List ℕ) (t : Token) → Contains (scan_of text).tokens t → Begun text t
+token_of text t c = token_begun text (scan_of text).tokens 0 false (scan_of text).fault (text_made_up text) c.0 c.1 t c.2
+
+front : (text : List ℕ) (t : Token) (b : Begun text t) → begins t.from b.0 (get_or text t.from 0 ∷ drop (t.from + 1) text) ≡ Whole t.kind t.to
+front text t b = let h : t.from < length text = omega (arith, b.1.1, b.1.2) in ap (begins t.from b.0) (sym (drop_one text t.from h)) ∙ b.1.0
+
+pub token_within : (text : List ℕ) (t : Token) → Contains (scan_of text).tokens t → (t.from < t.to) × (t.to ≤ length text)
+token_within text t c = let b = token_of text t c in (b.1.1, b.1.2)
+
+pub plain_text : (text : List ℕ) (t : Token) → Contains (scan_of text).tokens t → IsPlain t.kind → IsUtf8 (slice_range text t.from t.to)
+plain_text text t c p =
+    let b = token_of text t c in
+    let h : t.from < length text = omega (arith, b.1.1, b.1.2) in
+    subst (λ s. IsUtf8 (take (t.to - t.from) s)) (sym (drop_one text t.from h)) (plain_utf8 t.from b.0 (get_or text t.from 0) (drop (t.from + 1) text) t.kind t.to (front text t b) p)
+
+pub quoted_text : (text : List ℕ) (t : Token) → Contains (scan_of text).tokens t → IsQuoted t.kind → IsUtf8 (unquoted text t)
+quoted_text text t c q =
+    let b = token_of text t c in
+    quoted_spelled (class_of (get_or text t.from 0)) t.from b.0 (get_or text t.from 0) (drop (t.from + 1) text) t.kind t.to (quote_class (get_or text t.from 0)) (front text t b) q

@@ -1,0 +1,5 @@
+use Rattle.op_token.proofs.Longest.{longest}
+use Rattle.op_token.proofs.laws.tokens_are_longest.Goals as goal
+
+pub returns : goal.returns
+returns c = longest

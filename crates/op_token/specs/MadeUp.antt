@@ -1,0 +1,24 @@
+-- A text is made up of its tokens, with layout and comments between them.
+use Rattle.std.specs.Prelude.{◌≡◌, ℕ, ◌-◌, ◌<◌, ◌≤◌, Bool, true, false, List, [], ◌∷◌, Option, Some, None, drop, length, slice_index, if◌then◌else◌}
+use Rattle.op_token.specs.declared.token.Token.{Token}
+use Rattle.op_token.specs.declared.token.TokenFault.{TokenFault}
+use Rattle.op_token.specs.declared.spelling.Spelling.TheVariants.{Gap, Whole, Fault}
+use Rattle.op_token.specs.Spelling.{begins}
+use Rattle.op_token.specs.Tokens.{is_minus}
+
+-- from one place to another there are layout and whole comments alone
+pub data Gaps (text : List ℕ) : ℕ → ℕ → Type 0 where
+  none : {i : ℕ} → Gaps text i i
+  further : {i j k : ℕ} (minus : Bool) → Gaps text i j → begins j minus (drop j text) ≡ Gap k → Gaps text i k
+
+-- from a place on, the text is gaps and tokens in turn to its end, or to a place where a fault begins. `minus` says that the name -
+-- ends at the place
+abbrev pub MadeUp : List ℕ → ℕ → Bool → List Token → Option TokenFault → Type 0
+MadeUp text at minus [] None = Gaps text at (length text)
+MadeUp text at minus [] (Some f) = (i : ℕ) × ((m : Bool) × (Gaps text at i × (begins i m (drop i text) ≡ Fault f)))
+MadeUp text at minus (t ∷ ts) f =
+    Gaps text at t.from
+    × ((t.layout_before ≡ true → at < t.from) × (t.layout_before ≡ false → at ≡ t.from))
+    × (begins t.from (if t.layout_before then false else minus) (drop t.from text) ≡ Whole t.kind t.to)
+    × ((t.from < t.to) × (t.to ≤ length text))
+    × MadeUp text t.to (is_minus t.kind (slice_index text t.from) (t.to - t.from)) ts f
