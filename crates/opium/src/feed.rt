@@ -86,7 +86,7 @@ fn next_event<L: Ledger>(
 ) -> Result<Option<Ending>, Memory>
     ensures shows { IfOk result (λ ended. Shows machine.old machine.new ended) }
     ensures cost { OnOk result (steps.new ≡ steps.old + (machine.new.steps - machine.old.steps)) }
-    ensures later { machine.old.steps ≤ machine.new.steps }
+    ensures later { OnOk result (machine.old.steps ≤ machine.new.steps) }
 {
     let mut host = Nothing;
     loop {
