@@ -12,6 +12,8 @@ mod line;
 mod session;
 mod status;
 mod talk;
+#[cfg(test)]
+mod tests;
 
 use call::opium;
 use op_base::Steps;
