@@ -1,12 +1,11 @@
 -- What a call of the program does by its words and the shelf.
-use Rattle.std.specs.Prelude.{◌≡◌, ℕ, ◌<◌, nat_lt, List, [], ◌∷◌, ◌++◌, length, take, codes, Option, Some, None, option_map, if◌then◌else◌}
+use Rattle.std.specs.Prelude.{ℕ, nat_lt, List, [], ◌∷◌, ◌++◌, length, codes, Option, Some, None, if◌then◌else◌}
 use Rattle.op_logic.specs.Term.{atom}
 use Rattle.op_desk.specs.Contents.{Files, bytes_of}
 use Rattle.op_reader.specs.Form.{Rule, program_of, goal_of}
 use Rattle.op_trace.specs.World.{Text, loaded}
 use Rattle.op_trace.specs.Run.{Run, run}
 use Rattle.op_machine.specs.Program.{program_clauses}
-use Rattle.op_token.specs.Cut.{texts, IsFollowed}
 use Rattle.opium.specs.declared.status.Status.{Status}
 use Rattle.opium.specs.declared.status.Status.TheVariants as status
 

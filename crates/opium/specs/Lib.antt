@@ -1,5 +1,10 @@
+pub mod Behind
 pub mod Call
+pub mod Feeding
+pub mod Giving
 pub mod Line
 pub mod Moves
+pub mod Progress
 pub mod Promise
 pub mod Session
+pub mod Sight

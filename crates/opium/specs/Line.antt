@@ -1,5 +1,5 @@
 -- The line of an event: its number, its box's call number and depth, the port and the goal.
-use Rattle.std.specs.Prelude.{ℕ, List, [], ◌∷◌, ◌++◌, codes, decimal}
+use Rattle.std.specs.Prelude.{ℕ, List, ◌++◌, codes, decimal}
 use Rattle.std.specs.Fmt.{signed_decimal}
 use Rattle.op_logic.specs.Term.{Term, var, int, node, Args, no_args, arg}
 use Rattle.op_trace.specs.declared.port.Port.{Port}

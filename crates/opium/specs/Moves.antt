@@ -1,6 +1,6 @@
 -- The places of a run, and the moves between them. There are n events: place 0 is before the first, place i is at event i; the end,
 -- which counts as n + 1, can be looked at, and is no place to stand at.
-use Rattle.std.specs.Prelude.{ℕ, ◌+◌, nat_le, List, [], ◌∷◌, length, max, if◌then◌else◌}
+use Rattle.std.specs.Prelude.{ℕ, ◌+◌, nat_le, length, max, if◌then◌else◌}
 use Rattle.op_trace.specs.Ending.{Ending, Stopped, Failed, Spent}
 use Rattle.op_trace.specs.Run.{Run, events_of}
 

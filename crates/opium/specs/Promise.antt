@@ -1,11 +1,11 @@
 -- What a call of the program leaves behind, by its status.
-use Rattle.std.specs.Prelude.{◌≡◌, ℕ, zero, suc, ◌+◌, ◌-◌, ◌<◌, ◌≤◌, nat_lt, ◌&&◌, Bool, true, false, List, [], ◌∷◌, ◌++◌, length, take, drop, codes, min, Option, Some, None, if◌then◌else◌}
+use Rattle.std.specs.Prelude.{◌≡◌, ℕ, zero, suc, ◌+◌, ◌-◌, ◌<◌, ◌≤◌, nat_lt, nat_le, Bool, false, List, [], ◌∷◌, ◌++◌, length, take, drop, codes, min, Option, Some, None, if◌then◌else◌}
 use Rattle.op_base.specs.Rising.{Rose}
 use Rattle.op_desk.specs.Contents.{Known}
-use Rattle.op_trace.specs.World.{World, loaded}
+use Rattle.op_trace.specs.World.{loaded}
 use Rattle.op_trace.specs.Run.{Run, steps_at}
 use Rattle.op_token.specs.declared.piece.Piece.{Piece}
-use Rattle.op_token.specs.declared.piece.Piece.TheVariants.{Text, NoEnd, Empty}
+use Rattle.op_token.specs.declared.piece.Piece.TheVariants.{Text}
 use Rattle.op_token.specs.Cut.{cut_of, text_in, rest_in}
 use Rattle.opium.specs.declared.status.Status.{Status}
 use Rattle.opium.specs.declared.status.Status.TheVariants as status
@@ -68,15 +68,20 @@ pub record Broken (run : Run) (bytes taken rest written : List ℕ) : Type 0 whe
   pub front : IsPrefix written (session_text run bytes)
   pub enough : IsPrefix (answered_text run taken) written
 
+abbrev pub too_long_line : List ℕ
+too_long_line = codes "opium: too long commands\n"
+
+-- the fault line that is written once so many bytes were taken
+abbrev pub limit_line : List ℕ → List ℕ
+limit_line taken = if nat_le channel_limit (length taken) then too_long_line else []
+
 -- after a fault of reading or writing, or want of memory
 abbrev pub BrokenAs : Outcome → List ℕ → Known → Known → Known → Type 0
 BrokenAs (Line s text) bytes talk talk_after left_after = (w : List ℕ) × Appends talk talk_after w × IsPrefix w text × (left_after ≡ Some bytes)
 BrokenAs Missing bytes talk talk_after left_after = (talk_after ≡ talk) × (left_after ≡ Some bytes)
 BrokenAs (Session run) bytes talk talk_after left_after =
-    (taken : List ℕ) × (rest : List ℕ) × (w : List ℕ) × Broken run bytes taken rest w × Appends talk talk_after w × (left_after ≡ Some rest)
-
-abbrev pub too_long_line : List ℕ
-too_long_line = codes "opium: too long commands\n"
+    (taken : List ℕ) × (rest : List ℕ) × (w : List ℕ) × (v : List ℕ) × Broken run bytes taken rest w × IsPrefix v (limit_line taken)
+    × Appends talk talk_after (w ++ v) × (left_after ≡ Some rest)
 
 -- where a limit of bytes was passed
 abbrev pub TooLongAs : Outcome → List ℕ → Known → Known → Known → Type 0

@@ -4,7 +4,7 @@ use Rattle.std.specs.Int.{is_in_range}
 use Rattle.op_trace.specs.World.{Event}
 use Rattle.op_trace.specs.Run.{Run, events_of}
 use Rattle.op_token.specs.declared.piece.Piece.{Piece}
-use Rattle.op_token.specs.declared.piece.Piece.TheVariants.{Text, NoEnd, Empty}
+use Rattle.op_token.specs.declared.piece.Piece.TheVariants.{NoEnd}
 use Rattle.op_token.specs.Cut.{cut_of, texts, behind_texts}
 use Rattle.opium.specs.Line.{event_line}
 use Rattle.opium.specs.Moves.{Stand, at_start, Found, At, No_event, Past_budget, next_from, moved}

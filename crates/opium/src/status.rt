@@ -1,3 +1,5 @@
+use op_base::Memory;
+
 /// How a call of the program ends. The numbers are the exit statuses, from 0 in this order.
 #[derive(Clone, Copy, Debug, PartialEq, Eq)]
 pub enum Status {
@@ -17,4 +19,15 @@ pub enum Status {
     Memory,
     /// A limit of bytes was passed.
     TooLong,
+}
+
+impl From<Memory> for Status {
+    ghost use Rattle.std.specs.Prelude.{◌≡◌};
+    ghost use Rattle.opium.specs.declared.status.Status.TheVariants as status;
+
+    ghost from_gives = { λ _ e. e ≡ status.Memory };
+
+    fn from(_e: Memory) -> Status {
+        Status::Memory
+    }
 }

@@ -1,0 +1,161 @@
+ghost use Rattle.std.specs.Prelude.{◌≡◌, ◌<◌, true, IfOk};
+ghost use Rattle.op_desk.specs.Frame.{Each};
+ghost use Rattle.op_desk.specs.Memory.{fresh_of};
+
+use crate::call::opium;
+use crate::status::Status;
+use op_base::{Memory, Steps};
+use op_desk::{Bytes, Chan, Fail as Failing, MemoryDesk, Shelf};
+use std::alloc::Global;
+use std::marker::Brand;
+use std::sync::ledger::{Blank, Ledger};
+use std::test::Fail;
+
+const FIRST: &[u8] = b"a :- b, c. b. c.\n";
+
+const NEXTS: &[u8] = b"next.\nnext.\nnext.\nnext.\nnext.\nnext.\nnext.\n";
+
+// What a call leaves.
+#[derive(Drop)]
+struct Left {
+    status: Status,
+    desk: MemoryDesk,
+}
+
+fn bytes_of(alloc: Global, bytes: &[u8]) -> Result<Bytes, Memory> {
+    let mut all = Bytes::new(alloc);
+    all.append(bytes)?;
+    Ok(all)
+}
+
+fn desk_of(
+    alloc: Global,
+    program: &[u8],
+    commands: &[u8],
+    failing: Vec<Failing>,
+) -> Result<MemoryDesk, Memory>
+    ensures { IfOk result (λ desk. Each (λ c. fresh_of desk c ≡ true)) }
+{
+    let mut shelf = Shelf::new(alloc);
+    shelf.add("p.pl", program)?;
+    let commands = bytes_of(alloc, commands)?;
+    let input = Bytes::new(alloc);
+    Ok(MemoryDesk::new(alloc, shelf, commands, input, failing))
+}
+
+fn words_of(alloc: Global, name: &str, goal: &str) -> Result<Vec<String>, Memory> {
+    let mut words = Vec::new(alloc);
+    words.push(String::from_str(alloc, name)?)?;
+    words.push(String::from_str(alloc, goal)?)?;
+    Ok(words)
+}
+
+fn call_by<L: Ledger>(alloc: Global, blank: Blank, words: &[String], mut desk: MemoryDesk) -> Left
+    requires name { blank.name ≡ L.name }
+    requires parts { blank.parts ≡ L.parts }
+    requires some { 0 < L.parts }
+    requires fresh { Each (λ c. fresh_of desk c ≡ true) }
+{
+    let mut steps: Steps<L> = Steps::new(blank);
+    let status = opium(alloc, words, &mut desk, &mut steps);
+    Left { status, desk }
+}
+
+fn call(alloc: Global, words: &[String], desk: MemoryDesk) -> Left
+    requires { Each (λ c. fresh_of desk c ≡ true) }
+{
+    call_by::<Brand>(alloc, Blank::new(1), words, desk)
+}
+
+fn is_told(
+    alloc: Global,
+    program: &[u8],
+    goal: &str,
+    commands: &[u8],
+    status: Status,
+    talk: &[u8],
+) -> Result<bool, Memory> {
+    let words = words_of(alloc, "p.pl", goal)?;
+    let desk = desk_of(alloc, program, commands, Vec::new(alloc))?;
+    let left = call(alloc, &words, desk);
+    Ok(left.status == status && left.desk.bytes_written(Chan::Talk) == talk)
+}
+
+#[test]
+fn rows_of_sessions(rt: HostRuntime) -> Result<(), Fail> {
+    let alloc = rt.alloc();
+    let all =
+        b"1 1 1 call a\nyes\n2 2 2 call b\nyes\n3 2 2 exit b\nyes\n4 3 2 call c\nyes\n5 3 2 exit c\nyes\n6 1 1 exit a\nyes\nno\n".as_slice();
+    assert!(rt; is_told(alloc, FIRST, "a", NEXTS, Status::Done, all)?);
+    assert!(rt; is_told(alloc, FIRST, "a", b"", Status::Done, b"")?);
+    assert!(rt;
+        is_told(
+            alloc,
+            FIRST,
+            "a",
+            b"next",
+            Status::Done,
+            b"unreadable form 0\n"
+        )?
+    );
+    assert!(rt;
+        is_told(
+            alloc,
+            FIRST,
+            "a",
+            b"next. foo. next.",
+            Status::Done,
+            b"1 1 1 call a\nyes\nunreadable form 0\n2 2 2 call b\nyes\n"
+        )?
+    );
+    Ok(())
+}
+
+#[test]
+fn rows_of_refusals(rt: HostRuntime) -> Result<(), Fail> {
+    let alloc = rt.alloc();
+    assert!(rt;
+        is_told(
+            alloc,
+            b"a :- b.",
+            "a",
+            b"next.",
+            Status::Load,
+            b"opium: load p.pl:1 form\n"
+        )?
+    );
+    assert!(rt;
+        is_told(
+            alloc,
+            FIRST,
+            "z",
+            b"next.",
+            Status::Load,
+            b"opium: load (goal):1 form\n"
+        )?
+    );
+    let words = Vec::new(alloc);
+    let desk = desk_of(alloc, FIRST, b"next.", Vec::new(alloc))?;
+    let left = call(alloc, &words, desk);
+    assert_eq!(rt; left.status, Status::Usage);
+    assert!(rt; left.desk.bytes_written(Chan::Talk) == b"opium: usage words\n".as_slice());
+    Ok(())
+}
+
+#[test]
+fn rows_of_faults(rt: HostRuntime) -> Result<(), Fail> {
+    let alloc = rt.alloc();
+    let words = words_of(alloc, "q.pl", "a")?;
+    let desk = desk_of(alloc, FIRST, b"next.", Vec::new(alloc))?;
+    let left = call(alloc, &words, desk);
+    assert_eq!(rt; left.status, Status::Read);
+    assert!(rt; left.desk.bytes_written(Chan::Talk) == b"".as_slice());
+    let words = words_of(alloc, "p.pl", "a")?;
+    let mut failing = Vec::new(alloc);
+    failing.push(Failing::Put(Chan::Talk, 2))?;
+    let desk = desk_of(alloc, FIRST, NEXTS, failing)?;
+    let left = call(alloc, &words, desk);
+    assert_eq!(rt; left.status, Status::Write);
+    assert!(rt; left.desk.bytes_written(Chan::Talk) == b"1 1 1 call a\nyes\n".as_slice());
+    Ok(())
+}
