@@ -1,11 +1,13 @@
-ghost use Rattle.std.specs.Prelude.{◌≡◌, ◌<◌, true, IfOk};
+ghost use Rattle.std.specs.Prelude.{◌≡◌, ◌<◌, true, IfOk, length};
 ghost use Rattle.op_desk.specs.Frame.{Each};
 ghost use Rattle.op_desk.specs.Memory.{fresh_of};
 
 use crate::call::opium;
+use crate::session::session;
 use crate::status::Status;
 use op_base::{Memory, Steps};
 use op_desk::{Bytes, Chan, Fail as Failing, MemoryDesk, Shelf};
+use op_machine::{Goal, Store};
 use std::alloc::Global;
 use std::marker::Brand;
 use std::sync::ledger::{Blank, Ledger};
@@ -79,6 +81,94 @@ fn is_told(
     let desk = desk_of(alloc, program, commands, Vec::new(alloc))?;
     let left = call(alloc, &words, desk);
     Ok(left.status == status && left.desk.bytes_written(Chan::Talk) == talk)
+}
+
+// A session over the run's first 100 steps.
+fn short_session<L: Ledger>(
+    alloc: Global,
+    blank: Blank,
+    store: Store,
+    goal: Goal,
+    mut desk: MemoryDesk,
+) -> Left
+    requires name { blank.name ≡ L.name }
+    requires parts { blank.parts ≡ L.parts }
+    requires some { 0 < L.parts }
+    requires goal { goal.name.0 < length store.names }
+{
+    let mut steps: Steps<L> = Steps::new(blank);
+    let status = session(alloc, store, goal, 100, &mut desk, &mut steps);
+    Left { status, desk }
+}
+
+fn short_call(alloc: Global, store: Store, goal: Goal, desk: MemoryDesk) -> Left
+    requires { goal.name.0 < length store.names }
+{
+    short_session::<Brand>(alloc, Blank::new(1), store, goal, desk)
+}
+
+#[test]
+fn a_session_of_a_spent_run(rt: HostRuntime) -> Result<(), Fail> {
+    let alloc = rt.alloc();
+    let mut store = Store::new(alloc)?;
+    store.load(b"p :- p.")?;
+    let goal = store.goal(b"p")?;
+    let mut commands = Bytes::new(alloc);
+    let mut talk = String::new(alloc);
+    for n in 1..=36 {
+        commands.append(b"next.\n")?;
+        if n <= 34 {
+            write!(talk, "{n} {n} {n} call p\nyes\n")?;
+        } else {
+            talk.push_str("thrown trace_budget\n")?;
+        }
+    }
+    let desk = desk_of(alloc, b"", commands.as_slice(), Vec::new(alloc))?;
+    let left = short_call(alloc, store, goal, desk);
+    assert_eq!(rt; left.status, Status::Done);
+    assert!(rt; left.desk.bytes_written(Chan::Talk) == talk.as_bytes());
+    Ok(())
+}
+
+#[test]
+fn a_session_of_backtracking(rt: HostRuntime) -> Result<(), Fail> {
+    let alloc = rt.alloc();
+    assert!(rt;
+        is_told(
+            alloc,
+            b"p :- q, r. q. q. r :- fail.",
+            "p",
+            b"next. next. next. next. next. next. next. next. next. next. next. next. next. next. ",
+            Status::Done,
+            b"1 1 1 call p\nyes\n2 2 2 call q\nyes\n3 2 2 exit q\nyes\n4 3 2 call r\nyes\n5 3 2 fail r\nyes\n6 2 2 redo q\nyes\n7 2 2 exit q\nyes\n8 4 2 call r\nyes\n9 4 2 fail r\nyes\n10 2 2 redo q\nyes\n11 2 2 fail q\nyes\n12 1 1 fail p\nyes\nno\nno\n"
+        )?
+    );
+    Ok(())
+}
+
+// A call whose program has 16,773,120 spaces, these bytes and a clause of two bytes.
+fn call_behind(alloc: Global, gap: &[u8]) -> Result<Left, Memory> {
+    let mut text = Bytes::new(alloc);
+    for _ in 0..4095 {
+        text.append(&[b' '; 4096])?;
+    }
+    text.append(gap)?;
+    text.append(b"p.")?;
+    let words = words_of(alloc, "p.pl", "p")?;
+    let desk = desk_of(alloc, text.as_slice(), b"next. ", Vec::new(alloc))?;
+    Ok(call(alloc, &words, desk))
+}
+
+#[test]
+fn limits_of_a_file(rt: HostRuntime) -> Result<(), Fail> {
+    let alloc = rt.alloc();
+    let left = call_behind(alloc, &[b' '; 4094])?;
+    assert_eq!(rt; left.status, Status::Done);
+    assert!(rt; left.desk.bytes_written(Chan::Talk) == b"1 1 1 call p\nyes\n".as_slice());
+    let left = call_behind(alloc, &[b' '; 4095])?;
+    assert_eq!(rt; left.status, Status::TooLong);
+    assert!(rt; left.desk.bytes_written(Chan::Talk) == b"opium: too long p.pl\n".as_slice());
+    Ok(())
 }
 
 #[test]
