@@ -51,9 +51,10 @@ pub record IsUnifying (first now : State) (t u : Term ℕ) (start left : ℕ) (t
   pub same : unify nat_eq left (bindings now) (stack_pairs now.terms todo) ≡ unified start first t u
   pub later : IsLater first now
   pub there : ArePairs (length now.terms) (reverse todo)
+  pub falls : left ≤ start
 
 pub unifying-starts : (s : State) (a b start : ℕ) → a < length s.terms → b < length s.terms → IsUnifying s s (term_at s.terms a) (term_at s.terms b) start start ((a, b) ∷ [])
-unifying-starts s a b start h k = record { same = refl; later = later-starts s; there = (h, k, tt) }
+unifying-starts s a b start h k = record { same = refl; later = later-starts s; there = (h, k, tt); falls = omega arith }
 
 pub unifying-ends : (first now : State) (t u : Term ℕ) (start left : ℕ) → IsUnifying first now t u start left [] → unified start first t u ≡ Some (Some (bindings now), left)
 unifying-ends first now t u start left h =
@@ -108,6 +109,7 @@ module _ (first now : State) (t u : Term ℕ) (start left : ℕ) (rest : List (�
         same = sym (sym turn-same ∙ (ap (λ q. pay left q (unify nat_eq)) e ∙ (if_true _ _ _ (le-leb (left - after) left (omega arith)) ∙ ap (λ n. unify nat_eq n (bindings next) (stack_pairs next.terms more)) z)));
         later = later-later first now next h.later k;
         there = subst (λ (n : ℕ). ArePairs n (reverse more)) (sym (ap length k.terms)) m;
+        falls = omega (arith, h.falls, l);
       }
 
 -- what the answers mean

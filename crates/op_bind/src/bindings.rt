@@ -168,6 +168,26 @@ impl Bindings {
         }
     }
 
+    /// The outermost node of a Ref's term as it stands, whatever its variables are bound to.
+    pub fn outline(&self, r: &Ref) -> Node
+        requires { r.now < length self.now.terms }
+        ensures { result ≡ head (term_at self.now.terms r.now) }
+    {
+        self.node_at(r.at)
+    }
+
+    /// An argument of a Ref's term as it stands, by its place from 0.
+    pub fn argument(&self, r: &Ref, i: u64) -> Ref
+        requires there { r.now < length self.now.terms }
+        requires within { i < arity (args_of (term_at self.now.terms r.now)) }
+        ensures there { result < length self.now.terms }
+        ensures value { term_at self.now.terms result ≡ nth_arg (args_of (term_at self.now.terms r.now)) i }
+    {
+        Ref {
+            at: self.nodes.part(r.at, i),
+        }
+    }
+
     /// The outermost node of a term that is not followed.
     pub(crate) fn node_at(&self, r: u64) -> Node
         requires { r < length self.now.terms }

@@ -115,6 +115,7 @@ impl Bindings {
         ensures spent { result ≡ Err WalkFault.Spent → unified fuel.old self.old (term_at self.old.terms a.now) (term_at self.old.terms b.now)
             ≡ None }
         ensures later { IsLater self.old self.new }
+        ensures falls { fuel.new ≤ fuel.old }
         ensures grows { Grows self.old self.new }
 
         // What that means: equal values, or none that anything makes equal.

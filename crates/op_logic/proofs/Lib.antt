@@ -9,3 +9,5 @@ pub mod Counting
 pub mod Unified
 pub mod Renaming
 pub mod Total
+pub mod Having
+pub mod Shifting

@@ -47,11 +47,11 @@ module _ {N M : Type 0} (f : N → M) where
     args_size-rename no_args = refl
     args_size-rename (arg t ts) = let a = size-rename t in let b = args_size-rename ts in cc
 
-  arity-rename : (ts : Args N) → arity (rename_args f ts) ≡ arity ts
+  pub arity-rename : (ts : Args N) → arity (rename_args f ts) ≡ arity ts
   arity-rename no_args = refl
   arity-rename (arg t ts) = ap suc (arity-rename ts)
 
-  apply-rename : (σ : Bindings N) (t : Term N) → apply (rename_bindings f σ) (rename f t) ≡ rename f (apply σ t)
+  pub apply-rename : (σ : Bindings N) (t : Term N) → apply (rename_bindings f σ) (rename f t) ≡ rename f (apply σ t)
   apply-rename [] t = refl
   apply-rename (p ∷ σ) t =
       let a : apply (rename_bindings f σ) (rename f p.1) ≡ rename f (apply σ p.1) = apply-rename σ p.1 in

@@ -1,6 +1,7 @@
 -- Names as texts, by a table of them. A number past the table has a list that is no text, so that the names of all numbers differ.
 use Rattle.std.specs.Prelude.{◌≡◌, ℕ, ◌+◌, ◌<◌, nat_lt, List, [], ◌∷◌, ◌++◌, if◌then◌else◌, length, slice_index_or, All, bytes_eq}
 use Rattle.std.specs.List.{list_any}
+use Rattle.op_logic.specs.Bind.{Bindings, Pairs}
 use Rattle.op_logic.specs.Term.{Term, var, int, node, Args, no_args, arg, rename}
 
 abbrev pub name_at : List (List ℕ) → ℕ → List ℕ
@@ -29,3 +30,12 @@ abbrev mutual
   pub ArgsHaveNames : ℕ → Args ℕ → Type 0
   ArgsHaveNames n no_args = Unit {0}
   ArgsHaveNames n (arg t ts) = HasNames n t × ArgsHaveNames n ts
+
+-- in each term that a variable is bound to, and in both sides of each pair
+abbrev pub HaveNames : ℕ → Bindings ℕ → Type 0
+HaveNames n [] = Unit {0}
+HaveNames n (p ∷ σ) = HasNames n p.1 × HaveNames n σ
+
+abbrev pub PairsHaveNames : ℕ → Pairs ℕ → Type 0
+PairsHaveNames n [] = Unit {0}
+PairsHaveNames n (p ∷ ps) = HasNames n p.0 × HasNames n p.1 × PairsHaveNames n ps

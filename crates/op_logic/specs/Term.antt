@@ -1,7 +1,7 @@
 -- Terms over names of a type N (ISO/IEC 13211-1, 6.1.2 and 7.1): a variable, an integer, or a name with its arguments.
 -- An atom is a name without arguments, so that each compound term has at least one. Names are texts where the meaning of
 -- a program is spoken of, and numbers in code.
-use Rattle.std.specs.Prelude.{ℕ, zero, suc, pos, ◌+◌, ◌<◌, ◌==◌, Bool, true, false, ◌||◌, ◌&&◌, ℤ, if◌then◌else◌, max}
+use Rattle.std.specs.Prelude.{ℕ, zero, suc, pos, ◌+◌, ◌<◌, ◌==◌, Bool, true, false, ◌||◌, ◌&&◌, ℤ, if◌then◌else◌}
 use Rattle.std.specs.Ordering.{int_eq}
 
 mutual
@@ -110,14 +110,3 @@ abbrev mutual
   pub ArgsWithin : {N : Type 0} → ℕ → Args N → Type 0
   ArgsWithin n no_args = Unit {0}
   ArgsWithin n (arg t ts) = IsWithin n t × ArgsWithin n ts
-
--- one more than the greatest variable, or 0: how many variables a term has that numbers them from 0
-abbrev mutual
-  pub variable_count : {N : Type 0} → Term N → ℕ
-  variable_count (var v) = suc v
-  variable_count (int i) = 0
-  variable_count (node f ts) = args_variable_count ts
-
-  pub args_variable_count : {N : Type 0} → Args N → ℕ
-  args_variable_count no_args = 0
-  args_variable_count (arg t ts) = max (variable_count t) (args_variable_count ts)

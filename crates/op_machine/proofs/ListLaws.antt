@@ -1,7 +1,7 @@
 -- Laws of lists that share their ends.
-use Rattle.std.proofs.Common.{◌≡◌, ℕ, zero, suc, ◌+◌, ◌-◌, ◌<◌, ◌≤◌, List, [], ◌∷◌, ◌++◌, length, get_or, refl, sym, ap, ◌∙◌, subst, arith, length-append}
+use Rattle.std.proofs.Common.{◌≡◌, ℕ, zero, suc, ◌+◌, ◌-◌, ◌<◌, ◌≤◌, List, [], ◌∷◌, ◌++◌, length, take, get_or, refl, sym, ap, ◌∙◌, subst, arith, length-append}
 use Rattle.std.proofs.lemmas.List.{get_or_append_left}
-use Rattle.std.proofs.Math.Seq.{get_or-append_seam}
+use Rattle.std.proofs.Math.Seq.{get_or-append_seam, take-length}
 use Rattle.op_logic.proofs.Tests.{by_order}
 use Rattle.op_trace.specs.World.{head_number}
 use Rattle.op_machine.specs.declared.lists.Item.{Item}
@@ -48,7 +48,6 @@ only_empty-shallow zero h = omega arith
 only_empty-shallow (suc m) h = absurd (omega arith)
 
 pub opened-cons : (i : Item) (I : List Item) → length (opened (i ∷ I)) ≤ suc (length (opened I))
-opened-cons (item.Body r j m) I = omega arith
 opened-cons (item.Goal f m) I = omega arith
 opened-cons (item.Exit k g) I = omega arith
 
@@ -95,3 +94,42 @@ list_begins cs n d l p h =
     let e : 1 + (n - 1) ≡ n = omega arith in
     let i : n - 1 < length cs = omega (arith, length_lists_of cs) in
     subst (λ m. Begins (lists_of cs) m (get_or cs (n - 1) d)) e (cell-begins only_empty cs (n - 1) d only_empty-shallow l i)
+
+pub take-within : {A : Type 0} (n m : ℕ) (xs : List A) → n ≤ m → take n (take m xs) ≡ take n xs
+take-within zero m xs h = refl
+take-within (suc n) zero xs h = absurd (omega arith)
+take-within (suc n) (suc m) [] h = refl
+take-within (suc n) (suc m) (x ∷ xs) h = ap (λ ys. x ∷ ys) (take-within n m xs (omega arith))
+
+take-joined : (L : List (List Item)) (I : List Item) → take (length L) (L ++ I ∷ []) ≡ L
+take-joined [] I = refl
+take-joined (J ∷ L) I = ap (λ K. J ∷ K) (take-joined L I)
+
+take-first : (L M : List (List Item)) (n : ℕ) → n ≤ length L → take (length L) M ≡ L → take n M ≡ take n L
+take-first L M n h e = sym (take-within n (length L) M h) ∙ ap (take n) e
+
+-- what was there is the beginning
+first-lists : (L : List (List Item)) (cs : List Cell) → take (length L) (lists_after L cs) ≡ L
+first-lists L [] = take-length L
+first-lists L (c ∷ cs) =
+    take-first (joined L c) (lists_after (joined L c) cs) (length L) (omega (arith, length-joined L c)) (first-lists (joined L c) cs) ∙ take-joined L (c.item ∷ list_in L c.rest)
+
+-- the first cells make the first lists
+cut-after : (L : List (List Item)) (cs : List Cell) (n : ℕ) → n ≤ length cs → lists_after L (take n cs) ≡ take (length L + n) (lists_after L cs)
+cut-after L cs zero h =
+    let e : length L ≡ length L + 0 = omega arith in
+    sym (first-lists L cs) ∙ ap (λ k. take k (lists_after L cs)) e
+cut-after L [] (suc n) h = absurd (omega arith)
+cut-after L (c ∷ cs) (suc n) h =
+    let e : length (joined L c) + n ≡ length L + suc n = omega (arith, length-joined L c) in
+    cut-after (joined L c) cs n (omega arith) ∙ ap (λ k. take k (lists_after (joined L c) cs)) e
+
+pub lists-cut : (cs : List Cell) (n : ℕ) → 0 < n → n ≤ length (lists_of cs) → lists_of (take (n - 1) cs) ≡ take n (lists_of cs)
+lists-cut cs n p h =
+    let e : 1 + (n - 1) ≡ n = omega arith in
+    cut-after only_empty cs (n - 1) (omega (arith, length_lists_of cs)) ∙ ap (λ k. take k (lists_of cs)) e
+
+pub linked-cut : (L : List (List Item)) (cs : List Cell) (n : ℕ) → AreLinked L cs → AreLinked L (take n cs)
+linked-cut L cs zero l = tt
+linked-cut L [] (suc n) l = tt
+linked-cut L (c ∷ cs) (suc n) l = (l.0, l.1, l.2, linked-cut (joined L c) cs n l.3)

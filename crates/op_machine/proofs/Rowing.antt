@@ -1,40 +1,44 @@
 -- Each row of the machine makes one move.
-use Rattle.std.proofs.Common.{◌≡◌, ℕ, suc, ◌+◌, ◌<◌, ◌≤◌, List, [], ◌∷◌, length, get_or, map, refl, sym, ap, ◌∙◌, subst, Result, Ok, Err, IfOk, if◌then◌else◌}
-use Rattle.op_logic.specs.Term.{Term, atom}
-use Rattle.op_logic.specs.Bind.{Bindings}
-use Rattle.op_trace.specs.World.{Text, Clause}
+use Rattle.std.proofs.Common.{◌≡◌, ℕ, suc, ◌+◌, ◌-◌, ◌<◌, ◌≤◌, List, [], ◌∷◌, length, refl, sym, ap, ◌∙◌, subst, Result, Ok, Err, IfOk}
+use Rattle.op_logic.specs.Term.{Term, shift}
+use Rattle.op_logic.specs.Bind.{unify}
+use Rattle.op_trace.specs.declared.port.Port.TheVariants as port
 use Rattle.op_trace.specs.World as world
+use Rattle.op_trace.specs.World.{Text, text_eq, Clause, World, Setup, Event, Turn, Shown, Barrier, procedure}
 use Rattle.op_trace.specs.Visit as visit
-use Rattle.op_reader.specs.Form.{rule_at, named_rule}
-use Rattle.op_machine.specs.Program.{Tables, clauses_for, clause_of, conjunction, goal_named, body_from}
-use Rattle.op_trace.specs.World.{World}
+use Rattle.op_trace.specs.Visit.{event_of, with_event, control}
+use Rattle.op_term.specs.Places.{term_at}
 use Rattle.op_machine.specs.declared.core_state.Core.{Core}
+use Rattle.op_machine.specs.declared.core_state.Seen.{Seen}
 use Rattle.op_machine.specs.declared.core_state.Mode.TheVariants as mode
 use Rattle.op_machine.specs.declared.core_state.Ending.TheVariants as outcome
 use Rattle.op_machine.specs.declared.core_state.Step.{Step}
 use Rattle.op_machine.specs.declared.core_state.Step.TheVariants as step
-use Rattle.op_machine.specs.Core.{setup_of, world_in, items_in, choices_in, IsGood}
-use Rattle.op_trace.specs.Visit.{control, control_of_atom, is_true}
-use Rattle.op_trace.specs.World.{Barrier}
-use Rattle.op_logic.specs.Names.{name_at}
-use Rattle.op_machine.specs.Rows.{Advances, goal_moved, rule_entered, rule_moved, retried, body_before, clause_in}
-use Rattle.op_machine.proofs.Meaning.{body-last, body-more, pair, shift-conjunction}
-use Rattle.op_machine.specs.Resume.{Going, Back, Over, Moved, silent, pay, chosen, tried, move, with_more}
-use Rattle.op_machine.proofs.Atoms.{pay-yes, pay-no, tried-atom}
+use Rattle.op_machine.specs.declared.frame.FrameKind.TheVariants as kind
+use Rattle.op_machine.specs.Program.{clauses_for, clause_at, IsFor, IsNext}
+use Rattle.op_machine.specs.Core.{setup_of, world_in, level_in, items_now, goal_now, bindings_now, choices_in, choice_by, event_seen, IsGood, IsGoal}
+use Rattle.op_machine.specs.Rows.{Advances, goal_moved, chosen_now, rule_tried, rule_met, rules_tried, box_invoked}
+use Rattle.op_machine.specs.Resume.{Back, Over, Moved, silent, pay, met, tried, move, with_more}
+use Rattle.op_machine.proofs.Paying.{pay-yes, pay-no}
 use Rattle.op_machine.proofs.Clauses.{clauses_for-here, clauses_for-end}
 
--- clauses from a rule of the goal's name on are a choice
-pub with_more-here : (t : Tables) (n i k : ℕ) (g : Term Text) (σ : Bindings Text) (J : List world.Item) (K : List visit.Choice) → i < length t.rules → (rule_at t.rules i).0 ≡ n
-    → with_more (clauses_for t n i) k g σ J K ≡ visit.More (clauses_for t n i) k g σ J ∷ K
-with_more-here t n i k g σ J K h e =
-    let cs : List Clause = clause_of i (named_rule t.names (rule_at t.rules i)) ∷ clauses_for t n (suc i) in
-    ap (λ (x : List Clause). with_more x k g σ J K) (clauses_for-here t n i h e)
-    ∙ ap (λ (x : List Clause). visit.More x k g σ J ∷ K) (sym (clauses_for-here t n i h e))
+pub IfOk-then : {A E : Type 0} (r : Result A E) (P Q : A → Type 0) → ((x : A) → P x → Q x) → IfOk r P → IfOk r Q
+IfOk-then (Ok x) P Q f h = f x h
+IfOk-then (Err e) P Q f h = tt
 
--- and none past the last rule
-pub with_more-end : (t : Tables) (n i k : ℕ) (g : Term Text) (σ : Bindings Text) (J : List world.Item) (K : List visit.Choice) → length t.rules ≤ i
-    → with_more (clauses_for t n i) k g σ J K ≡ K
-with_more-end t n i k g σ J K h = ap (λ (x : List Clause). with_more x k g σ J K) (clauses_for-end t n i h)
+-- clauses from one of the goal's procedure on are a choice
+pub with_more-here : (c : Core) (i k g n : ℕ) (K : List visit.Choice) → i < length c.store.rules → IsFor c.store (term_at c.bindings.terms g) i
+    → with_more (clauses_for c.store (term_at c.bindings.terms g) i) k (goal_now c g) (bindings_now c) (items_now c n) K ≡ choice_by c.store (level_in c) (kind.More i) k g n ∷ K
+with_more-here c i k g n K h e =
+    let t : Term ℕ = term_at c.bindings.terms g in
+    ap (λ (x : List Clause). with_more x k (goal_now c g) (bindings_now c) (items_now c n) K) (clauses_for-here c.store t i h e)
+    ∙ ap (λ (x : List Clause). visit.More x k (goal_now c g) (bindings_now c) (items_now c n) ∷ K) (sym (clauses_for-here c.store t i h e))
+
+-- and none past the last clause
+pub with_more-end : (c : Core) (i k g n : ℕ) (K : List visit.Choice) → length c.store.rules ≤ i
+    → with_more (clauses_for c.store (term_at c.bindings.terms g) i) k (goal_now c g) (bindings_now c) (items_now c n) K ≡ K
+with_more-end c i k g n K h =
+    ap (λ (x : List Clause). with_more x k (goal_now c g) (bindings_now c) (items_now c n) K) (clauses_for-end c.store (term_at c.bindings.terms g) i h)
 
 -- where a step is not there, the run is spent
 pub spent-advances : (c : Core) (h : World → Moved) → IsGood c → c.budget < c.steps + 1
@@ -44,11 +48,17 @@ spent-advances c h good over =
     record {
       turns = ap (λ (m : Moved). m.turns) (sym e);
       state = ap (λ (m : Moved). m.state) (sym e);
-      good = record { lists = good.lists; frames = good.frames; mode = tt; seen = good.seen };
+      good = record { level = good.level; frames = good.frames; mode = tt; values = good.values };
+      looked = tt;
       store = refl;
+      names = refl;
       budget = refl;
       wanted = refl;
     }
+
+-- another form of the same move
+pub same-move : (c new : Core) (m n : Moved) (s : Step) → m ≡ n → Advances c new m s → Advances c new n s
+same-move c new m n s e a = subst (λ (x : Moved). Advances c new x s) e a
 
 -- what a paid step leads to
 pub paid-advances : (c new : Core) (h : World → Moved) (s : Step) → c.steps + 1 ≤ c.budget
@@ -59,111 +69,115 @@ paid-advances c new h s fits a =
       turns = a.turns ∙ ap (λ (m : Moved). m.turns) (sym e);
       state = a.state ∙ ap (λ (m : Moved). m.state) (sym e);
       good = a.good;
+      looked = a.looked;
       store = a.store;
+      names = a.names;
       budget = a.budget;
       wanted = a.wanted;
     }
 
-pub IfOk-then : {A E : Type 0} (r : Result A E) (P Q : A → Type 0) → ((x : A) → P x → Q x) → IfOk r P → IfOk r Q
-IfOk-then (Ok x) P Q f h = f x h
-IfOk-then (Err e) P Q f h = tt
-
--- a goal that is a name, in a machine that has these parts
-abbrev pub chosen_in : Core → ℕ → ℕ → Barrier → Moved
-chosen_in c g n m =
-    chosen (control_of_atom (name_at c.store.names g)) (goal_named c.store g) m (items_in c.store c.lists n) (choices_in c) [] (world_in c)
-
 -- the step of a goal was paid, and then the goal was chosen
 pub chosen-paid : (c paid new : Core) (g n : ℕ) (m : Barrier) (s : Step) → paid ≡ record c { steps = c.steps + 1 } → c.steps + 1 ≤ c.budget
-    → Advances paid new (chosen_in paid g n m) s
-    → Advances c new (pay (setup_of c) 1 (world_in c) (chosen (control_of_atom (name_at c.store.names g)) (goal_named c.store g) m (items_in c.store c.lists n) (choices_in c) [])) s
+    → Advances paid new (chosen_now paid (goal_now paid g) m n (world_in paid)) s → Advances c new (goal_moved c (goal_now c g) m n) s
 chosen-paid c paid new g n m s e fits a =
-    paid-advances c new (chosen (control_of_atom (name_at c.store.names g)) (goal_named c.store g) m (items_in c.store c.lists n) (choices_in c) []) s fits
-    (subst (λ (x : Core). Advances x new (chosen_in x g n m) s) e a)
+    paid-advances c new (chosen_now c (goal_now c g) m n) s fits
+    (subst (λ (x : Core). Advances x new (chosen_now x (goal_now x g) m n (world_in x)) s) e a)
 
--- the last goal of a body, as one goal
-pub last-selected : (c new : Core) (i j n : ℕ) (g : ℕ) (m : Barrier) (s : Step) → g ≡ get_or (rule_at c.store.rules i).1 j 0 → j + 1 ≡ length (rule_at c.store.rules i).1
-    → Advances c new (pay (setup_of c) 1 (world_in c) (chosen (control_of_atom (name_at c.store.names g)) (goal_named c.store g) m (items_in c.store c.lists n) (choices_in c) [])) s
-    → Advances c new (goal_moved c (body_from c.store i j) m n) s
-last-selected c new i j n g m s e l a =
-    let t : body_from c.store i j ≡ goal_named c.store g = body-last c.store i j l ∙ ap (goal_named c.store) (sym e) in
-    subst (λ (x : Term Text). Advances c new (goal_moved c x m n) s) (sym t) a
-
--- an earlier goal, split from the rest
-pub split-paid : (c paid new : Core) (i j n : ℕ) (g : ℕ) (m : Barrier) → g ≡ get_or (rule_at c.store.rules i).1 j 0 → j + 1 < length (rule_at c.store.rules i).1
-    → paid ≡ record c { steps = c.steps + 1 } → c.steps + 1 ≤ c.budget
-    → Advances paid new (silent (Going (world.Goal (goal_named paid.store g) m ∷ world.Goal (body_from paid.store i (j + 1)) m ∷ items_in paid.store paid.lists n) (choices_in paid) [] (world_in paid))) step.Silent
-    → Advances c new (goal_moved c (body_from c.store i j) m n) step.Silent
-split-paid c paid new i j n g m e l p fits a =
-    let t : body_from c.store i j ≡ pair (goal_named c.store g) (body_from c.store i (j + 1)) =
-    body-more c.store i j l ∙ ap (λ (x : ℕ). pair (goal_named c.store x) (body_from c.store i (j + 1))) (sym e) in
-    let whole : Term Text = pair (goal_named c.store g) (body_from c.store i (j + 1)) in
-    let done : Advances c new (goal_moved c whole m n) step.Silent =
-    paid-advances c new (chosen (control whole) whole m (items_in c.store c.lists n) (choices_in c) []) step.Silent fits
-    (subst (λ (x : Core). Advances x new (silent (Going (world.Goal (goal_named x.store g) m ∷ world.Goal (body_from x.store i (j + 1)) m ∷ items_in x.store x.lists n) (choices_in x) [] (world_in x))) step.Silent) p a) in
-    subst (λ (x : Term Text). Advances c new (goal_moved c x m n) step.Silent) (sym t) done
-
--- the pair of goal and head was paid, and the rule was entered
-pub entered-paid : (c paid new : Core) (i k g n : ℕ) → paid ≡ record c { steps = c.steps + 1 } → c.steps + 1 ≤ c.budget
-    → Advances paid new (rule_entered paid i k g n (world_in paid)) step.Silent
-    → Advances c new (pay (setup_of c) 1 (world_in c) (rule_entered c i k g n)) step.Silent
-entered-paid c paid new i k g n e fits a =
-    paid-advances c new (rule_entered c i k g n) step.Silent fits (subst (λ (x : Core). Advances x new (rule_entered x i k g n (world_in x)) step.Silent) e a)
-
--- the rule was paid, and then the pair was met
+-- the clause was paid, and then its head was met
 pub tried-paid : (c paid new : Core) (i k g n : ℕ) (s : Step) → paid ≡ record c { steps = c.steps + 1 } → c.steps + 1 ≤ c.budget
-    → Advances paid new (pay (setup_of paid) 1 (world_in paid) (rule_entered paid i k g n)) s
-    → Advances c new (rule_moved c i k g n) s
+    → Advances paid new (rule_met paid i k g n) s → Advances c new (rule_tried c i k g n) s
 tried-paid c paid new i k g n s e fits a =
-    paid-advances c new (λ u. pay (setup_of c) 1 u (rule_entered c i k g n)) s fits
-    (subst (λ (x : Core). Advances x new (pay (setup_of x) 1 (world_in x) (rule_entered x i k g n)) s) e a)
+    let h : World → Moved =
+    λ u. met (setup_of c) (clause_at c.store i) k (goal_now c g) (items_now c n) (choices_in c) u
+    (unify text_eq (c.budget - u.steps) (bindings_now c) ((goal_now c g, shift u.variables (clause_at c.store i).head) ∷ [])) in
+    paid-advances c new h s fits (subst (λ (x : Core). Advances x new (rule_met x i k g n) s) e a)
 
--- two steps, and then a rule's body and the exit of its box, over these choices
-abbrev pub both_paid : Core → ℕ → ℕ → ℕ → ℕ → List visit.Choice → Moved
-both_paid c i k g n K =
-    pay (setup_of c) 1 (world_in c) (λ u. pay (setup_of c) 1 u
-    (λ v. silent (Going (body_before c.store i k (world.Exit k (goal_named c.store g) ∷ items_in c.store c.lists n)) K [] v)))
-
--- a rule of the goal's name that is tried takes two steps and matches
-pub tried-rule : (c : Core) (i k g n : ℕ) (K : List visit.Choice) → (rule_at c.store.rules i).0 ≡ g → c.steps ≤ c.budget
-    → tried (setup_of c) (clause_in c.store i) k (goal_named c.store g) [] (items_in c.store c.lists n) K (world_in c) ≡ both_paid c i k g n K
-tried-rule c i k g n K e below =
-    let r = rule_at c.store.rules i in
-    let J : List world.Item = items_in c.store c.lists n in
-    let gs : List Text = map (name_at c.store.names) r.1 in
-    let f : Text = name_at c.store.names r.0 in
-    let named : Term Text → Moved = λ t. tried (setup_of c) (clause_in c.store i) k t [] J K (world_in c) in
-    ap named (ap (goal_named c.store) (sym e))
-    ∙ (tried-atom (setup_of c) i k f gs J K (world_in c) below
-    ∙ (ap (λ (b : Term Text). pay (setup_of c) 1 (world_in c) (λ u. pay (setup_of c) 1 u
-    (λ v. silent (Going (if is_true (conjunction gs) then world.Exit k (atom f) ∷ J else world.Goal b (world.Call k) ∷ world.Exit k (atom f) ∷ J) K [] v)))) (shift-conjunction 0 gs)
-    ∙ ap (λ (x : ℕ). both_paid c i k x n K) e))
-
--- the clauses from a rule on are tried: the rule, with those behind it as a choice
+-- the first of the clauses is tried, with those behind it as a choice
 pub retry-moved : (c mid : Core) (i k g n nx : ℕ) → mid ≡ record c { frames = mid.frames }
-    → choices_in mid ≡ with_more (clauses_for c.store g nx) k (goal_named c.store g) [] (items_in c.store c.lists n) (choices_in c)
-    → clauses_for c.store (rule_at c.store.rules i).0 (suc i) ≡ clauses_for c.store (rule_at c.store.rules i).0 nx
-    → (rule_at c.store.rules i).0 ≡ g → i < length c.store.rules → c.steps ≤ c.budget
-    → rule_moved mid i k g n ≡ retried c i k g n
-retry-moved c mid i k g n nx e choices later here inside below =
-    let J : List world.Item = items_in c.store c.lists n in
-    let K : List visit.Choice = with_more (clauses_for c.store g (suc i)) k (goal_named c.store g) [] J (choices_in c) in
-    let later_g : clauses_for c.store g nx ≡ clauses_for c.store g (suc i) =
-    subst (λ (x : ℕ). clauses_for c.store x nx ≡ clauses_for c.store x (suc i)) here (sym later) in
-    let same : choices_in mid ≡ K = choices ∙ ap (λ (cs : List Clause). with_more cs k (goal_named c.store g) [] J (choices_in c)) later_g in
-    let first : clauses_for c.store g i ≡ clause_in c.store i ∷ clauses_for c.store g (suc i) = clauses_for-here c.store g i inside here in
-    ap (λ (x : Core). both_paid x i k g n (choices_in mid)) e
-    ∙ (ap (both_paid c i k g n) same
-    ∙ (sym (tried-rule c i k g n K here below)
-    ∙ ap (λ (cs : List Clause). move (setup_of c) (Back (visit.More cs k (goal_named c.store g) [] J ∷ choices_in c) (world_in c))) (sym first)))
+    → choices_in mid ≡ with_more (clauses_for c.store (term_at c.bindings.terms g) nx) k (goal_now c g) (bindings_now c) (items_now c n) (choices_in c)
+    → IsNext c.store (term_at c.bindings.terms g) (suc i) nx → IsFor c.store (term_at c.bindings.terms g) i → i < length c.store.rules
+    → rule_tried mid i k g n ≡ rules_tried c i k g n
+retry-moved c mid i k g n nx e choices later here inside =
+    let t : Term ℕ = term_at c.bindings.terms g in
+    let J : List world.Item = items_now c n in
+    let with_rest : List Clause → List visit.Choice = λ cs. with_more cs k (goal_now c g) (bindings_now c) J (choices_in c) in
+    let tried_over : List visit.Choice → Moved = λ K. tried (setup_of c) (clause_at c.store i) k (goal_now c g) (bindings_now c) J K (world_in c) in
+    ap (λ (x : Core). tried (setup_of x) (clause_at x.store i) k (goal_now x g) (bindings_now x) (items_now x n) (choices_in mid) (world_in x)) e
+    ∙ (ap tried_over (choices ∙ ap with_rest (sym later.clauses))
+    ∙ ap (λ (cs : List Clause). move (setup_of c) (Back (visit.More cs k (goal_now c g) (bindings_now c) J ∷ choices_in c) (world_in c))) (sym (clauses_for-here c.store t i inside here)))
 
-pub retry-advances : (c mid new : Core) (i k g n : ℕ) (s : Step) → mid ≡ record c { frames = mid.frames } → rule_moved mid i k g n ≡ retried c i k g n
-    → Advances mid new (rule_moved mid i k g n) s → Advances c new (retried c i k g n) s
-retry-advances c mid new i k g n s e m a = record {
-  turns = a.turns ∙ ap (λ (x : Moved). x.turns) m;
-  state = a.state ∙ ap (λ (x : Moved). x.state) m;
+pub retry-advances : (c mid new : Core) (m : Moved) (n : Moved) (s : Step) → mid ≡ record c { frames = mid.frames } → m ≡ n
+    → Advances mid new m s → Advances c new n s
+retry-advances c mid new m n s e q a = record {
+  turns = a.turns ∙ ap (λ (x : Moved). x.turns) q;
+  state = a.state ∙ ap (λ (x : Moved). x.state) q;
   good = a.good;
+  looked = a.looked;
   store = a.store ∙ ap (λ (x : Core). x.store) e;
+  names = a.names ∙ ap (λ (x : Core). x.names) e;
   budget = a.budget ∙ ap (λ (x : Core). x.budget) e;
   wanted = a.wanted ∙ ap (λ (x : Core). x.wanted) e;
 }
+
+-- a machine that has called a box
+abbrev pub called : Core → Core → Core
+called c more = record c { calls = c.calls + 1; events = c.events + 1; seen = more.seen; frames = more.frames }
+
+abbrev pub world_called : Core → World
+world_called c = record (world_in c) { calls = c.calls + 1 }
+
+abbrev is_goal_in : Core → ℕ → Type 0
+is_goal_in c g = IsGoal (length c.store.names) c.bindings.terms g
+
+pub invoked-advances : (c more : Core) (g n rule : ℕ) → more ≡ called c more
+    → event_seen c.store c.bindings more.seen ≡ event_of port.Call (c.calls + 1) (goal_now c g) (bindings_now c) (items_now c n) (world_called c)
+    → choices_in more ≡ with_more (clauses_for c.store (term_at c.bindings.terms g) rule) (c.calls + 1) (goal_now c g) (bindings_now c) (items_now c n)
+    (choice_by c.store (level_in c) kind.Fail (c.calls + 1) g n ∷ choices_in c)
+    → IsNext c.store (term_at c.bindings.terms g) 0 rule
+    → IsGood more → more.seen.goal ≡ g → is_goal_in c g
+    → Advances c (record more { mode = mode.Backward }) (box_invoked c g n) step.Event
+invoked-advances c more g n rule e seen choices next good goal there =
+    let u : World = world_called c in
+    let after : World = with_event u in
+    let t : Term ℕ = term_at c.bindings.terms g in
+    let K : List visit.Choice = choice_by c.store (level_in c) kind.Fail (c.calls + 1) g n ∷ choices_in c in
+    let over : List Clause → List visit.Choice = λ cs. with_more cs (c.calls + 1) (goal_now c g) (bindings_now c) (items_now c n) K in
+    let same_world : world_in more ≡ after = ap world_in e in
+    let same_choices : choices_in more ≡ over (clauses_for c.store t 0) = choices ∙ ap over (sym next.clauses) in
+    let shown : event_seen more.store more.bindings more.seen ≡ event_of port.Call (c.calls + 1) (goal_now c g) (bindings_now c) (items_now c n) u =
+    ap (λ (x : Core). event_seen x.store x.bindings more.seen) e ∙ seen in
+    let there_more : is_goal_in more g = subst (λ (x : Core). is_goal_in x g) (sym e) there in
+    record {
+      turns = ap (λ (x : Event). Shown x (world_in more) ∷ []) shown ∙ ap (λ (w : World). Shown (event_of port.Call (c.calls + 1) (goal_now c g) (bindings_now c) (items_now c n) u) w ∷ []) same_world;
+      state = ap (λ (L : List visit.Choice). Back L (world_in more)) same_choices ∙ ap (λ (w : World). Back (over (clauses_for c.store t 0)) w) same_world;
+      good = record { level = good.level; frames = good.frames; mode = tt; values = good.values };
+      looked = subst (λ (x : ℕ). is_goal_in more x) (sym goal) there_more;
+      store = ap (λ (x : Core). x.store) e;
+      names = ap (λ (x : Core). x.names) e;
+      budget = ap (λ (x : Core). x.budget) e;
+      wanted = ap (λ (x : Core). x.wanted) e;
+    }
+
+-- the event was shown, the choices were made one after the other
+pub invoked-choices : (c shown pushed more : Core) (g n rule : ℕ) → shown ≡ record c { calls = c.calls + 1; events = c.events + 1; seen = shown.seen }
+    → pushed ≡ record shown { frames = pushed.frames } → more ≡ record pushed { frames = more.frames }
+    → event_seen c.store c.bindings shown.seen ≡ event_of port.Call (c.calls + 1) (goal_now c g) (bindings_now c) (items_now c n) (world_called c)
+    → choices_in pushed ≡ choice_by shown.store (level_in shown) kind.Fail (c.calls + 1) g n ∷ choices_in shown
+    → choices_in more ≡ with_more (clauses_for pushed.store (term_at pushed.bindings.terms g) rule) (c.calls + 1) (goal_now pushed g) (bindings_now pushed) (items_now pushed n) (choices_in pushed)
+    → IsNext pushed.store (term_at pushed.bindings.terms g) 0 rule → IsGood more → shown.seen.goal ≡ g → is_goal_in c g
+    → Advances c (record more { mode = mode.Backward }) (box_invoked c g n) step.Event
+invoked-choices c shown pushed more g n rule es ep em seen one two next good goal there =
+    let seen_more : more.seen ≡ shown.seen = ap (λ (x : Core). x.seen) em ∙ ap (λ (x : Core). x.seen) ep in
+    let whole : more ≡ called c more =
+    em ∙ (ap (λ (x : Core). record x { frames = more.frames }) ep
+    ∙ (ap (λ (x : Core). record x { frames = more.frames }) es
+    ∙ ap (λ (x : Seen). record c { calls = c.calls + 1; events = c.events + 1; seen = x; frames = more.frames }) (sym seen_more))) in
+    let at_pushed : (x : Core) → List visit.Choice → List visit.Choice = λ x K. with_more (clauses_for x.store (term_at x.bindings.terms g) rule) (c.calls + 1) (goal_now x g) (bindings_now x) (items_now x n) K in
+    let fail_at : Core → List visit.Choice = λ x. choice_by x.store (level_in x) kind.Fail (c.calls + 1) g n ∷ choices_in x in
+    let choices : choices_in more ≡ at_pushed c (fail_at c) =
+    two ∙ (ap (λ (x : Core). at_pushed x (choices_in pushed)) ep
+    ∙ (ap (at_pushed shown) one
+    ∙ (ap (λ (x : Core). at_pushed x (fail_at shown)) es ∙ ap (λ (x : Core). at_pushed c (fail_at x)) es))) in
+    let next_here : IsNext c.store (term_at c.bindings.terms g) 0 rule =
+    subst (λ (x : Core). IsNext x.store (term_at x.bindings.terms g) 0 rule) es (subst (λ (x : Core). IsNext x.store (term_at x.bindings.terms g) 0 rule) ep next) in
+    invoked-advances c more g n rule whole (ap (event_seen c.store c.bindings) seen_more ∙ seen) choices next_here good (ap (λ (x : Seen). x.goal) seen_more ∙ goal) there

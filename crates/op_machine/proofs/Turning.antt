@@ -1,7 +1,7 @@
 -- Moves, one after another, up to a turn or the ending.
-use Rattle.std.proofs.Common.{◌≡◌, ℕ, suc, ◌+◌, ◌^◌, ◌<◌, ◌≤◌, List, [], ◌∷◌, length, map, reverse, refl, sym, ap, ◌∙◌, subst, arith}
+use Rattle.std.proofs.Common.{◌≡◌, ℕ, suc, ◌+◌, ◌^◌, ◌<◌, ◌≤◌, List, [], ◌∷◌, length, reverse, refl, sym, ap, ◌∙◌, subst, arith}
 use Rattle.op_trace.specs.World.{World, Setup, Turn, Clause}
-use Rattle.op_trace.specs.Visit.{with_turns, Choice, More}
+use Rattle.op_trace.specs.Visit.{with_turns, More}
 use Rattle.op_machine.specs.declared.core_state.Core.{Core}
 use Rattle.op_machine.specs.declared.core_state.Ending.{Ending}
 use Rattle.op_machine.specs.declared.core_state.Mode.{Mode}
@@ -11,9 +11,9 @@ use Rattle.op_machine.specs.declared.core_state.Step.TheVariants as step
 use Rattle.op_machine.specs.declared.frame.Frame.{Frame}
 use Rattle.op_machine.specs.declared.frame.FrameKind.{FrameKind}
 use Rattle.op_machine.specs.declared.frame.FrameKind.TheVariants as kind
-use Rattle.op_machine.specs.declared.lists.Item.{Item as Listed}
-use Rattle.op_machine.specs.Program.{Tables, goal_named}
-use Rattle.op_machine.specs.Core.{setup_of, world_in, state_of, state_with, items_in, choice_of, choice_by, IsSound, AreFrames, IsKind}
+use Rattle.op_term.specs.Places.{term_at}
+use Rattle.op_machine.specs.Program.{Tables}
+use Rattle.op_machine.specs.Core.{Level, level_at, level_in, setup_of, world_in, state_of, state_with, items_in, term_in, bindings_in, choices_of, choice_by, IsSound, AreFrames, IsKind}
 use Rattle.op_machine.specs.Counted.{Counted, event_bound}
 use Rattle.op_machine.specs.Resume.{State, Going, Back, Over, Moved, owed, move, world_of}
 use Rattle.op_machine.specs.Scope.{InStep}
@@ -25,13 +25,13 @@ use Rattle.op_machine.proofs.MoveLaws.{move-row}
 use Rattle.op_machine.proofs.Scoping.{move-in_step}
 use Rattle.op_machine.proofs.Progress.{count_in, IsOnward, move-onward, move-lighter, weight, IsOver, HasClauses}
 
-pub world-with : (t : Tables) (L : List (List Listed)) (F : List Frame) (w : World) (q : Mode) → world_of (state_with t L F w q) ≡ w
-world-with t L F w (mode.Forward n) = refl
-world-with t L F w mode.Backward = refl
-world-with t L F w (mode.Over e) = refl
+pub world-with : (t : Tables) (v : Level) (F : List Frame) (w : World) (q : Mode) → world_of (state_with t v F w q) ≡ w
+world-with t v F w (mode.Forward n) = refl
+world-with t v F w mode.Backward = refl
+world-with t v F w (mode.Over e) = refl
 
 pub world-is : (c : Core) → world_of (state_of c) ≡ world_in c
-world-is c = world-with c.store c.lists c.frames.items (world_in c) c.mode
+world-is c = world-with c.store (level_in c) c.frames.items (world_in c) c.mode
 
 -- what the bounds say of a machine's numbers
 pub record Fits (c : Core) : Type 0 where
@@ -107,6 +107,7 @@ pub follows-on : (first mid new : Core) (s : Step) → Follows first mid → Adv
 follows-on first mid new s f a = record {
   sound = advance-sound mid new s f.sound a;
   store = a.store ∙ f.store;
+  names = a.names ∙ f.names;
   budget = a.budget ∙ f.budget;
   wanted = a.wanted ∙ f.wanted;
   later = omega (arith, f.later, (advance-onward mid new s f.sound a).1);
@@ -130,44 +131,44 @@ pub ended-at : (first mid : Core) (e : Ending) → Walked first mid → mid.mode
 unfolding owed
 ended-at first mid e w m = record {
   walked = w;
-  owed = w.owed ∙ ap (λ (q : Mode). owed (setup_of mid) (state_with mid.store mid.lists mid.frames.items (world_in mid) q)) m;
+  owed = w.owed ∙ ap (λ (q : Mode). owed (setup_of mid) (state_with mid.store (level_in mid) mid.frames.items (world_in mid) q)) m;
 }
 
 pub walked-self : (c : Core) → IsSound c → Walked c c
 walked-self c s = record {
-  follows = record { sound = s; store = refl; budget = refl; wanted = refl; later = omega arith };
+  follows = record { sound = s; store = refl; names = refl; budget = refl; wanted = refl; later = omega arith };
   owed = refl;
   count = refl;
 }
 
-abbrev mapped : Tables → List (List Listed) → List Frame → List Choice
-mapped t L F = map (choice_of t L) F
-
--- a machine that isn't at the end, and whose choices have clauses
-pub frames-clauses : (t : Tables) (L : List (List Listed)) (n : ℕ) (F : List Frame) (w : World) → AreFrames t n F → HasClauses (Back (mapped t L F) w)
-frames-clauses t L n [] w a = tt
-frames-clauses t L n (f ∷ F) w a = go f.kind a.0.2
+-- choices of clauses have some
+pub frames-clauses : (t : Tables) (floor : ℕ) (v : Level) (F : List Frame) (w : World) → AreFrames t floor v F → HasClauses (Back (choices_of t v F) w)
+frames-clauses t floor v [] w a = tt
+frames-clauses t floor v (f ∷ F) w a = go f.kind a.2.kind
   where
-    go : (q : FrameKind) → IsKind t f.goal.0 q → HasClauses (Back (choice_by t L q f.call f.goal.0 f.rest ∷ mapped t L F) w)
+    u : Level
+    u = level_at f v
+
+    go : (q : FrameKind) → IsKind t u f.goal q → HasClauses (Back (choice_by t u q f.call f.goal f.rest ∷ choices_of t u F) w)
     go kind.Redo k = tt
-    go (kind.More i) k = subst (λ (cs : List Clause). HasClauses (Back (More cs f.call (goal_named t f.goal.0) [] (items_in t L f.rest) ∷ mapped t L F) w)) (sym (clauses_for-here t f.goal.0 i k.0 k.1)) tt
+    go (kind.More i) k = subst (λ (cs : List Clause). HasClauses (Back (More cs f.call (term_in t u f.goal) (bindings_in t u) (items_in t u f.rest) ∷ choices_of t u F) w)) (sym (clauses_for-here t (term_at u.terms f.goal) i k.0 k.1)) tt
     go kind.Fail k = tt
 
-pub has-clauses : (t : Tables) (L : List (List Listed)) (F : List Frame) (w : World) (q : Mode) (n : ℕ) → AreFrames t n (reverse F) → HasClauses (state_with t L F w q)
-has-clauses t L F w (mode.Forward i) n a = tt
-has-clauses t L F w mode.Backward n a = frames-clauses t L n (reverse F) w a
-has-clauses t L F w (mode.Over e) n a = tt
+pub has-clauses : (t : Tables) (floor : ℕ) (v : Level) (F : List Frame) (w : World) (q : Mode) → AreFrames t floor v (reverse F) → HasClauses (state_with t v F w q)
+has-clauses t floor v F w (mode.Forward i) a = tt
+has-clauses t floor v F w mode.Backward a = frames-clauses t floor v (reverse F) w a
+has-clauses t floor v F w (mode.Over e) a = tt
 
-pub not-over : (t : Tables) (L : List (List Listed)) (F : List Frame) (w : World) (q : Mode) → ((e : Ending) → q ≡ mode.Over e → ⊥) → IsOver (state_with t L F w q) → ⊥
-not-over t L F w (mode.Forward i) no_end o = o
-not-over t L F w mode.Backward no_end o = o
-not-over t L F w (mode.Over e) no_end o = no_end e refl
+pub not-over : (t : Tables) (v : Level) (F : List Frame) (w : World) (q : Mode) → ((e : Ending) → q ≡ mode.Over e → ⊥) → IsOver (state_with t v F w q) → ⊥
+not-over t v F w (mode.Forward i) no_end o = o
+not-over t v F w mode.Backward no_end o = o
+not-over t v F w (mode.Over e) no_end o = no_end e refl
 
 pub lighter-on : (mid new : Core) → IsSound mid → ((e : Ending) → mid.mode ≡ mode.Over e → ⊥) → Advances mid new (moved_from mid) step.Silent
     → weight (setup_of new) (state_of new) < weight (setup_of mid) (state_of mid)
 lighter-on mid new s no_end a =
     let l : weight (setup_of mid) (moved_from mid).state < weight (setup_of mid) (state_of mid) =
-    move-lighter (setup_of mid) (state_of mid) (below-budget mid s) (not-over mid.store mid.lists mid.frames.items (world_in mid) mid.mode no_end)
-    (has-clauses mid.store mid.lists mid.frames.items (world_in mid) mid.mode (length mid.lists) s.good.frames) (sym a.turns) in
+    move-lighter (setup_of mid) (state_of mid) (below-budget mid s) (not-over mid.store (level_in mid) mid.frames.items (world_in mid) mid.mode no_end)
+    (has-clauses mid.store mid.floor.terms (level_in mid) mid.frames.items (world_in mid) mid.mode s.good.frames) (sym a.turns) in
     subst (λ (x : Setup). weight x (state_of new) < weight (setup_of mid) (state_of mid)) (setup-same mid new a.budget a.wanted)
     (subst (λ (t : State). weight (setup_of mid) t < weight (setup_of mid) (state_of mid)) (sym a.state) l)

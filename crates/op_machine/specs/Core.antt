@@ -1,8 +1,14 @@
 -- What a machine's parts mean.
-use Rattle.std.specs.Prelude.{◌≡◌, ℕ, ◌<◌, ◌≤◌, List, [], ◌∷◌, length, map, reverse}
-use Rattle.op_reader.specs.Form.{rule_at}
+use Rattle.std.specs.Prelude.{◌≡◌, ℕ, ◌<◌, ◌≤◌, List, [], ◌∷◌, length, map, reverse, take, All}
+use Rattle.op_logic.specs.Term.{Term, var}
+use Rattle.op_logic.specs.Bind.{Bindings}
+use Rattle.op_logic.specs.Laws.{rename_bindings}
+use Rattle.op_logic.specs.Names.{name_at, HasNames, HaveNames}
+use Rattle.op_term.specs.Places.{term_at}
+use Rattle.op_bind.specs.State.{resolved, oldest, value_of}
+use Rattle.op_bind.specs.State as bind
 use Rattle.op_trace.specs.World as world
-use Rattle.op_trace.specs.World.{World, Setup, Event, Turn, Shown, Solved, loaded}
+use Rattle.op_trace.specs.World.{Text, World, Setup, Event, Turn, Shown, Solved, loaded}
 use Rattle.op_trace.specs.Visit as visit
 use Rattle.op_trace.specs.Visit.{Verdict}
 use Rattle.op_machine.specs.declared.lists.Item.{Item}
@@ -17,93 +23,153 @@ use Rattle.op_machine.specs.declared.core_state.Ending.{Ending}
 use Rattle.op_machine.specs.declared.core_state.Ending.TheVariants as ending
 use Rattle.op_machine.specs.declared.core_state.Seen.{Seen}
 use Rattle.op_machine.specs.Lists.{list_in}
-use Rattle.op_machine.specs.Program.{Tables, clauses, clauses_for, goal_named, body_from}
+use Rattle.op_machine.specs.Program.{Tables, clauses, clauses_for, goal_named, IsFor}
 use Rattle.op_machine.specs.Resume.{State, Going, Back, Over}
 use Rattle.op_machine.specs.Counted.{Counted}
 use Rattle.op_machine.specs.Scope.{InStep}
 
-abbrev pub item_term : Tables → Item → world.Item
-item_term t (item.Body i j m) = world.Goal (body_from t i j) (world.Call m)
-item_term t (item.Goal n m) = world.Goal (goal_named t n.0) (world.Call m)
-item_term t (item.Exit k g) = world.Exit k (goal_named t g.0)
+-- the terms, the bindings and the lists of a moment
+pub record Level : Type 0 where
+  pub terms : List (Term ℕ)
+  pub bound : List (ℕ × ℕ)
+  pub lists : List (List Item)
 
-abbrev pub items_in : Tables → List (List Item) → ℕ → List world.Item
-items_in t L n = map (item_term t) (list_in L n)
+-- what the bindings of a moment are over texts, and the term of a Ref
+abbrev pub bindings_in : Tables → Level → Bindings Text
+bindings_in t v = rename_bindings (name_at t.names) (resolved v.terms v.bound)
 
-abbrev pub choice_by : Tables → List (List Item) → FrameKind → ℕ → ℕ → ℕ → visit.Choice
-choice_by t L kind.Redo k g n = visit.Redo k (goal_named t g) [] (items_in t L n)
-choice_by t L (kind.More i) k g n = visit.More (clauses_for t g i) k (goal_named t g) [] (items_in t L n)
-choice_by t L kind.Fail k g n = visit.Fail k (goal_named t g) [] (items_in t L n)
+abbrev pub term_in : Tables → Level → ℕ → Term Text
+term_in t v r = goal_named t (term_at v.terms r)
 
-abbrev pub choice_of : Tables → List (List Item) → Frame → visit.Choice
-choice_of t L f = choice_by t L f.kind f.call f.goal.0 f.rest
+abbrev pub item_term : Tables → Level → Item → world.Item
+item_term t v (item.Goal r m) = world.Goal (term_in t v r) (world.Call m)
+item_term t v (item.Exit k r) = world.Exit k (term_in t v r)
+
+abbrev pub items_in : Tables → Level → ℕ → List world.Item
+items_in t v n = map (item_term t v) (list_in v.lists n)
+
+abbrev pub choice_by : Tables → Level → FrameKind → ℕ → ℕ → ℕ → visit.Choice
+choice_by t v kind.Redo k g n = visit.Redo k (term_in t v g) (bindings_in t v) (items_in t v n)
+choice_by t v (kind.More i) k g n = visit.More (clauses_for t (term_at v.terms g) i) k (term_in t v g) (bindings_in t v) (items_in t v n)
+choice_by t v kind.Fail k g n = visit.Fail k (term_in t v g) (bindings_in t v) (items_in t v n)
+
+abbrev pub choice_of : Tables → Level → Frame → visit.Choice
+choice_of t v f = choice_by t v f.kind f.call f.goal f.rest
+
+-- the moment at which a choice was made, which is the beginning of a later one
+abbrev pub level_at : Frame → Level → Level
+level_at f v = record { terms = take f.mark.terms v.terms; bound = oldest f.mark.bound v.bound; lists = take f.lists v.lists }
 
 -- the last first
-abbrev pub choices_of : Tables → List (List Item) → List Frame → List visit.Choice
-choices_of t L frames = map (choice_of t L) (reverse frames)
+abbrev pub choices_of : Tables → Level → List Frame → List visit.Choice
+choices_of t v [] = []
+choices_of t v (f ∷ F) = choice_of t (level_at f v) f ∷ choices_of t (level_at f v) F
 
 abbrev pub setup_of : Core → Setup
 setup_of c = record { budget = c.budget; wanted = c.wanted }
 
 abbrev pub world_in : Core → World
-world_in c = record (loaded (clauses c.store)) { calls = c.calls; steps = c.steps; events = c.events; solutions = c.solutions }
+world_in c = record (loaded (clauses c.store)) { variables = c.bindings.count; calls = c.calls; steps = c.steps; events = c.events; solutions = c.solutions }
+
+abbrev pub level_of : bind.State → List (List Item) → Level
+level_of s L = record { terms = s.terms; bound = s.bound; lists = L }
+
+abbrev pub level_in : Core → Level
+level_in c = level_of c.bindings c.lists
+
+abbrev pub bindings_now : Core → Bindings Text
+bindings_now c = bindings_in c.store (level_in c)
+
+abbrev pub items_now : Core → ℕ → List world.Item
+items_now c n = items_in c.store (level_in c) n
+
+abbrev pub goal_now : Core → ℕ → Term Text
+goal_now c g = term_in c.store (level_in c) g
 
 abbrev pub choices_in : Core → List visit.Choice
-choices_in c = choices_of c.store c.lists c.frames.items
+choices_in c = choices_of c.store (level_in c) (reverse c.frames.items)
 
 abbrev pub verdict_of : Ending → Verdict
 verdict_of ending.Stopped = visit.Stopped
 verdict_of ending.Failed = visit.Failed
 verdict_of ending.Spent = visit.Spent
 
-abbrev pub state_with : Tables → List (List Item) → List Frame → World → Mode → State
-state_with t L F w (mode.Forward n) = Going (items_in t L n) (choices_of t L F) [] w
-state_with t L F w mode.Backward = Back (choices_of t L F) w
-state_with t L F w (mode.Over e) = Over (verdict_of e) w
+abbrev pub state_with : Tables → Level → List Frame → World → Mode → State
+state_with t v F w (mode.Forward n) = Going (items_in t v n) (choices_of t v (reverse F)) (bindings_in t v) w
+state_with t v F w mode.Backward = Back (choices_of t v (reverse F)) w
+state_with t v F w (mode.Over e) = Over (verdict_of e) w
 
 abbrev pub state_of : Core → State
-state_of c = state_with c.store c.lists c.frames.items (world_in c) c.mode
+state_of c = state_with c.store (level_in c) c.frames.items (world_in c) c.mode
 
-abbrev pub event_seen : Tables → Seen → Event
-event_seen t e = record { chrono = e.chrono; call = e.call; parent = e.parent; depth = e.depth; port = e.port; goal = goal_named t e.goal.0 }
+abbrev pub event_seen : Tables → bind.State → Seen → Event
+event_seen t s e = record { chrono = e.chrono; call = e.call; parent = e.parent; depth = e.depth; port = e.port; goal = goal_named t (value_of s e.goal) }
 
--- an item whose numbers are a store's
-abbrev pub IsItem : Tables → Item → Type 0
-IsItem t (item.Body i j m) = (i < length t.rules) × (j < length (rule_at t.rules i).1)
-IsItem t (item.Goal n m) = n.0 < length t.names
-IsItem t (item.Exit k g) = g.0 < length t.names
+-- a Ref to a term whose names are among the first n
+abbrev pub IsGoal : ℕ → List (Term ℕ) → ℕ → Type 0
+IsGoal n ts r = (r < length ts) × HasNames n (term_at ts r)
 
-abbrev pub AreItems : Tables → List Item → Type 0
-AreItems t [] = Unit {0}
-AreItems t (i ∷ I) = IsItem t i × AreItems t I
+abbrev pub IsItem : ℕ → List (Term ℕ) → Item → Type 0
+IsItem n ts (item.Goal r m) = IsGoal n ts r
+IsItem n ts (item.Exit k r) = IsGoal n ts r
 
-abbrev pub AreLists : Tables → List (List Item) → Type 0
-AreLists t L = (n : ℕ) → n < length L → AreItems t (list_in L n)
+abbrev pub AreItems : ℕ → List (Term ℕ) → List Item → Type 0
+AreItems n ts [] = Unit {0}
+AreItems n ts (i ∷ I) = IsItem n ts i × AreItems n ts I
 
-abbrev pub IsKind : Tables → ℕ → FrameKind → Type 0
-IsKind t g kind.Redo = Unit {0}
-IsKind t g (kind.More i) = (i < length t.rules) × ((rule_at t.rules i).0 ≡ g)
-IsKind t g kind.Fail = Unit {0}
+abbrev pub AreLists : ℕ → List (Term ℕ) → List (List Item) → Type 0
+AreLists n ts L = (m : ℕ) → m < length L → AreItems n ts (list_in L m)
 
-abbrev pub IsFrame : Tables → ℕ → Frame → Type 0
-IsFrame t n f = (f.rest < n) × (f.goal.0 < length t.names) × IsKind t f.goal.0 f.kind
+-- each list's items and each binding lead to what is there, and the first terms are
+pub record IsLevel (t : Tables) (floor : ℕ) (v : Level) : Type 0 where
+  pub lists : AreLists (length t.names) v.terms v.lists
+  pub bound : HaveNames (length t.names) (resolved v.terms v.bound)
+  pub floor_there : floor ≤ length v.terms
+
+-- a choice was made at an earlier moment
+pub record IsEarlier (f : Frame) (v : Level) : Type 0 where
+  pub terms_there : f.mark.terms ≤ length v.terms
+  pub bound_there : f.mark.bound ≤ length v.bound
+  pub bound_below : All (λ p. p.1 < f.mark.terms) (oldest f.mark.bound v.bound)
+  pub lists_there : f.lists ≤ length v.lists
+
+abbrev pub IsKind : Tables → Level → ℕ → FrameKind → Type 0
+IsKind t v g kind.Redo = Unit {0}
+IsKind t v g (kind.More i) = (i < length t.rules) × IsFor t (term_at v.terms g) i
+IsKind t v g kind.Fail = Unit {0}
+
+-- a choice leads to what was there when it was made
+pub record IsFrame (t : Tables) (v : Level) (f : Frame) : Type 0 where
+  pub rest : f.rest < length v.lists
+  pub goal : IsGoal (length t.names) v.terms f.goal
+  pub kind : IsKind t v f.goal f.kind
 
 -- the last first
-abbrev pub AreFrames : Tables → ℕ → List Frame → Type 0
-AreFrames t n [] = Unit {0}
-AreFrames t n (f ∷ F) = IsFrame t n f × AreFrames t n F
+abbrev pub AreFrames : Tables → ℕ → Level → List Frame → Type 0
+AreFrames t floor v [] = Unit {0}
+AreFrames t floor v (f ∷ F) = IsEarlier f v × IsLevel t floor (level_at f v) × IsFrame t (level_at f v) f × AreFrames t floor (level_at f v) F
 
 abbrev pub IsMode : ℕ → Mode → Type 0
 IsMode n (mode.Forward m) = m < n
 IsMode n mode.Backward = Unit {0}
 IsMode n (mode.Over e) = Unit {0}
 
+-- a Ref to each variable that has a name
+abbrev pub AreValues : List (Term ℕ) → List ℕ → List (List ℕ × ℕ) → Type 0
+AreValues ts [] [] = Unit {0}
+AreValues ts (r ∷ rs) (p ∷ ps) = (r < length ts) × (term_at ts r ≡ var p.1) × AreValues ts rs ps
+AreValues ts _ _ = ⊥
+
 -- each number leads to what is there
 pub record IsGood (c : Core) : Type 0 where
-  pub lists : AreLists c.store c.lists
-  pub frames : AreFrames c.store (length c.lists) (reverse c.frames.items)
+  pub level : IsLevel c.store c.floor.terms (level_in c)
+  pub frames : AreFrames c.store c.floor.terms (level_in c) (reverse c.frames.items)
   pub mode : IsMode (length c.lists) c.mode
-  pub seen : c.seen.goal.0 < length c.store.names
+  pub values : AreValues (take c.floor.terms c.bindings.terms) c.values.items c.names
+
+-- the last event's goal is there
+abbrev pub IsSeen : Core → Type 0
+IsSeen c = IsGoal (length c.store.names) c.bindings.terms c.seen.goal
 
 -- what holds of every machine between two turns
 pub record IsSound (c : Core) : Type 0 where

@@ -23,7 +23,6 @@ lists_of cs = lists_after only_empty cs
 -- the boxes that are open in a list, the innermost first
 abbrev pub opened : List Item → List ℕ
 opened [] = []
-opened (item.Body r j m ∷ I) = opened I
 opened (item.Goal f m ∷ I) = opened I
 opened (item.Exit k g ∷ I) = k ∷ opened I
 

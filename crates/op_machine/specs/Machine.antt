@@ -15,16 +15,20 @@ use Rattle.op_machine.specs.declared.turn.Last.TheVariants as last
 use Rattle.op_machine.specs.declared.turn.Turn as declared
 use Rattle.op_machine.specs.declared.turn.Turn.TheVariants as turn
 use Rattle.op_machine.specs.Program.{Tables, clauses}
-use Rattle.op_machine.specs.Core.{state_with, event_seen}
+use Rattle.op_bind.specs.State as bind
+use Rattle.op_machine.specs.Core.{IsSeen, Level, level_of, bindings_in, state_with, event_seen}
 use Rattle.op_machine.specs.Resume.{State, owed}
 
--- what a machine keeps: no turn that was or is to come is among it
+-- what a machine keeps: but the last event, no turn that was or is to come is among it
 pub record Kept : Type 0 where
   pub tables : Tables
+  pub bindings : bind.State
   pub lists : List (List Item)
   pub frames : List Frame
   pub mode : Mode
   pub seen : Seen
+  -- the goal's named variables
+  pub names : List (List ℕ × ℕ)
   pub last : Last
   pub faulted : Bool
   pub calls : ℕ
@@ -37,10 +41,12 @@ pub record Kept : Type 0 where
 abbrev pub kept_of : Core → Last → Bool → Kept
 kept_of c l f = record {
   tables = c.store;
+  bindings = c.bindings;
   lists = c.lists;
   frames = c.frames.items;
   mode = c.mode;
   seen = c.seen;
+  names = c.names;
   last = l;
   faulted = f;
   calls = c.calls;
@@ -56,10 +62,13 @@ setup k = record { budget = k.budget; wanted = k.wanted }
 
 -- the run's world at this moment
 abbrev pub world_now : Kept → World
-world_now k = record (loaded (clauses k.tables)) { calls = k.calls; steps = k.steps; events = k.events; solutions = k.solutions }
+world_now k = record (loaded (clauses k.tables)) { variables = k.bindings.count; calls = k.calls; steps = k.steps; events = k.events; solutions = k.solutions }
+
+abbrev pub level_now : Kept → Level
+level_now k = level_of k.bindings k.lists
 
 abbrev pub state_now : Kept → State
-state_now k = state_with k.tables k.lists k.frames (world_now k) k.mode
+state_now k = state_with k.tables (level_now k) k.frames (world_now k) k.mode
 
 -- the turns that are still to come, the ending, and the world at it
 unfoldable pub to_come : Kept → Run
@@ -67,7 +76,7 @@ to_come k = ran (owed (setup k) (state_now k))
 
 -- the event that was shown last
 abbrev pub event_now : Kept → Event
-event_now k = event_seen k.tables k.seen
+event_now k = event_seen k.tables k.bindings k.seen
 
 abbrev pub is_event : Last → Bool
 is_event last.Event = true
@@ -104,11 +113,16 @@ abbrev pub Answers : declared.Turn → Kept → Kept → Type 0
 Answers turn.Event old new =
     (to_come old ≡ with_turn (Shown (event_now new) (world_now new)) (to_come new)) × (has_event new ≡ true) × (answered new ≡ answered old + 1)
 Answers turn.Solution old new =
-    (to_come old ≡ with_turn (Solved [] (world_now new)) (to_come new)) × (has_solution new ≡ true) × (answered new ≡ answered old + 1)
+    (to_come old ≡ with_turn (Solved (bindings_in new.tables (level_now new)) (world_now new)) (to_come new)) × (has_solution new ≡ true) × (answered new ≡ answered old + 1)
 Answers (turn.Ended e) old new =
-    (to_come old ≡ only_ending e (world_now new)) × (to_come new ≡ to_come old) × (has_event new ≡ false) × (answered new ≡ answered old)
+    (to_come old ≡ only_ending e (world_now new)) × (to_come new ≡ to_come old) × (has_event new ≡ false) × (has_solution new ≡ false) × (answered new ≡ answered old)
 
 abbrev pub last_after : declared.Turn → Last
 last_after turn.Event = last.Event
 last_after turn.Solution = last.Solution
 last_after (turn.Ended e) = last.Nothing
+
+-- the goal of the last event, where that was the last turn, can be looked at
+abbrev pub CanLook : Last → Core → Type 0
+CanLook last.Event c = IsSeen c
+CanLook l c = Unit {0}

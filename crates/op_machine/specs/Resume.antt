@@ -35,10 +35,6 @@ silent t = record { turns = []; state = t }
 abbrev pub showing : Port → ℕ → Term Text → Bindings Text → List Item → World → State → Moved
 showing p k g σ J w t = record { turns = Shown (event_of p k g σ J w) (with_event w) ∷ []; state = t }
 
--- the exit of a box
-abbrev pub exited : ℕ → Term Text → List Item → List Choice → World → Moved
-exited k g J K w = showing port.Exit k g [] J w (Going J (Redo k g [] J ∷ K) [] (with_event w))
-
 abbrev pub paid : Bool → Setup → ℕ → World → (World → Moved) → Moved
 paid true s n w h = h (record w { steps = w.steps + n })
 paid false s n w h = silent (Over Spent (record w { steps = s.budget }))

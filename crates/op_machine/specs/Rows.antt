@@ -1,55 +1,90 @@
 -- What one row of the machine does to its parts.
-use Rattle.std.specs.Prelude.{◌≡◌, ℕ, List, [], ◌∷◌, if◌then◌else◌}
-use Rattle.op_logic.specs.Term.{Term}
-use Rattle.op_reader.specs.Form.{rule_at, named_rule}
-use Rattle.op_machine.specs.Program.{Tables, clause_of, clauses_for, goal_named, body_from}
+use Rattle.std.specs.Prelude.{◌≡◌, ℕ, ◌-◌, ◌≤◌, List, [], ◌∷◌, if◌then◌else◌, Option}
+use Rattle.op_logic.specs.Term.{Term, shift, Args, args_of, nth_arg}
+use Rattle.op_term.specs.Places.{term_at}
+use Rattle.op_logic.specs.Bind.{unify, Solved as Result}
 use Rattle.op_trace.specs.World as world
-use Rattle.op_trace.specs.World.{Text, World, Clause, Barrier, Turn, Shown, Solved}
-use Rattle.op_trace.specs.Visit as visit
+use Rattle.op_trace.specs.World.{Text, text_eq, World, Clause, Barrier, Turn, Shown, Solved}
 use Rattle.op_trace.specs.Visit.{control, is_true}
+use Rattle.op_machine.specs.Program.{clause_at, goal_named}
 use Rattle.op_machine.specs.declared.core_state.Core.{Core}
 use Rattle.op_machine.specs.declared.core_state.Step.{Step}
 use Rattle.op_machine.specs.declared.core_state.Step.TheVariants as step
-use Rattle.op_machine.specs.Core.{setup_of, world_in, items_in, choices_in, state_of, event_seen, IsGood}
-use Rattle.op_machine.specs.Resume.{Moved, Going, Back, silent, pay, chosen, move}
+use Rattle.op_machine.specs.Core.{setup_of, world_in, level_in, items_now, goal_now, bindings_now, choices_in, choice_by, state_of, event_seen, IsGood, IsSeen}
+use Rattle.op_machine.specs.declared.frame.FrameKind.TheVariants as kind
+use Rattle.op_machine.specs.Resume.{Moved, Going, Back, silent, pay, chosen, invoked, met, tried, move}
 
 -- the turn that a machine shows after a step
 abbrev pub turns_of : Step → Core → List Turn
 turns_of step.Silent c = []
-turns_of step.Event c = Shown (event_seen c.store c.seen) (world_in c) ∷ []
-turns_of step.Solution c = Solved [] (world_in c) ∷ []
+turns_of step.Event c = Shown (event_seen c.store c.bindings c.seen) (world_in c) ∷ []
+turns_of step.Solution c = Solved (bindings_now c) (world_in c) ∷ []
 
--- the move of a goal that is selected before a list
+-- the goal that was shown can be looked at
+abbrev pub IsLooked : Step → Core → Type 0
+IsLooked step.Event c = IsSeen c
+IsLooked s c = Unit {0}
+
+-- the move of a goal that is selected before a list, and what it leads to once its step was paid
+abbrev pub chosen_now : Core → Term Text → Barrier → ℕ → World → Moved
+chosen_now c t m n w = chosen (control t) t m (items_now c n) (choices_in c) (bindings_now c) w
+
 abbrev pub goal_moved : Core → Term Text → Barrier → ℕ → Moved
-goal_moved c t m n = pay (setup_of c) 1 (world_in c) (chosen (control t) t m (items_in c.store c.lists n) (choices_in c) [])
+goal_moved c t m n = pay (setup_of c) 1 (world_in c) (chosen_now c t m n)
 
--- a rule as a clause over texts
-abbrev pub clause_in : Tables → ℕ → Clause
-clause_in t i = clause_of i (named_rule t.names (rule_at t.rules i))
+-- the exit of a box before a list
+abbrev pub exit_moved : Core → ℕ → ℕ → ℕ → Moved
+exit_moved c k g n = move (setup_of c) (Going (world.Exit k (goal_now c g) ∷ items_now c n) (choices_in c) (bindings_now c) (world_in c))
 
--- the body of a rule before items, with this barrier: nothing for a fact
-abbrev pub body_before : Tables → ℕ → ℕ → List world.Item → List world.Item
-body_before t i k J = if is_true (clause_in t i).body then J else world.Goal (body_from t i 0) (world.Call k) ∷ J
+-- a box is invoked
+abbrev pub box_invoked : Core → ℕ → ℕ → Moved
+box_invoked c g n = invoked (goal_now c g) (items_now c n) (choices_in c) (bindings_now c) (world_in c)
 
--- a rule's body and then the exit of the box come next
-abbrev pub rule_entered : Core → ℕ → ℕ → ℕ → ℕ → World → Moved
-rule_entered c i k g n w =
-    silent (Going (body_before c.store i k (world.Exit k (goal_named c.store g) ∷ items_in c.store c.lists n)) (choices_in c) [] w)
+-- the body of a clause before items, with this barrier: nothing for a fact
+abbrev pub body_before : Core → ℕ → ℕ → List world.Item → List world.Item
+body_before c b k J = if is_true (goal_now c b) then J else world.Goal (goal_now c b) (world.Call k) ∷ J
 
--- the move of a rule that is tried for a goal before a list, and matches: a step for it, and one for the pair of goal and head
-abbrev pub rule_moved : Core → ℕ → ℕ → ℕ → ℕ → Moved
-rule_moved c i k g n = pay (setup_of c) 1 (world_in c) (λ u. pay (setup_of c) 1 u (rule_entered c i k g n))
+-- a clause's body and then the exit of the box come next
+abbrev pub body_entered : Core → ℕ → ℕ → ℕ → ℕ → Moved
+body_entered c b k g n =
+    silent (Going (body_before c b k (world.Exit k (goal_now c g) ∷ items_now c n)) (choices_in c) (bindings_now c) (world_in c))
+
+-- the two goals of a conjunction before a list
+abbrev pub both_before : Core → ℕ → ℕ → ℕ → List world.Item
+both_before c g m n =
+    let ts : Args ℕ = args_of (term_at c.bindings.terms g) in
+    world.Goal (goal_named c.store (nth_arg ts 0)) (world.Call m) ∷ world.Goal (goal_named c.store (nth_arg ts 1)) (world.Call m) ∷ items_now c n
+
+-- a clause's head is unified with the goal, with the steps that are left
+abbrev pub head_unified : Core → ℕ → ℕ → Option (Result Text)
+head_unified c i g =
+    unify text_eq (c.budget - c.steps) (bindings_now c) ((goal_now c g, shift c.bindings.count (clause_at c.store i).head) ∷ [])
+
+abbrev pub rule_met : Core → ℕ → ℕ → ℕ → ℕ → Moved
+rule_met c i k g n = met (setup_of c) (clause_at c.store i) k (goal_now c g) (items_now c n) (choices_in c) (world_in c) (head_unified c i g)
+
+-- the move of a clause that is tried for a goal before a list
+abbrev pub rule_tried : Core → ℕ → ℕ → ℕ → ℕ → Moved
+rule_tried c i k g n =
+    tried (setup_of c) (clause_at c.store i) k (goal_now c g) (bindings_now c) (items_now c n) (choices_in c) (world_in c)
+
+-- the move of a choice, made at the present moment, of the clauses for a goal from one on
+abbrev pub rules_tried : Core → ℕ → ℕ → ℕ → ℕ → Moved
+rules_tried c i k g n = move (setup_of c) (Back (choice_by c.store (level_in c) (kind.More i) k g n ∷ choices_in c) (world_in c))
+
+-- the program and the goal's names stay, also where memory is wanting, and steps never fall
+pub record Keeps (old new : Core) : Type 0 where
+  pub store : new.store ≡ old.store
+  pub names : new.names ≡ old.names
+  pub later : old.steps ≤ new.steps
 
 -- the parts have made a move
 pub record Advances (old new : Core) (m : Moved) (s : Step) : Type 0 where
   pub turns : turns_of s new ≡ m.turns
   pub state : state_of new ≡ m.state
   pub good : IsGood new
+  pub looked : IsLooked s new
   pub store : new.store ≡ old.store
+  pub names : new.names ≡ old.names
   pub budget : new.budget ≡ old.budget
   pub wanted : new.wanted ≡ old.wanted
-
--- the move of a choice of the clauses for a goal from a rule on
-abbrev pub retried : Core → ℕ → ℕ → ℕ → ℕ → Moved
-retried c i k g n =
-    move (setup_of c) (Back (visit.More (clauses_for c.store g i) k (goal_named c.store g) [] (items_in c.store c.lists n) ∷ choices_in c) (world_in c))

@@ -1,7 +1,8 @@
 use crate::frame::Frame;
 use crate::lists::Lists;
 use crate::store::Store;
-use op_term::Sym;
+use op_bind::{Bindings, Mark, Ref};
+use op_reader::Names;
 use op_trace::Port;
 
 /// How a run ended.
@@ -35,24 +36,29 @@ pub enum Step {
 }
 
 /// The last event that was shown.
-#[derive(Clone, Copy, Debug)]
+#[derive(Clone, Copy)]
 pub struct Seen {
     pub chrono: u64,
     pub call: u64,
     pub parent: u64,
     pub depth: u64,
     pub port: Port,
-    pub goal: Sym,
+    pub goal: Ref,
 }
 
 /// All that a machine keeps.
 #[derive(Drop)]
 pub struct Core {
     pub store: Store,
+    pub bindings: Bindings,
     pub lists: Lists,
     pub frames: Vec<Frame>,
     pub mode: Mode,
     pub seen: Seen,
+    pub names: Names,
+    // the variables that have names, made before all else
+    pub values: Vec<Ref>,
+    pub floor: Mark,
     pub calls: u64,
     pub steps: u64,
     pub events: u64,

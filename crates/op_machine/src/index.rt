@@ -1,35 +1,44 @@
-ghost use Rattle.std.specs.Prelude.{◌≡◌, ℕ, suc, ◌+◌, ◌<◌, ◌≤◌, ◌^◌, All, length, IfOk, slice_index, map};
-ghost use Rattle.op_machine.specs.Program.{IsNext, heads, AreFirst, AreNext};
-ghost use Rattle.op_reader.specs.Form.{Rule};
+ghost use Rattle.std.specs.Prelude.{◌≡◌, ◌≤◌, length, IfOk};
+ghost use Rattle.op_machine.specs.Index.{AreFirst, AreNext};
+ghost use Rattle.op_machine.specs.Program.{key_of};
 
+use crate::key::{Pi, key_of};
+use indexmap::IndexMap;
 use op_base::Memory;
-use op_reader::Program;
+use op_bind::Clause;
+use op_term::{Term, Tree, Whole};
 use std::alloc::Global;
 
-/// For each name the number of its first rule, and for each rule that of the next one of its name; where there is none, the number of all rules.
+/// For each procedure the number of its first clause, and for each clause that of the next one of its procedure; where there is none, the
+/// number of all clauses.
 #[derive(Drop)]
 pub struct Index {
-    pub first: Vec<u64>,
+    pub first: IndexMap<Pi, u64>,
     pub next: Vec<u64>,
 }
 
-/// The index of a program whose names are below `count`.
-pub fn index_of(alloc: Global, program: &Program, count: u64) -> Result<Index, Memory>
-    requires { All (λ x. x < count) (heads program.now) }
-    ensures first_length { IfOk result (λ i. length i.first.items ≡ count) }
-    ensures next_length { IfOk result (λ i. length i.next.items ≡ length program.now) }
-    ensures firsts { IfOk result (λ i. AreFirst (heads program.now) 0 i.first.items) }
-    ensures nexts { IfOk result (λ i. AreNext (heads program.now) 0 i.next.items) }
+fn head_key(head: &Term) -> Option<Pi>
+    ensures { result ≡ key_of head.now }
 {
-    let len = program.len();
-    let mut first = vec![in alloc; len; count as usize]?;
-    let mut next = vec![in alloc; len; len as usize]?;
+    let whole = Whole::new(head);
+    key_of(whole.node(&whole.root()))
+}
+
+/// The index of these clauses.
+pub fn index_of(alloc: Global, clauses: &[Clause]) -> Result<Index, Memory>
+    ensures length { IfOk result (λ i. length i.next.items ≡ length clauses.now) }
+    ensures firsts { IfOk result (λ i. AreFirst clauses.now 0 i.first) }
+    ensures nexts { IfOk result (λ i. AreNext clauses.now 0 i.next.items) }
+{
+    let len = clauses.len();
+    let mut first = IndexMap::new(alloc);
+    let mut next = vec![in alloc; len as u64; len]?;
     let mut i = len;
     while i > 0 {
         i -= 1;
-        let head = program.head(i);
-        next[i as usize] = first[head.0 as usize];
-        first[head.0 as usize] = i;
+        if let Some(key) = head_key(&clauses[i].head) {
+            next[i] = first.insert(key, i as u64)?.unwrap_or(len as u64);
+        }
     }
     Ok(Index { first, next })
 }

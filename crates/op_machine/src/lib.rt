@@ -3,7 +3,9 @@
 
 mod core_state;
 mod frame;
+mod goals;
 mod index;
+mod key;
 mod kind;
 mod lists;
 mod machine;

@@ -1,21 +1,19 @@
-ghost use Rattle.std.specs.Prelude.{◌≡◌, ◌<◌, ◌≤◌, ◌^◌, [], ◌∷◌, ◌++◌, length, OnOk, OnErr, IfOk, IfSome, IfNone, MatchOption};
+ghost use Rattle.std.specs.Prelude.{◌≡◌, ◌<◌, ◌≤◌, ◌^◌, [], ◌∷◌, ◌++◌, length, take, OnOk, OnErr, IfOk, IfSome, IfNone, MatchOption};
 ghost use Rattle.op_machine.specs.Lists.{list_in, lists_of, only_empty, opened, AreLinked, Begins};
 ghost use Rattle.op_trace.specs.World.{head_number};
 
 use op_base::Memory;
-use op_term::Sym;
+use op_bind::Ref;
 use std::alloc::Global;
 use std::marker::Model;
 
 /// What is still to be done.
-#[derive(Clone, Copy, Debug, PartialEq, Eq)]
+#[derive(Clone, Copy)]
 pub enum Item {
-    /// The goals of a rule's body from one on, each joined to the rest by a comma; a cut in them cuts to this box.
-    Body { rule: u64, from: u64, barrier: u64 },
-    /// One goal.
-    Goal { name: Sym, barrier: u64 },
+    /// A goal; a cut in it cuts to this box.
+    Goal { goal: Ref, barrier: u64 },
     /// The exit of a box that was called with a goal.
-    Exit { call: u64, goal: Sym },
+    Exit { call: u64, goal: Ref },
 }
 
 /// An item before a list, with the innermost box that is open behind it and how many there are.
@@ -63,7 +61,7 @@ impl Lists {
         ensures ok { OnOk result (self.new ≡ self.old ++ (item ∷ list_in self.old rest) ∷ []) }
         ensures err { OnErr result (self.new ≡ self.old) }
     {
-        let (parent, depth) = opened_before(&self.cells, item, rest);
+        let (parent, depth) = opened_before(&self.cells, &item, rest);
         self.cells.push(Cell {
             item,
             rest,
@@ -71,6 +69,23 @@ impl Lists {
             depth,
         })?;
         Ok(self.cells.len() as u64)
+    }
+
+    /// How many lists there are.
+    pub fn len(&self) -> u64
+        ensures count { result ≡ length self.now }
+        ensures some { 0 < result }
+    {
+        self.cells.len() as u64 + 1
+    }
+
+    /// Keeps the first `n` lists.
+    pub fn cut(&mut self, n: u64)
+        requires some { 0 < n }
+        requires there { n ≤ length self.old }
+        ensures { self.new ≡ take n self.old }
+    {
+        self.cells.truncate(n as usize - 1);
     }
 
     /// The first item of a list, and the number of the list behind it.
@@ -130,16 +145,15 @@ fn opened_at(cells: &Vec<Cell>, n: u64) -> (u64, u64)
     }
 }
 
-fn opened_before(cells: &Vec<Cell>, item: Item, rest: u64) -> (u64, u64)
+fn opened_before(cells: &Vec<Cell>, item: &Item, rest: u64) -> (u64, u64)
     requires there { rest < length (lists_of cells.now.items) }
     requires linked { AreLinked only_empty cells.now.items }
-    ensures parent { result.0 ≡ head_number (opened (item ∷ list_in (lists_of cells.now.items) rest)) }
-    ensures depth { result.1 ≡ length (opened (item ∷ list_in (lists_of cells.now.items) rest)) }
+    ensures parent { result.0 ≡ head_number (opened (item.now ∷ list_in (lists_of cells.now.items) rest)) }
+    ensures depth { result.1 ≡ length (opened (item.now ∷ list_in (lists_of cells.now.items) rest)) }
 {
     let (parent, depth) = opened_at(cells, rest);
     match item {
-        Item::Body { .. } => (parent, depth),
         Item::Goal { .. } => (parent, depth),
-        Item::Exit { call, .. } => (call, depth + 1),
+        Item::Exit { call, .. } => (*call, depth + 1),
     }
 }

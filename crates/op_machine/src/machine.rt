@@ -1,5 +1,5 @@
 ghost use Rattle.std.specs.Prelude.{◌≡◌, ◌≢◌, ◌+◌, ◌-◌, ◌^◌, ◌<◌, ◌≤◌, ◌↔◌, true, false, length, IfOk, OnErr, IsErrOf, IfSome, is_some, OnOk};
-ghost use Rattle.op_logic.specs.Term.{atom};
+ghost use Rattle.op_machine.specs.Program.{IsQuery};
 ghost use Rattle.op_trace.specs.Run.{run};
 ghost use Rattle.op_trace.specs.World.{loaded};
 ghost use Rattle.op_machine.specs.Machine.{last_after};
@@ -15,7 +15,7 @@ use std::alloc::Global;
 use std::marker::Model;
 use std::sync::ledger::Ledger;
 
-/// What lies outside a traced program. A propositional program asks nothing of it.
+/// What lies outside a traced program. A program without builtins asks nothing of it.
 pub trait Host {}
 
 /// The walk over the search tree of a goal, a turn at a time. It keeps no list of turns.
@@ -28,39 +28,47 @@ pub struct Machine {
 
 impl Model for Machine {
     ghost use Rattle.op_machine.specs.Machine.{Kept, kept_of};
+    ghost use Rattle.std.specs.Coded.{codes};
+    ghost use Rattle.op_logic.specs.Code.{term_code};
 
     ghost Value = { Kept };
+
+    ghost coded = { Prim.hlevel (codes, term_code) };
 
     ghost view = { λ m. kept_of m.core m.last m.faulted };
 
     ghost use Rattle.std.specs.Prelude.{◌≡◌, false};
     ghost use Rattle.op_machine.specs.Core.{IsSound};
+    ghost use Rattle.op_machine.specs.Machine.{CanLook};
 
-    ghost invariant = { λ m. m.faulted ≡ false → IsSound m.core };
+    ghost invariant = { λ m. m.faulted ≡ false → IsSound m.core × CanLook m.last m.core };
 }
 
 impl Machine {
     ghost use Rattle.op_machine.specs.Machine.{to_come, Answers, answered, event_now, has_event, has_solution};
     ghost use Rattle.op_machine.specs.Program.{clauses, goal_named};
-    ghost use Rattle.op_machine.specs.View.{event_in, names_in};
+    ghost use Rattle.op_machine.specs.View.{event_in};
 
     /// A machine before the first turn of a goal's run over the clauses of a store: the run may take `budget` steps,
     /// from 1 to 1,000,000,000, and ends at the solution numbered `wanted`, from 1, or at none for 0.
     pub fn start(
         alloc: Global,
         store: Store,
-        goal: Goal,
+        goal: &Goal,
         budget: u64,
         wanted: u64,
     ) -> Result<Machine, Memory>
-        requires goal { goal.name.0 < length store.names }
+        requires goal { IsQuery (length store.names) goal.now }
         requires some { 1 ≤ budget }
         requires limit { budget ≤ 1000000000 }
         ensures run { IfOk result (λ m. to_come m
-            ≡ run (record { budget = budget; wanted = wanted }) (goal_named store goal.name.0) (loaded (clauses store))) }
+            ≡ run (record { budget = budget; wanted = wanted }) (goal_named store goal.now.body) goal.now.vars (loaded (clauses store))) }
+        ensures names { IfOk result (λ m. m.names ≡ goal.now.names) }
         ensures steps { IfOk result (λ m. m.steps ≡ 0) }
         ensures answered { IfOk result (λ m. answered m ≡ 0) }
+        ensures tables { IfOk result (λ m. m.tables ≡ store) }
         ensures none { IfOk result (λ m. has_event m ≡ false) }
+        ensures no_solution { IfOk result (λ m. has_solution m ≡ false) }
         ensures whole { IfOk result (λ m. m.faulted ≡ false) }
     {
         let core = Core::begin(alloc, store, goal, budget, wanted)?;
@@ -71,8 +79,8 @@ impl Machine {
         })
     }
 
-    /// The next turn, or the ending, again each time. The ledger rises by the run's steps. After `Memory` the machine has
-    /// ended, and answers so from then on.
+    /// The next turn, or the ending, again each time. The ledger rises by the run's steps, but not by those of a call that
+    /// answers a fault. After `Memory` the machine has ended, and answers so from then on.
     pub fn next<H: Host, L: Ledger>(
         &mut self,
         host: &mut H,
@@ -80,9 +88,10 @@ impl Machine {
     ) -> Result<Turn, MachineFault>
         ensures answers { IfOk result (λ t. Answers t self.old self.new) }
         ensures cost { OnOk result (steps.new ≡ steps.old + (self.new.steps - self.old.steps)) }
-        ensures later { OnOk result (self.old.steps ≤ self.new.steps) }
+        ensures later { self.old.steps ≤ self.new.steps }
         ensures unpaid { OnErr result (steps.new ≡ steps.old) }
-        ensures names { OnOk result (self.new.tables ≡ self.old.tables) }
+        ensures tables { self.new.tables ≡ self.old.tables }
+        ensures names { self.new.names ≡ self.old.names }
         ensures few { OnOk result (answered self.new < 2 ^ 63) }
         ensures whole { OnOk result (self.new.faulted ≡ false) }
         ensures fault { IsErrOf result MachineFault.Memory → self.new.faulted ≡ true }
@@ -118,22 +127,34 @@ impl Machine {
     pub fn event(&self) -> Option<EventView<'_>>
         ensures there { is_some result ≡ has_event self.now }
         ensures event { IfSome result (λ v. event_in v ≡ event_now self.now) }
+        ensures symbols { IfSome result (λ v. v.names ≡ self.now.tables.names) }
     {
         if self.faulted || self.last != Last::Event {
             return None;
         }
-        Some(EventView::new(self.core.seen, self.core.store.symbols()))
+        Some(EventView::new(
+            self.core.seen,
+            &self.core.bindings,
+            self.core.store.symbols(),
+        ))
     }
 
     /// The solution that was the last turn; None where the last turn was no solution or a fault was answered.
     pub fn solution(&self) -> Option<SolutionView<'_>>
         ensures there { is_some result ≡ has_solution self.now }
-        ensures names { IfSome result (λ v. names_in v ≡ self.now.tables.names) }
+        ensures names { IfSome result (λ v. v.variables ≡ self.now.names) }
+        ensures bindings { IfSome result (λ v. v.state ≡ self.now.bindings) }
+        ensures symbols { IfSome result (λ v. v.names ≡ self.now.tables.names) }
     {
         if self.faulted || self.last != Last::Solution {
             return None;
         }
-        Some(SolutionView::new(self.core.store.symbols()))
+        Some(SolutionView::new(
+            &self.core.names,
+            &self.core.values,
+            &self.core.bindings,
+            self.core.store.symbols(),
+        ))
     }
 }
 

@@ -1,15 +1,13 @@
 ghost use Rattle.std.specs.Prelude.{◌≡◌, ◌+◌, ◌<◌, ◌≤◌, ◌^◌, [], ◌∷◌, length, IfOk};
-ghost use Rattle.op_reader.specs.Form.{rule_at};
 ghost use Rattle.op_machine.specs.declared.core_state.Mode.TheVariants as mode;
-ghost use Rattle.op_machine.specs.Core.{items_in, item_term, choices_in, choice_of, setup_of, world_in, state_of, IsGood, IsItem, IsFrame};
+ghost use Rattle.op_machine.specs.Core.{setup_of, state_of, world_in, level_in, items_now, bindings_now, choices_in, choice_of, item_term, IsGood, IsItem, IsFrame};
 ghost use Rattle.op_machine.specs.Resume.{move, Going, Back};
-ghost use Rattle.op_machine.specs.Rows.{Advances, retried};
+ghost use Rattle.op_machine.specs.Rows.{Keeps, Advances};
 
 use crate::core_state::{Core, Ending, Mode, Step};
 use crate::frame::{Frame, FrameKind};
 use crate::lists::Item;
 use op_base::Memory;
-use op_term::Sym;
 use op_trace::Port;
 
 impl Core {
@@ -20,7 +18,8 @@ impl Core {
         requires solutions { self.old.solutions < 2 ^ 63 }
         requires calls { self.old.calls < 2 ^ 63 }
         requires steps { self.old.steps ≤ self.old.budget }
-        ensures { IfOk result (Advances self.old self.new (move (setup_of self.old) (state_of self.old))) }
+        ensures advances { IfOk result (Advances self.old self.new (move (setup_of self.old) (state_of self.old))) }
+        ensures keeps { Keeps self.old self.new }
     {
         match self.mode {
             Mode::Forward { items } => self.forward(items),
@@ -37,8 +36,9 @@ impl Core {
         requires solutions { self.old.solutions < 2 ^ 63 }
         requires calls { self.old.calls < 2 ^ 63 }
         requires steps { self.old.steps ≤ self.old.budget }
-        ensures { IfOk result (Advances self.old self.new (move (setup_of self.old)
-            (Going (items_in self.old.store self.old.lists items) (choices_in self.old) [] (world_in self.old)))) }
+        ensures advances { IfOk result (Advances self.old self.new (move (setup_of self.old)
+            (Going (items_now self.old items) (choices_in self.old) (bindings_now self.old) (world_in self.old)))) }
+        ensures keeps { Keeps self.old self.new }
     {
         match self.lists.first(items) {
             Some((item, rest)) => self.perform(item, rest),
@@ -49,21 +49,17 @@ impl Core {
     // An item is done.
     fn perform(&mut self, item: Item, rest: u64) -> Result<Step, Memory>
         requires good { IsGood self.old }
-        requires item { IsItem self.old.store item }
+        requires item { IsItem (length self.old.store.names) self.old.bindings.terms item }
         requires there { rest < length self.old.lists }
         requires events { self.old.events < 2 ^ 63 }
         requires calls { self.old.calls < 2 ^ 63 }
         requires steps { self.old.steps ≤ self.old.budget }
-        ensures { IfOk result (Advances self.old self.new (move (setup_of self.old)
-            (Going (item_term self.old.store item ∷ items_in self.old.store self.old.lists rest) (choices_in self.old) [] (world_in self.old)))) }
+        ensures advances { IfOk result (Advances self.old self.new (move (setup_of self.old)
+            (Going (item_term self.old.store (level_in self.old) item ∷ items_now self.old rest) (choices_in self.old) (bindings_now self.old) (world_in self.old)))) }
+        ensures keeps { Keeps self.old self.new }
     {
         match item {
-            Item::Body {
-                rule,
-                from,
-                barrier,
-            } => self.select_body(rule, from, barrier, rest),
-            Item::Goal { name, barrier: _ } => self.select(name, rest),
+            Item::Goal { goal, barrier } => self.select(goal, barrier, rest),
             Item::Exit { call, goal } => self.exit_box(call, goal, rest),
         }
     }
@@ -74,10 +70,14 @@ impl Core {
         requires mode { self.old.mode ≡ mode.Backward }
         requires events { self.old.events < 2 ^ 63 }
         requires steps { self.old.steps ≤ self.old.budget }
-        ensures { IfOk result (Advances self.old self.new (move (setup_of self.old) (Back (choices_in self.old) (world_in self.old)))) }
+        ensures advances { IfOk result (Advances self.old self.new (move (setup_of self.old) (Back (choices_in self.old) (world_in self.old)))) }
+        ensures keeps { Keeps self.old self.new }
     {
         match self.pop() {
-            Some(frame) => self.resume(frame),
+            Some(frame) => {
+                self.restore(&frame);
+                self.resume(frame)
+            }
             None => {
                 self.mode = Mode::Over {
                     ending: Ending::Failed,
@@ -87,34 +87,20 @@ impl Core {
         }
     }
 
-    // What a choice does after a failure.
+    // What a choice, made at the present moment, does after a failure.
     fn resume(&mut self, frame: Frame) -> Result<Step, Memory>
         requires good { IsGood self.old }
-        requires frame { IsFrame self.old.store (length self.old.lists) frame }
+        requires frame { IsFrame self.old.store (level_in self.old) frame }
         requires events { self.old.events < 2 ^ 63 }
         requires steps { self.old.steps ≤ self.old.budget }
-        ensures { IfOk result (Advances self.old self.new (move (setup_of self.old)
-            (Back (choice_of self.old.store self.old.lists frame ∷ choices_in self.old) (world_in self.old)))) }
+        ensures advances { IfOk result (Advances self.old self.new (move (setup_of self.old)
+            (Back (choice_of self.old.store (level_in self.old) frame ∷ choices_in self.old) (world_in self.old)))) }
+        ensures keeps { Keeps self.old self.new }
     {
         match frame.kind {
             FrameKind::Redo => Ok(self.go_back(Port::Redo, frame.call, frame.goal, frame.rest)),
             FrameKind::More { rule } => self.retry(rule, frame.call, frame.goal, frame.rest),
             FrameKind::Fail => Ok(self.go_back(Port::Fail, frame.call, frame.goal, frame.rest)),
         }
-    }
-
-    // A rule is tried, and those behind it for its name are kept as a choice.
-    fn retry(&mut self, rule: u64, call: u64, goal: Sym, rest: u64) -> Result<Step, Memory>
-        requires good { IsGood self.old }
-        requires there { rest < length self.old.lists }
-        requires known { goal.0 < length self.old.store.names }
-        requires rule { rule < length self.old.store.rules }
-        requires here { (rule_at self.old.store.rules rule).0 ≡ goal.0 }
-        requires steps { self.old.steps ≤ self.old.budget }
-        ensures { IfOk result (Advances self.old self.new (retried self.old rule call goal.0 rest)) }
-    {
-        let next = self.store.next_rule(rule);
-        self.push_more(next, call, goal, rest)?;
-        self.attempt(rule, call, goal, rest)
     }
 }

@@ -1,26 +1,23 @@
-ghost use Rattle.std.specs.Prelude.{◌≡◌, ◌+◌, ◌<◌, ◌≤◌, ◌^◌, false, [], ◌∷◌, ◌++◌, length, reverse, IfOk, OnOk, IfNone, MatchOption};
+ghost use Rattle.std.specs.Prelude.{◌≡◌, ◌+◌, ◌<◌, ◌≤◌, ◌^◌, [], ◌∷◌, Some, length, take, reverse, IfOk, OnOk, IfNone, IfSome, MatchOption};
 ghost use Rattle.std.specs.Bool.{OnTrue, OnFalse};
-ghost use Rattle.op_reader.specs.Form.{rule_at};
 ghost use Rattle.op_trace.specs.World.{Barrier, Call, Goal};
-ghost use Rattle.op_trace.specs.Visit.{event_of, with_event, control_of_atom, is_true};
-ghost use Rattle.op_logic.specs.Names.{name_at};
+ghost use Rattle.op_trace.specs.Visit.{event_of, with_event, is_true};
+ghost use Rattle.op_bind.specs.State.{undone};
 ghost use Rattle.op_machine.specs.declared.core_state.Mode.TheVariants as mode;
 ghost use Rattle.op_machine.specs.declared.core_state.Ending.TheVariants as ending;
-ghost use Rattle.op_machine.specs.Core.{items_in, choices_in, choice_of, setup_of, world_in, state_of, event_seen, item_term, IsGood, IsItem, IsFrame, AreFrames};
-ghost use Rattle.op_machine.specs.Lists.{list_in};
-ghost use Rattle.op_machine.specs.Program.{goal_named, clauses_for, body_from};
-ghost use Rattle.op_machine.specs.declared.lists.Item.TheVariants as item;
 ghost use Rattle.op_machine.specs.declared.core_state.Step.TheVariants as step;
 ghost use Rattle.op_machine.specs.declared.frame.FrameKind.TheVariants as kind;
-ghost use Rattle.op_machine.specs.Resume.{at_solution, exited, invoked, showing, with_more, chosen, pay, silent, Going, Back};
-ghost use Rattle.op_machine.specs.Rows.{Advances, goal_moved, rule_moved, rule_entered, body_before, clause_in};
+ghost use Rattle.op_machine.specs.Core.{setup_of, world_in, level_in, items_now, goal_now, bindings_now, choices_in, choice_by, item_term, items_in, event_seen, IsGood, IsItem, IsGoal, IsEarlier, IsKind};
+ghost use Rattle.op_machine.specs.Program.{IsFor, clauses_for};
+ghost use Rattle.op_machine.specs.Resume.{at_solution, showing, with_more, silent, Going, Back};
+ghost use Rattle.op_machine.specs.Rows.{Keeps, Advances, IsLooked, exit_moved, box_invoked, body_entered, body_before};
+ghost use Rattle.op_term.specs.Places.{term_at};
 
 use crate::core_state::{Core, Ending, Mode, Seen, Step};
 use crate::frame::{Frame, FrameKind};
-use crate::kind::Kind;
 use crate::lists::Item;
 use op_base::Memory;
-use op_term::Sym;
+use op_bind::Ref;
 use op_trace::Port;
 
 impl Core {
@@ -36,20 +33,27 @@ impl Core {
             self.steps += 1;
             true
         } else {
-            self.steps = self.budget;
-            self.mode = Mode::Over {
-                ending: Ending::Spent,
-            };
+            self.run_out();
             false
         }
     }
 
+    // The budget is spent.
+    pub(crate) fn run_out(&mut self)
+        ensures { self.new ≡ record self.old { steps = self.old.budget; mode = mode.Over ending.Spent } }
+    {
+        self.steps = self.budget;
+        self.mode = Mode::Over {
+            ending: Ending::Spent,
+        };
+    }
+
     // Shows an event of a box with these items behind it.
-    pub(crate) fn show(&mut self, port: Port, call: u64, goal: Sym, rest: u64)
+    pub(crate) fn show(&mut self, port: Port, call: u64, goal: Ref, rest: u64)
         requires there { rest < length self.old.lists }
         requires fits { self.old.events < 2 ^ 63 }
-        ensures seen { event_seen self.old.store self.new.seen
-            ≡ event_of port call (goal_named self.old.store goal.0) [] (items_in self.old.store self.old.lists rest) (world_in self.old) }
+        ensures seen { event_seen self.old.store self.old.bindings self.new.seen
+            ≡ event_of port call (goal_now self.old goal) (bindings_now self.old) (items_now self.old rest) (world_in self.old) }
         ensures goal { self.new.seen.goal ≡ goal }
         ensures rest { self.new ≡ record self.old { events = self.old.events + 1; seen = self.new.seen } }
     {
@@ -64,22 +68,31 @@ impl Core {
         };
     }
 
-    // A choice above the others.
+    // A choice above the others, made now.
     pub(crate) fn push(
         &mut self,
         kind: FrameKind,
         call: u64,
-        goal: Sym,
+        goal: Ref,
         rest: u64,
     ) -> Result<(), Memory>
-        ensures frames { OnOk result (reverse self.new.frames.items ≡ record { kind = kind; call = call; goal = goal; rest = rest } ∷ reverse self.old.frames.items) }
+        requires good { IsGood self.old }
+        requires there { rest < length self.old.lists }
+        requires goal { IsGoal (length self.old.store.names) self.old.bindings.terms goal }
+        requires kind { IsKind self.old.store (level_in self.old) goal kind }
+        ensures choices { OnOk result (choices_in self.new ≡ choice_by self.old.store (level_in self.old) kind call goal rest ∷ choices_in self.old) }
+        ensures good { OnOk result (IsGood self.new) }
         ensures rest { self.new ≡ record self.old { frames = self.new.frames } }
     {
+        let mark = self.bindings.mark();
+        let lists = self.lists.len();
         self.frames.push(Frame {
             kind,
             call,
             goal,
             rest,
+            mark,
+            lists,
         })?;
         Ok(())
     }
@@ -93,13 +106,23 @@ impl Core {
         self.frames.pop()
     }
 
+    // Back to the bindings and the lists that were there when a choice was made.
+    pub(crate) fn restore(&mut self, frame: &Frame)
+        requires earlier { IsEarlier frame.now (level_in self.old) }
+        requires some { 0 < frame.now.lists }
+        ensures { self.new ≡ record self.old { bindings = undone self.old.bindings frame.now.mark; lists = take frame.now.lists self.old.lists } }
+    {
+        self.bindings.undo_to(frame.mark);
+        self.lists.cut(frame.lists);
+    }
+
     // A list that begins with an item.
     pub(crate) fn add(&mut self, item: Item, rest: u64) -> Result<u64, Memory>
         requires good { IsGood self.old }
-        requires item { IsItem self.old.store item }
+        requires item { IsItem (length self.old.store.names) self.old.bindings.terms item }
         requires there { rest < length self.old.lists }
         ensures within { IfOk result (λ n. n < length self.new.lists) }
-        ensures items { IfOk result (λ n. items_in self.old.store self.new.lists n ≡ item_term self.old.store item ∷ items_in self.old.store self.old.lists rest) }
+        ensures items { IfOk result (λ n. items_now self.new n ≡ item_term self.old.store (level_in self.old) item ∷ items_now self.old rest) }
         ensures choices { OnOk result (choices_in self.new ≡ choices_in self.old) }
         ensures good { OnOk result (IsGood self.new) }
         ensures rest { self.new ≡ record self.old { lists = self.new.lists } }
@@ -111,7 +134,8 @@ impl Core {
     pub(crate) fn solve(&mut self) -> Step
         requires good { IsGood self.old }
         requires fits { self.old.solutions < 2 ^ 63 }
-        ensures { Advances self.old self.new (at_solution (setup_of self.old) (choices_in self.old) [] (world_in self.old)) result }
+        ensures advances { Advances self.old self.new (at_solution (setup_of self.old) (choices_in self.old) (bindings_now self.old) (world_in self.old)) result }
+        ensures keeps { Keeps self.old self.new }
     {
         self.solutions += 1;
         self.mode = if self.solutions == self.wanted {
@@ -125,13 +149,13 @@ impl Core {
     }
 
     // The exit of a box, which is redone when the machine comes back to it.
-    pub(crate) fn exit_box(&mut self, call: u64, goal: Sym, rest: u64) -> Result<Step, Memory>
+    pub(crate) fn exit_box(&mut self, call: u64, goal: Ref, rest: u64) -> Result<Step, Memory>
         requires good { IsGood self.old }
         requires there { rest < length self.old.lists }
-        requires known { goal.0 < length self.old.store.names }
+        requires goal { IsGoal (length self.old.store.names) self.old.bindings.terms goal }
         requires fits { self.old.events < 2 ^ 63 }
-        ensures { IfOk result (Advances self.old self.new (exited call (goal_named self.old.store goal.0)
-            (items_in self.old.store self.old.lists rest) (choices_in self.old) (world_in self.old))) }
+        ensures advances { IfOk result (Advances self.old self.new (exit_moved self.old call goal rest)) }
+        ensures keeps { Keeps self.old self.new }
     {
         self.show(Port::Exit, call, goal, rest);
         self.push(FrameKind::Redo, call, goal, rest)?;
@@ -140,14 +164,15 @@ impl Core {
     }
 
     // A box is entered again, or has failed: an event, and the machine goes on back.
-    pub(crate) fn go_back(&mut self, port: Port, call: u64, goal: Sym, rest: u64) -> Step
+    pub(crate) fn go_back(&mut self, port: Port, call: u64, goal: Ref, rest: u64) -> Step
         requires good { IsGood self.old }
         requires there { rest < length self.old.lists }
-        requires known { goal.0 < length self.old.store.names }
+        requires goal { IsGoal (length self.old.store.names) self.old.bindings.terms goal }
         requires fits { self.old.events < 2 ^ 63 }
-        ensures { Advances self.old self.new (showing port call (goal_named self.old.store goal.0) []
-            (items_in self.old.store self.old.lists rest) (world_in self.old)
+        ensures advances { Advances self.old self.new (showing port call (goal_now self.old goal) (bindings_now self.old)
+            (items_now self.old rest) (world_in self.old)
             (Back (choices_in self.old) (with_event (world_in self.old)))) result }
+        ensures keeps { Keeps self.old self.new }
     {
         self.show(port, call, goal, rest);
         self.mode = Mode::Backward;
@@ -155,40 +180,40 @@ impl Core {
     }
 
     // A goal with a box is invoked: its clauses are tried by going back to them.
-    pub(crate) fn invoke(&mut self, goal: Sym, rest: u64) -> Result<Step, Memory>
+    pub(crate) fn invoke(&mut self, goal: Ref, rest: u64) -> Result<Step, Memory>
         requires good { IsGood self.old }
         requires there { rest < length self.old.lists }
-        requires known { goal.0 < length self.old.store.names }
+        requires goal { IsGoal (length self.old.store.names) self.old.bindings.terms goal }
         requires fits { self.old.events < 2 ^ 63 }
         requires calls { self.old.calls < 2 ^ 63 }
-        ensures { IfOk result (Advances self.old self.new (invoked (goal_named self.old.store goal.0)
-            (items_in self.old.store self.old.lists rest) (choices_in self.old) [] (world_in self.old))) }
+        ensures advances { IfOk result (Advances self.old self.new (box_invoked self.old goal rest)) }
+        ensures keeps { Keeps self.old self.new }
     {
         self.calls += 1;
         let call = self.calls;
         self.show(Port::Call, call, goal, rest);
         self.push(FrameKind::Fail, call, goal, rest)?;
-        let rule = self.store.first_rule(goal);
+        let rule = self.store.first_rule(self.bindings.outline(&goal));
         self.push_more(rule, call, goal, rest)?;
         self.mode = Mode::Backward;
         Ok(Step::Event)
     }
 
-    // A choice of the clauses from a rule on, where there are any.
+    // A choice of the clauses from one on, where there are any.
     pub(crate) fn push_more(
         &mut self,
         rule: u64,
         call: u64,
-        goal: Sym,
+        goal: Ref,
         rest: u64,
     ) -> Result<(), Memory>
-        requires frames { AreFrames self.old.store (length self.old.lists) (reverse self.old.frames.items) }
+        requires good { IsGood self.old }
         requires there { rest < length self.old.lists }
-        requires known { goal.0 < length self.old.store.names }
-        requires here { rule < length self.old.store.rules → (rule_at self.old.store.rules rule).0 ≡ goal.0 }
-        ensures choices { OnOk result (choices_in self.new ≡ with_more (clauses_for self.old.store goal.0 rule) call (goal_named self.old.store goal.0) []
-            (items_in self.old.store self.old.lists rest) (choices_in self.old)) }
-        ensures frames { OnOk result (AreFrames self.old.store (length self.old.lists) (reverse self.new.frames.items)) }
+        requires goal { IsGoal (length self.old.store.names) self.old.bindings.terms goal }
+        requires here { rule < length self.old.store.rules → IsFor self.old.store (term_at self.old.bindings.terms goal) rule }
+        ensures choices { OnOk result (choices_in self.new ≡ with_more (clauses_for self.old.store (term_at self.old.bindings.terms goal) rule) call (goal_now self.old goal)
+            (bindings_now self.old) (items_now self.old rest) (choices_in self.old)) }
+        ensures good { OnOk result (IsGood self.new) }
         ensures rest { self.new ≡ record self.old { frames = self.new.frames } }
     {
         if rule < self.store.len() {
@@ -197,205 +222,49 @@ impl Core {
         Ok(())
     }
 
-    // A goal of which the step was paid.
-    pub(crate) fn choose(&mut self, goal: Sym, rest: u64) -> Result<Step, Memory>
+    // A clause was matched: its body comes next, and then the exit of the box.
+    pub(crate) fn enter(&mut self, body: Ref, call: u64, goal: Ref, rest: u64) -> Result<(), Memory>
         requires good { IsGood self.old }
         requires there { rest < length self.old.lists }
-        requires known { goal.0 < length self.old.store.names }
-        requires fits { self.old.events < 2 ^ 63 }
-        requires calls { self.old.calls < 2 ^ 63 }
-        ensures { IfOk result (λ step. (m : Barrier) → Advances self.old self.new
-            (chosen (control_of_atom (name_at self.old.store.names goal.0)) (goal_named self.old.store goal.0) m
-            (items_in self.old.store self.old.lists rest) (choices_in self.old) [] (world_in self.old)) step) }
-    {
-        match self.store.kind(goal) {
-            Kind::Truth => {
-                self.mode = Mode::Forward { items: rest };
-                Ok(Step::Silent)
-            }
-            Kind::Failure => {
-                self.mode = Mode::Backward;
-                Ok(Step::Silent)
-            }
-            Kind::Boxed => self.invoke(goal, rest),
-        }
-    }
-
-    // One goal is selected.
-    pub(crate) fn select(&mut self, goal: Sym, rest: u64) -> Result<Step, Memory>
-        requires good { IsGood self.old }
-        requires there { rest < length self.old.lists }
-        requires known { goal.0 < length self.old.store.names }
-        requires fits { self.old.events < 2 ^ 63 }
-        requires calls { self.old.calls < 2 ^ 63 }
-        requires steps { self.old.steps ≤ self.old.budget }
-        ensures { IfOk result (λ step. (m : Barrier) → Advances self.old self.new (pay (setup_of self.old) 1 (world_in self.old)
-            (chosen (control_of_atom (name_at self.old.store.names goal.0)) (goal_named self.old.store goal.0) m
-            (items_in self.old.store self.old.lists rest) (choices_in self.old) [])) step) }
-    {
-        if !self.spend() {
-            return Ok(Step::Silent);
-        }
-        self.choose(goal, rest)
-    }
-
-    // A goal and the rest of a body are put before a list.
-    pub(crate) fn split(
-        &mut self,
-        goal: Sym,
-        rule: u64,
-        from: u64,
-        barrier: u64,
-        rest: u64,
-    ) -> Result<(), Memory>
-        requires good { IsGood self.old }
-        requires there { rest < length self.old.lists }
-        requires known { goal.0 < length self.old.store.names }
-        requires tail { IsItem self.old.store (item.Body rule from barrier) }
-        ensures { OnOk result (Advances self.old self.new (silent (Going (Goal (goal_named self.old.store goal.0) (Call barrier)
-            ∷ Goal (body_from self.old.store rule from) (Call barrier) ∷ items_in self.old.store self.old.lists rest) (choices_in self.old) [] (world_in self.old))) step.Silent) }
-    {
-        let tail = self.add(
-            Item::Body {
-                rule,
-                from,
-                barrier,
-            },
-            rest,
-        )?;
-        let items = self.add(
-            Item::Goal {
-                name: goal,
-                barrier,
-            },
-            tail,
-        )?;
-        self.mode = Mode::Forward { items };
-        Ok(())
-    }
-
-    // The goals of a body from one on are selected: the last goal alone, or the first and the rest.
-    pub(crate) fn select_body(
-        &mut self,
-        rule: u64,
-        from: u64,
-        barrier: u64,
-        rest: u64,
-    ) -> Result<Step, Memory>
-        requires good { IsGood self.old }
-        requires there { rest < length self.old.lists }
-        requires body { IsItem self.old.store (item.Body rule from barrier) }
-        requires fits { self.old.events < 2 ^ 63 }
-        requires calls { self.old.calls < 2 ^ 63 }
-        requires steps { self.old.steps ≤ self.old.budget }
-        ensures { IfOk result (Advances self.old self.new (goal_moved self.old (body_from self.old.store rule from) (Call barrier) rest)) }
-    {
-        let goal = self.store.goal_at(rule, from);
-        let count = self.store.goal_count(rule);
-        if from + 1 == count {
-            return self.select(goal, rest);
-        }
-        if !self.spend() {
-            return Ok(Step::Silent);
-        }
-        self.split(goal, rule, from + 1, barrier, rest)?;
-        Ok(Step::Silent)
-    }
-
-    // A rule for the goal of a box is tried: a step for it and one for the pair of goal and head, which match.
-    pub(crate) fn attempt(
-        &mut self,
-        rule: u64,
-        call: u64,
-        goal: Sym,
-        rest: u64,
-    ) -> Result<Step, Memory>
-        requires good { IsGood self.old }
-        requires there { rest < length self.old.lists }
-        requires known { goal.0 < length self.old.store.names }
-        requires rule { rule < length self.old.store.rules }
-        requires steps { self.old.steps ≤ self.old.budget }
-        ensures { IfOk result (Advances self.old self.new (rule_moved self.old rule call goal.0 rest)) }
-    {
-        if !self.spend() {
-            return Ok(Step::Silent);
-        }
-        self.meet(rule, call, goal, rest)
-    }
-
-    // The pair of goal and head.
-    pub(crate) fn meet(
-        &mut self,
-        rule: u64,
-        call: u64,
-        goal: Sym,
-        rest: u64,
-    ) -> Result<Step, Memory>
-        requires good { IsGood self.old }
-        requires there { rest < length self.old.lists }
-        requires known { goal.0 < length self.old.store.names }
-        requires rule { rule < length self.old.store.rules }
-        requires steps { self.old.steps ≤ self.old.budget }
-        ensures { IfOk result (Advances self.old self.new (pay (setup_of self.old) 1 (world_in self.old) (rule_entered self.old rule call goal.0 rest))) }
-    {
-        if !self.spend() {
-            return Ok(Step::Silent);
-        }
-        self.enter(rule, call, goal, rest)?;
-        Ok(Step::Silent)
-    }
-
-    // A rule was matched: its body comes next, and then the exit of the box.
-    pub(crate) fn enter(&mut self, rule: u64, call: u64, goal: Sym, rest: u64) -> Result<(), Memory>
-        requires good { IsGood self.old }
-        requires there { rest < length self.old.lists }
-        requires known { goal.0 < length self.old.store.names }
-        requires rule { rule < length self.old.store.rules }
-        ensures { OnOk result (Advances self.old self.new (rule_entered self.old rule call goal.0 rest (world_in self.old)) step.Silent) }
+        requires goal { IsGoal (length self.old.store.names) self.old.bindings.terms goal }
+        requires body { IsGoal (length self.old.store.names) self.old.bindings.terms body }
+        ensures advances { OnOk result (Advances self.old self.new (body_entered self.old body call goal rest) step.Silent) }
+        ensures keeps { Keeps self.old self.new }
     {
         let exit = self.add(Item::Exit { call, goal }, rest)?;
-        let items = self.add_body(rule, call, exit)?;
+        let items = self.add_body(body, call, exit)?;
         self.mode = Mode::Forward { items };
         Ok(())
     }
 
-    // The body of a rule before a list: nothing for a fact.
-    pub(crate) fn add_body(&mut self, rule: u64, call: u64, rest: u64) -> Result<u64, Memory>
+    // The body of a clause before a list: nothing for a fact.
+    pub(crate) fn add_body(&mut self, body: Ref, call: u64, rest: u64) -> Result<u64, Memory>
         requires good { IsGood self.old }
         requires there { rest < length self.old.lists }
-        requires rule { rule < length self.old.store.rules }
+        requires body { IsGoal (length self.old.store.names) self.old.bindings.terms body }
         ensures within { IfOk result (λ n. n < length self.new.lists) }
-        ensures items { IfOk result (λ n. items_in self.old.store self.new.lists n ≡ body_before self.old.store rule call (items_in self.old.store self.old.lists rest)) }
+        ensures items { IfOk result (λ n. items_now self.new n ≡ body_before self.old body call (items_now self.old rest)) }
         ensures choices { OnOk result (choices_in self.new ≡ choices_in self.old) }
         ensures good { OnOk result (IsGood self.new) }
         ensures rest { self.new ≡ record self.old { lists = self.new.lists } }
     {
-        if self.is_fact(rule) {
+        if self.is_fact(body) {
             return Ok(rest);
         }
         self.add(
-            Item::Body {
-                rule,
-                from: 0,
+            Item::Goal {
+                goal: body,
                 barrier: call,
             },
             rest,
         )
     }
 
-    // Whether a rule has no body but `true`.
-    pub(crate) fn is_fact(&self, rule: u64) -> bool
-        requires { rule < length self.now.store.rules }
-        ensures fact { result ≡ is_true (clause_in self.now.store rule).body }
-        ensures some { result ≡ false → 0 < length (rule_at self.now.store.rules rule).1 }
+    // Whether a body is the atom `true`.
+    fn is_fact(&self, body: Ref) -> bool
+        requires { body < length self.now.bindings.terms }
+        ensures { result ≡ is_true (goal_now self.now body) }
     {
-        let count = self.store.goal_count(rule);
-        if count == 0 {
-            return true;
-        }
-        if count == 1 {
-            return self.store.kind(self.store.goal_at(rule, 0)) == Kind::Truth;
-        }
-        false
+        self.store.is_truth(self.bindings.outline(&body))
     }
 }

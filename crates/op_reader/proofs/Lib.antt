@@ -1,8 +1,36 @@
 mod Tokens
 mod Scanning
-mod Grammar
-mod Tables
-mod Reading
-mod Stored
-mod Rules
-mod Flags
+mod Marks
+mod Digits
+mod Rows
+mod Steps
+mod Counted
+pub mod Sentences
+mod Calls
+mod Renamed
+pub mod Clauses
+pub mod Knowing
+mod Goals
+mod FirstClauses
+mod Marking
+mod Telling
+mod Outcomes
+mod Balance
+mod Popping
+mod Leveling
+mod RowShape
+mod Meeting
+mod Listing
+mod Showing
+mod Wording
+mod Table
+pub mod Splits
+mod Roots
+pub mod Spines
+mod Adds
+mod Roles
+mod Closing
+mod Standing
+mod RowNames
+mod Later
+mod Refused

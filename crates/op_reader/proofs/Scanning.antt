@@ -1,5 +1,5 @@
 -- What the scanner finds behind a place.
-use Rattle.std.proofs.Common.{◌≡◌, ℕ, ◌+◌, ◌-◌, ◌<◌, ◌≤◌, Bool, true, false, cond, List, [], ◌∷◌, length, get_or, take, drop, refl, ap, sym, ◌∙◌, subst, arith, Some, None}
+use Rattle.std.proofs.Common.{◌≡◌, ℕ, ◌+◌, ◌-◌, ◌<◌, ◌≤◌, Bool, true, false, None, cond, List, [], ◌∷◌, length, get_or, take, drop, refl, ap, sym, ◌∙◌, subst, arith, Some}
 use Rattle.std.specs.Prelude.{slice_range}
 use Rattle.std.specs.Str.{IsAscii}
 use Rattle.std.proofs.lemmas.Bool.Decides.{nat_tests}
@@ -10,9 +10,9 @@ use Rattle.std.specs.Prelude.{option_map}
 use Rattle.op_logic.proofs.Tests.{by_test}
 use Rattle.op_reader.specs.declared.lexis.Kind.TheVariants.{Layout, Word, Symbol, Alone}
 use Rattle.op_reader.specs.declared.lexis.Mark.{Mark}
-use Rattle.op_reader.specs.Lexis.{is_layout, is_small, is_word, is_symbol, kind_of, joins, begins, spelled, runs, tokens}
-use Rattle.op_reader.specs.Scan.{begins_gap, marked, marked_run}
-use Rattle.op_reader.proofs.Tokens.{run_len, joins-same, layout-kind, word-kind, tokens_by, tokens-layout, slice-cons}
+use Rattle.op_reader.specs.Lexis.{is_layout, is_word, is_symbol, kind_of, joins, begins, spelled, runs, tokens}
+use Rattle.op_reader.specs.Scan.{begins_gap, begins_bracket, marked}
+use Rattle.op_reader.proofs.Tokens.{run_len, joins-same, layout-kind, tokens_by, tokens-layout, slice-cons}
 
 second-way : (t u v : Bool) → cond t Layout (cond u Word (cond v Symbol Alone)) ≡ Word → u ≡ true
 second-way true u v h = cc
@@ -30,9 +30,6 @@ kind-ascii b h = word-ascii b (second-way (is_layout b) _ (is_symbol b) h)
 -- a byte that ends a run of layout is no layout
 pub not-layout : (b : ℕ) → joins Layout (kind_of b) ≡ false → is_layout b ≡ false
 not-layout b e = by_test (is_layout b) (λ t. let k = layout-kind b t in absurd (let f = rw k at e in cc)) (λ f. f)
-
-pub small-kind : (b : ℕ) → is_layout b ≡ false → is_small b ≡ true → kind_of b ≡ Word
-small-kind b n h = word-kind b n (rw h refl)
 
 -- a run of a word's bytes is ASCII
 pub word-text : (bs : List ℕ) (start end : ℕ) → start < length bs → end ≡ start + 1 + run_len (kind_of (get_or bs start 0)) (drop (start + 1) bs) → kind_of (get_or bs start 0) ≡ Word → IsAscii (slice_range bs start end)
@@ -53,10 +50,10 @@ pub tokens-done : (bs : List ℕ) (start : ℕ) → length bs ≤ start → toke
 unfolding tokens runs
 tokens-done bs start h = rw (drop_all start bs h) refl
 
-pub tokens-found : (r rest : List ℕ) (m : Mark) → spelled r (begins_gap rest) ≡ marked_run r (Some m) → tokens_by r rest ≡ option_map (λ ts. marked r m ∷ ts) (tokens rest)
+pub tokens-found : (r rest : List ℕ) (m : Mark) → spelled r (begins_gap rest) (begins_bracket rest) ≡ Some (marked r m ∷ []) → tokens_by r rest ≡ option_map (λ ts. marked r m ∷ ts) (tokens rest)
 tokens-found r rest m e = rw e refl
 
-pub tokens-refused : (r rest : List ℕ) → spelled r (begins_gap rest) ≡ marked_run r None → tokens_by r rest ≡ None
+pub tokens-refused : (r rest : List ℕ) → spelled r (begins_gap rest) (begins_bracket rest) ≡ None → tokens_by r rest ≡ None
 tokens-refused r rest e = rw e refl
 
 pub begins-slice : (p : ℕ → Bool) (bs : List ℕ) (start end : ℕ) → start < length bs → start < end → begins p (slice_range bs start end) ≡ p (get_or bs start 0)

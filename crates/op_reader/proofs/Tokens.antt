@@ -6,8 +6,8 @@ use Rattle.std.specs.Prelude.{slice_range, option_map, option_and_then}
 use Rattle.std.specs.List.{prefix_len}
 use Rattle.op_reader.specs.declared.lexis.Kind.{Kind}
 use Rattle.op_reader.specs.declared.lexis.Kind.TheVariants.{Layout, Word, Symbol, Alone}
-use Rattle.op_reader.specs.Lexis.{is_layout, is_word, is_symbol, kind_of, joins, put, runs, Token, spelled, is_gap, tokens_of, tokens}
-use Rattle.op_reader.specs.Scan.{begins_gap}
+use Rattle.op_reader.specs.Lexis.{is_layout, is_word, is_symbol, kind_of, joins, put, runs, Spelled, spelled, is_gap, is_bracket, tokens_of, tokens}
+use Rattle.op_reader.specs.Scan.{begins_gap, begins_bracket}
 
 pub joins-same : (k l : Kind) → joins k l ≡ true → k ≡ l
 joins-same Layout Layout h = refl
@@ -73,26 +73,31 @@ unfolding runs
 is_gap-runs [] = refl
 is_gap-runs (b ∷ bs) = ap is_gap (runs-first b bs)
 
+is_bracket-runs : (bs : List ℕ) → is_bracket (runs bs) ≡ begins_bracket bs
+unfolding runs
+is_bracket-runs [] = refl
+is_bracket-runs (b ∷ bs) = ap is_bracket (runs-first b bs)
+
 -- the first run's tokens, and then those of what is left
-abbrev pub tokens_by : List ℕ → List ℕ → Option (List Token)
-tokens_by r rest = option_and_then (λ t. option_map (λ ts. t ++ ts) (tokens rest)) (spelled r (begins_gap rest))
+abbrev pub tokens_by : List ℕ → List ℕ → Option (List Spelled)
+tokens_by r rest = option_and_then (λ t. option_map (λ ts. t ++ ts) (tokens rest)) (spelled r (begins_gap rest) (begins_bracket rest))
 
 pub tokens-first : (b : ℕ) (bs : List ℕ) → let m = run_len (kind_of b) bs in tokens (b ∷ bs) ≡ tokens_by (b ∷ take m bs) (drop m bs)
 unfolding tokens
-tokens-first b bs = ap tokens_of (runs-first b bs) ∙ rw is_gap-runs refl
+tokens-first b bs = ap tokens_of (runs-first b bs) ∙ rw (is_gap-runs, is_bracket-runs) refl
 
-spelled-layout : (b : ℕ) (r : List ℕ) (g : Bool) → is_layout b ≡ true → spelled (b ∷ r) g ≡ Some []
+spelled-layout : (b : ℕ) (r : List ℕ) (g k : Bool) → is_layout b ≡ true → spelled (b ∷ r) g k ≡ Some []
 unfolding spelled
-spelled-layout b r g h = rw h refl
+spelled-layout b r g k h = rw h refl
 
-map-nil : (o : Option (List Token)) → option_map (λ ts. [] ++ ts) o ≡ o
+map-nil : (o : Option (List Spelled)) → option_map (λ ts. [] ++ ts) o ≡ o
 map-nil None = refl
 map-nil (Some ts) = refl
 
 tokens-layout_run : (b : ℕ) (bs : List ℕ) → kind_of b ≡ Layout → tokens (b ∷ bs) ≡ tokens (drop (run_len Layout bs) bs)
 tokens-layout_run b bs k =
     tokens-first b bs
-    ∙ rw (spelled-layout b (take (run_len (kind_of b) bs) bs) (begins_gap (drop (run_len (kind_of b) bs) bs)) (kind-layout b k)) (map-nil _ ∙ ap (λ l. tokens (drop (run_len l bs) bs)) k)
+    ∙ rw (spelled-layout b (take (run_len (kind_of b) bs) bs) (begins_gap (drop (run_len (kind_of b) bs) bs)) (begins_bracket (drop (run_len (kind_of b) bs) bs)) (kind-layout b k)) (map-nil _ ∙ ap (λ l. tokens (drop (run_len l bs) bs)) k)
 
 -- layout is no token
 pub tokens-layout : (bs : List ℕ) → tokens bs ≡ tokens (drop (run_len Layout bs) bs)

@@ -1,168 +1,179 @@
-ghost use Rattle.std.specs.Prelude.{◌≡◌, ◌≢◌, ◌⊎◌, ◌↔◌, IsTrue, ℕ, ◌+◌, ◌<◌, ◌≤◌, List, [], ◌∷◌, ◌++◌, length, take, drop, slice_range, option_map, IfOk, OnOk, OnErr, IsErrOf, MatchOption};
-ghost use Rattle.std.specs.Str.{IsAscii};
-ghost use Rattle.op_logic.specs.Names.{name_at, IsTable};
-ghost use Rattle.op_reader.specs.Lexis.{name, neck, tokens};
-ghost use Rattle.op_reader.specs.Scan.{IsLexeme, HasNeither, HasNoItem, IsItem, IsClause, IsNoName, texts, AreKnown, clauses_behind};
+ghost use Rattle.std.specs.Prelude.{◌≡◌, ℕ, ◌<◌, ◌≤◌, ◌++◌, ◌∷◌, [], Some, None, length, take, drop, IfOk, OnOk, IsErrOf};
+ghost use Rattle.op_logic.specs.Term.{atom};
+ghost use Rattle.op_term.specs.Places.{term_at, args_at};
+ghost use Rattle.op_term.specs.Cells.{AllBelow};
+ghost use Rattle.op_reader.specs.Form.{calls, call_of, clause_of, IsSoundRule};
+ghost use Rattle.op_reader.specs.Sentence.{seen_tokens, AreKnown};
+ghost use Rattle.op_reader.specs.Stack.{AreSound};
+ghost use Rattle.op_reader.specs.Program.{kept_rule};
+ghost use Rattle.op_reader.specs.Clause.{predicates_of, joined_row, is_neck, IsNeckAt, IsFound, IsHead, IsBody, IsSoundAt, IsClauseRule};
 
-use crate::fault::ReadFault;
-use crate::lexis::{Lexeme, Mark, Next, next_token};
+use crate::form_fault::FormFault;
+use crate::predicate::{Predicate, predicate_of};
+use crate::rule::Rule;
+use crate::term_row::read_row;
+use crate::token::Token;
 use op_base::Memory;
-use op_term::{Sym, Symbols};
-use std::str;
+use op_term::{Builder, Sym, Term};
+use std::alloc::Global;
 
-/// A name with what delimits it, and the place behind both.
+/// The names that bodies are made of.
 #[derive(Clone, Copy, Debug)]
-struct Item {
-    name: Sym,
-    delimiter: Mark,
-    end: usize,
+pub(crate) struct Signs {
+    /// `,`
+    pub(crate) comma: Sym,
+    /// `true`
+    pub(crate) truth: Sym,
 }
 
-// The token behind `from`, where it has one of two marks.
-fn expect(bytes: &[u8], from: usize, first: Mark, second: Mark) -> Option<Lexeme>
-    requires { from ≤ length bytes.now }
-    ensures found { MatchOption result
-        (HasNeither first second (tokens (drop from bytes.now)))
-        (λ l. IsLexeme bytes.now from l × ((l.mark ≡ first) ⊎ (l.mark ≡ second))) }
+// The predicate of each node of a row, behind those that were found before.
+fn push_predicates(
+    builder: &Builder,
+    row: &[u64],
+    found: &mut Vec<Predicate>,
+) -> Result<(), FormFault>
+    requires { AllBelow (length builder.now) row.now }
+    ensures ok { OnOk result (IsFound (predicates_of (args_at builder.now row.now)) (Some []) found.old.items found.new.items) }
+    ensures form { IsErrOf result FormFault.Form → predicates_of (args_at builder.now row.now) ≡ None }
 {
-    let Next::Found(lexeme) = next_token(bytes, from) else {
-        return None;
-    };
-    if lexeme.mark == first || lexeme.mark == second {
-        Some(lexeme)
-    } else {
-        None
-    }
-}
-
-// The number of a name that stands in `bytes`.
-fn intern(symbols: &mut Symbols, bytes: &[u8], start: usize, end: usize) -> Result<Sym, Memory>
-    requires ordered { start ≤ end }
-    requires within { end ≤ length bytes.now }
-    requires ascii { IsAscii (slice_range bytes.now start end) }
-    ensures known { IfOk result (λ s. s.0 < length symbols.new) }
-    ensures named { IfOk result (λ s. name_at symbols.new s.0 ≡ slice_range bytes.now start end) }
-    ensures kept { take (length symbols.old) symbols.new ≡ symbols.old }
-    ensures table { IsTable symbols.new }
-{
-    match str::from_utf8(&bytes[start..end]) {
-        Ok(text) => symbols.intern(text),
-        Err(_) => unreachable!(),
-    }
-}
-
-// Reads a name and, behind it, `separator` or the full stop.
-fn read_item(
-    symbols: &mut Symbols,
-    bytes: &[u8],
-    from: usize,
-    separator: Mark,
-) -> Result<Item, ReadFault>
-    requires within { from ≤ length bytes.now }
-    requires no_name { separator ≢ Mark.Name }
-    ensures ok { IfOk result (λ item. IsItem symbols.new bytes.now from separator item) }
-    ensures form { IsErrOf result ReadFault.Form → HasNoItem separator (tokens (drop from bytes.now)) }
-    ensures kept { take (length symbols.old) symbols.new ≡ symbols.old }
-{
-    let Some(word) = expect(bytes, from, Mark::Name, Mark::Name) else {
-        return Err(ReadFault::Form);
-    };
-    let Some(delimiter) = expect(bytes, word.end, separator, Mark::Stop) else {
-        return Err(ReadFault::Form);
-    };
-    let name = intern(symbols, bytes, word.start, word.end)?;
-    Ok(Item {
-        name,
-        delimiter: delimiter.mark,
-        end: delimiter.end,
-    })
-}
-
-pub(crate) fn is_at_end(bytes: &[u8], at: usize) -> bool
-    requires { at ≤ length bytes.now }
-    ensures { IsTrue result ↔ (tokens (drop at bytes.now) ≡ Some []) }
-{
-    matches!(next_token(bytes, at), Next::End)
-}
-
-// Reads the goals of a body, with the full stop; answers the place behind it.
-fn read_goals(
-    symbols: &mut Symbols,
-    bytes: &[u8],
-    from: usize,
-    goals: &mut Vec<Sym>,
-) -> Result<usize, ReadFault>
-    requires within { from ≤ length bytes.now }
-    requires none { goals.old.items ≡ [] }
-    ensures further { IfOk result (λ end. from < end) }
-    ensures within { IfOk result (λ end. end ≤ length bytes.now) }
-    ensures known { OnOk result (AreKnown symbols.new goals.new.items) }
-    ensures ok { IfOk result (λ end. (h : List ℕ) →
-        clauses_behind (name h ∷ neck ∷ []) (drop from bytes.now)
-        ≡ option_map (λ rs. (h, texts symbols.new goals.new.items) ∷ rs) (clauses_behind [] (drop end bytes.now))) }
-    ensures form { IsErrOf result ReadFault.Form → (h : List ℕ) →
-        clauses_behind (name h ∷ neck ∷ []) (drop from bytes.now) ≡ None }
-    ensures kept { take (length symbols.old) symbols.new ≡ symbols.old }
-{
-    let mut at = from;
-    'body: loop {
-        let item = read_item(symbols, bytes, at, Mark::Comma)?;
-        goals.push(item.name)?;
-        at = item.end;
-        if item.delimiter == Mark::Stop {
-            return Ok(at);
+    for node in row {
+        match predicate_of(builder.node(*node)) {
+            Some(predicate) => found.push(predicate)?,
+            None => return Err(FormFault::Form),
         }
     }
+    Ok(())
 }
 
-/// A clause's head, and the place behind its full stop. Its goals lie beside it.
-#[derive(Clone, Copy, Debug)]
-pub(crate) struct Clause {
-    pub(crate) head: Sym,
-    pub(crate) end: usize,
-}
-
-/// Reads a clause, and puts the goals of its body into `goals`.
-pub(crate) fn read_clause(
-    symbols: &mut Symbols,
-    bytes: &[u8],
-    from: usize,
-    goals: &mut Vec<Sym>,
-) -> Result<Clause, ReadFault>
-    requires within { from ≤ length bytes.now }
-    requires more { tokens (drop from bytes.now) ≢ Some [] }
-    ensures ok { IfOk result (λ clause. IsClause symbols.new bytes.now from clause goals.new.items) }
-    ensures form { IsErrOf result ReadFault.Form → clauses_behind [] (drop from bytes.now) ≡ None }
-    ensures kept { take (length symbols.old) symbols.new ≡ symbols.old }
+/// Reads one call, and puts its predicate behind those that were found before.
+pub(crate) fn read_call(
+    alloc: Global,
+    tokens: &[Token],
+    found: &mut Vec<Predicate>,
+) -> Result<Term, FormFault>
+    ensures ok { IfOk result (λ t. IsHead (seen_tokens tokens.now) t found.old.items found.new.items) }
+    ensures form { IsErrOf result FormFault.Form → call_of (seen_tokens tokens.now) ≡ None }
+    ensures sound { IfOk result (λ t. (n v : ℕ) → AreKnown n v (seen_tokens tokens.now) → IsSoundAt n v t) }
 {
-    goals.clear();
-    let item = read_item(symbols, bytes, from, Mark::Neck)?;
-    if item.delimiter == Mark::Stop {
-        return Ok(Clause {
-            head: item.name,
-            end: item.end,
-        });
+    let mut builder = Builder::new(alloc);
+    let row = read_row(alloc, &mut builder, tokens)?;
+    if row.len() != 1 {
+        return Err(FormFault::Form);
     }
-    let end = read_goals(symbols, bytes, item.end, goals)?;
-    Ok(Clause {
-        head: item.name,
-        end,
-    })
+    push_predicates(&builder, &row, found)?;
+    Ok(builder.finish(row[0]))
 }
 
-/// Reads a text that is one name.
-pub(crate) fn read_name(symbols: &mut Symbols, bytes: &[u8]) -> Result<Sym, ReadFault>
-    ensures ok { IfOk result (λ s. tokens bytes.now ≡ Some (name (name_at symbols.new s.0) ∷ [])) }
-    ensures known { IfOk result (λ s. s.0 < length symbols.new) }
-    ensures form { IsErrOf result ReadFault.Form → IsNoName (tokens bytes.now) }
-    ensures kept { take (length symbols.old) symbols.new ≡ symbols.old }
-    ensures table { OnOk result (IsTable symbols.new) }
+// Joins the nodes of a row by the name `,`; the atom `true` where there are none.
+fn join(builder: &mut Builder, signs: Signs, row: &[u64]) -> Result<u64, Memory>
+    requires { AllBelow (length builder.old) row.now }
+    ensures within { IfOk result (λ at. at < length builder.new) }
+    ensures ok { IfOk result (λ at. term_at builder.new at ≡ joined_row signs.comma.0 signs.truth.0 (args_at builder.old row.now)) }
+    ensures sound { OnOk result ((n v : ℕ) → signs.comma.0 < n → signs.truth.0 < n → AreSound n v builder.old → AreSound n v builder.new) }
 {
-    let Some(word) = expect(bytes, 0, Mark::Name, Mark::Name) else {
-        return Err(ReadFault::Form);
-    };
-    if !is_at_end(bytes, word.end) {
-        return Err(ReadFault::Form);
+    if row.is_empty() {
+        let only = builder.atom(signs.truth)?;
+        return Ok(only);
     }
-    Ok(intern(symbols, bytes, word.start, word.end)?)
+    let mut left = row.len() - 1;
+    let mut body = row[left];
+    'goals: while left > 0 {
+        left -= 1;
+        body = builder.compound(signs.comma, &[row[left], body])?;
+    }
+    Ok(body)
+}
+
+// Reads the goals of a body, and puts their predicates behind those that were found before.
+fn read_body(
+    alloc: Global,
+    signs: Signs,
+    tokens: &[Token],
+    found: &mut Vec<Predicate>,
+) -> Result<Term, FormFault>
+    ensures ok { IfOk result (λ t. IsBody signs (seen_tokens tokens.now) t found.old.items found.new.items) }
+    ensures form { IsErrOf result FormFault.Form → calls (seen_tokens tokens.now) ≡ None }
+    ensures sound { IfOk result (λ t. (n v : ℕ) → signs.comma.0 < n → signs.truth.0 < n → AreKnown n v (seen_tokens tokens.now) → IsSoundAt n v t) }
+{
+    let mut builder = Builder::new(alloc);
+    let row = read_row(alloc, &mut builder, tokens)?;
+    push_predicates(&builder, &row, found)?;
+    let body = join(&mut builder, signs, &row)?;
+    Ok(builder.finish(body))
+}
+
+// The body of a fact.
+fn fact_body(alloc: Global, signs: Signs) -> Result<Term, Memory>
+    ensures { IfOk result (λ t. t ≡ atom signs.truth.0) }
+{
+    let mut builder = Builder::new(alloc);
+    let body = builder.atom(signs.truth)?;
+    Ok(builder.finish(body))
+}
+
+fn is_neck(tokens: &[Token], at: usize) -> bool
+    ensures { result ≡ is_neck (drop at tokens.now) }
+{
+    at < tokens.len() && matches!(tokens[at], Token::Neck)
+}
+
+// The place of the first neck.
+fn neck_at(tokens: &[Token]) -> Option<usize>
+    ensures { IsNeckAt tokens.now result }
+{
+    let mut at = 0;
+    while at < tokens.len() {
+        if is_neck(tokens, at) {
+            return Some(at);
+        }
+        at += 1;
+    }
+    None
+}
+
+fn front(tokens: &[Token], end: usize) -> &[Token]
+    requires { end ≤ length tokens.now }
+    ensures { result.now ≡ take end tokens.now }
+{
+    &tokens[..end]
+}
+
+fn rest(tokens: &[Token], from: usize) -> &[Token]
+    requires { from ≤ length tokens.now }
+    ensures { result.now ≡ drop from tokens.now }
+{
+    &tokens[from..]
+}
+
+/// The predicates of all heads and of all goals that were read.
+#[derive(Drop)]
+pub(crate) struct Found {
+    pub(crate) heads: Vec<Predicate>,
+    pub(crate) goals: Vec<Predicate>,
+}
+
+/// Reads the rule that the tokens of a sentence spell, of so many variables.
+pub(crate) fn read_rule(
+    alloc: Global,
+    signs: Signs,
+    tokens: &[Token],
+    vars: u64,
+    found: &mut Found,
+) -> Result<Rule, FormFault>
+    ensures ok { IfOk result (λ r. IsClauseRule signs vars (seen_tokens tokens.now) (kept_rule r) found.old found.new) }
+    ensures form { IsErrOf result FormFault.Form → clause_of vars (seen_tokens tokens.now) ≡ None }
+    ensures sound { IfOk result (λ r. (n : ℕ) → signs.comma.0 < n → signs.truth.0 < n → AreKnown n vars (seen_tokens tokens.now) → IsSoundRule n (kept_rule r)) }
+{
+    match neck_at(tokens) {
+        None => {
+            let head = read_call(alloc, tokens, &mut found.heads)?;
+            let body = fact_body(alloc, signs)?;
+            Ok(Rule { head, body, vars })
+        }
+        Some(neck) => {
+            let head = read_call(alloc, front(tokens, neck), &mut found.heads)?;
+            let body = read_body(alloc, signs, rest(tokens, neck + 1), &mut found.goals)?;
+            Ok(Rule { head, body, vars })
+        }
+    }
 }

@@ -1,3 +1,5 @@
+pub mod Operators
+mod Tables
 mod Texts
 mod Laid
 mod Nodes

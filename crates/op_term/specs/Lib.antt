@@ -1,3 +1,4 @@
 pub mod Places
 pub mod Head
 pub mod Cells
+pub mod Ops

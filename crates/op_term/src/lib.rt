@@ -3,7 +3,9 @@
 
 mod builder;
 mod fuel;
+mod meanings;
 mod node;
+mod ops;
 mod symbols;
 mod term;
 mod walk;
@@ -11,6 +13,7 @@ mod walk;
 pub use builder::Builder;
 pub use fuel::{Fuel, Spent};
 pub use node::{Node, Tree};
+pub use ops::{Meaning, OpFault, OpKind, Ops};
 pub use symbols::{Sym, Symbols};
 pub use term::{Term, Whole};
 pub use walk::WalkFault;

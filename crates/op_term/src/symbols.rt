@@ -7,7 +7,7 @@ use std::alloc::Global;
 use std::marker::Model;
 
 /// A name, by its number in a table of names.
-#[derive(Clone, Copy, Debug, PartialEq, Eq)]
+#[derive(Clone, Copy, Debug, PartialEq, Eq, Hash)]
 pub struct Sym(pub u64);
 
 /// The names of a program, each once, numbered from 0 in order of first sight. A clause sees the list of their texts.

@@ -27,17 +27,17 @@ setup = record { budget = 100; wanted = 1 }
 abbrev first_program : World
 first_program = loaded (clause 0 (codes "a") (both (name (codes "b")) (name (codes "c"))) ∷ clause 1 (codes "b") (name (codes "true")) ∷ clause 2 (codes "c") (name (codes "true")) ∷ [])
 
-pub first_events : events_of (run setup (name (codes "a")) first_program).turns
+pub first_events : events_of (run setup (name (codes "a")) 0 first_program).turns
     ≡ event 1 1 0 1 port.Call (codes "a") ∷ event 2 2 1 2 port.Call (codes "b") ∷ event 3 2 1 2 port.Exit (codes "b")
     ∷ event 4 3 1 2 port.Call (codes "c") ∷ event 5 3 1 2 port.Exit (codes "c") ∷ event 6 1 0 1 port.Exit (codes "a") ∷ []
 unfolding visit visit_by visit_with
 first_events = refl
 
-pub first_ending : (run setup (name (codes "a")) first_program).ending ≡ Stopped
+pub first_ending : (run setup (name (codes "a")) 0 first_program).ending ≡ Stopped
 unfolding visit visit_by visit_with
 first_ending = refl
 
-pub first_steps : (run setup (name (codes "a")) first_program).world.steps ≡ 10
+pub first_steps : (run setup (name (codes "a")) 0 first_program).world.steps ≡ 10
 unfolding visit visit_by visit_with
 first_steps = refl
 
@@ -46,7 +46,7 @@ abbrev second_program : World
 second_program = loaded (clause 0 (codes "p") (both (name (codes "q")) (name (codes "r"))) ∷ clause 1 (codes "q") (name (codes "true"))
     ∷ clause 2 (codes "q") (name (codes "true")) ∷ clause 3 (codes "r") (name (codes "fail")) ∷ [])
 
-pub second_events : events_of (run setup (name (codes "p")) second_program).turns
+pub second_events : events_of (run setup (name (codes "p")) 0 second_program).turns
     ≡ event 1 1 0 1 port.Call (codes "p") ∷ event 2 2 1 2 port.Call (codes "q") ∷ event 3 2 1 2 port.Exit (codes "q")
     ∷ event 4 3 1 2 port.Call (codes "r") ∷ event 5 3 1 2 port.Fail (codes "r") ∷ event 6 2 1 2 port.Redo (codes "q")
     ∷ event 7 2 1 2 port.Exit (codes "q") ∷ event 8 4 1 2 port.Call (codes "r") ∷ event 9 4 1 2 port.Fail (codes "r")
@@ -54,7 +54,7 @@ pub second_events : events_of (run setup (name (codes "p")) second_program).turn
 unfolding visit visit_by visit_with
 second_events = refl
 
-pub second_ending : (run setup (name (codes "p")) second_program).ending ≡ Failed
+pub second_ending : (run setup (name (codes "p")) 0 second_program).ending ≡ Failed
 unfolding visit visit_by visit_with
 second_ending = refl
 
@@ -65,16 +65,16 @@ loop_program = loaded (clause 0 (codes "p") (name (codes "p")) ∷ [])
 abbrev ten : Setup
 ten = record { budget = 10; wanted = 1 }
 
-pub loop_events : events_of (run ten (name (codes "p")) loop_program).turns
+pub loop_events : events_of (run ten (name (codes "p")) 0 loop_program).turns
     ≡ event 1 1 0 1 port.Call (codes "p") ∷ event 2 2 1 2 port.Call (codes "p") ∷ event 3 3 2 3 port.Call (codes "p") ∷ event 4 4 3 4 port.Call (codes "p") ∷ []
 unfolding visit visit_by visit_with
 loop_events = refl
 
-pub loop_ending : (run ten (name (codes "p")) loop_program).ending ≡ Spent
+pub loop_ending : (run ten (name (codes "p")) 0 loop_program).ending ≡ Spent
 unfolding visit visit_by visit_with
 loop_ending = refl
 
-pub loop_steps : (run ten (name (codes "p")) loop_program).world.steps ≡ 10
+pub loop_steps : (run ten (name (codes "p")) 0 loop_program).world.steps ≡ 10
 unfolding visit visit_by visit_with
 loop_steps = refl
 
@@ -91,7 +91,7 @@ abbrev shown : ℕ → ℕ → ℕ → ℕ → Port → Term Text → Event
 shown n k p d q g = record { chrono = n; call = k; parent = p; depth = d; port = q; goal = g }
 
 -- p(a,W): the goal's variable is _0, those of p's clause are _1 to _3
-pub edge_events : events_of (run setup (two (codes "p") (name (codes "a")) (var 0)) edges).turns
+pub edge_events : events_of (run setup (two (codes "p") (name (codes "a")) (var 0)) 1 edges).turns
     ≡ shown 1 1 0 1 port.Call (two (codes "p") (name (codes "a")) (var 0))
     ∷ shown 2 2 1 2 port.Call (two (codes "e") (name (codes "a")) (var 3))
     ∷ shown 3 2 1 2 port.Exit (two (codes "e") (name (codes "a")) (name (codes "b")))
@@ -101,7 +101,7 @@ pub edge_events : events_of (run setup (two (codes "p") (name (codes "a")) (var 
 unfolding visit visit_by visit_with
 edge_events = refl
 
-pub edge_steps : (run setup (two (codes "p") (name (codes "a")) (var 0)) edges).world.steps ≡ 26
+pub edge_steps : (run setup (two (codes "p") (name (codes "a")) (var 0)) 1 edges).world.steps ≡ 26
 unfolding visit visit_by visit_with
 edge_steps = refl
 
@@ -110,7 +110,7 @@ abbrev circle : World
 circle = loaded (record { id = 0; head = two (codes "s") (var 0) (node (codes "f") (arg (var 0) no_args)); body = name (codes "true"); variables = 1 }
     ∷ record { id = 1; head = name (codes "p"); body = two (codes "s") (var 0) (var 0); variables = 1 } ∷ [])
 
-pub circle_events : events_of (run setup (name (codes "p")) circle).turns
+pub circle_events : events_of (run setup (name (codes "p")) 0 circle).turns
     ≡ shown 1 1 0 1 port.Call (name (codes "p")) ∷ shown 2 2 1 2 port.Call (two (codes "s") (var 0) (var 0))
     ∷ shown 3 2 1 2 port.Fail (two (codes "s") (var 0) (var 0)) ∷ shown 4 1 0 1 port.Fail (name (codes "p")) ∷ []
 unfolding visit visit_by visit_with

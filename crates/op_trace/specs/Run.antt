@@ -1,6 +1,6 @@
 -- A run: its turns in order, its ending, and the world at its end.
 use Rattle.std.specs.Prelude.{ℕ, ◌-◌, nat_le, List, [], ◌∷◌, if◌then◌else◌, slice_index_or}
-use Rattle.op_logic.specs.Term.{Term, variable_count}
+use Rattle.op_logic.specs.Term.{Term}
 use Rattle.op_trace.specs.World.{Text, World, Setup, Call, Goal, Event, Turn, Shown, Solved}
 use Rattle.op_trace.specs.Visit.{Verdict, Visited, visit}
 use Rattle.op_trace.specs.Visit as verdict
@@ -19,13 +19,13 @@ pub record Run : Type 0 where
 abbrev pub ran : Visited → Run
 ran v = record { turns = v.turns; ending = ending_of v.verdict; world = v.world }
 
--- a world in which the goal's variables alone were given out
-abbrev pub started : Term Text → World → World
-started g w = record w { variables = variable_count g }
+-- a world in which the goal's variables alone were given out, so many of them
+abbrev pub started : ℕ → World → World
+started n w = record w { variables = n }
 
--- the run of a converted goal, its variables numbered from 0 in order of first occurrence, from a world in which nothing was run yet
-abbrev pub run : Setup → Term Text → World → Run
-run s g w = ran (visit s (Goal g (Call 0) ∷ []) [] (started g w))
+-- the run of a converted goal, its n variables numbered from 0 in order of first occurrence, from a world in which nothing was run yet
+abbrev pub run : Setup → Term Text → ℕ → World → Run
+run s g n w = ran (visit s (Goal g (Call 0) ∷ []) [] (started n w))
 
 -- the events, and the worlds at them
 abbrev pub events_of : List Turn → List Event

@@ -2,6 +2,7 @@
 use Rattle.std.proofs.Common.{◌≡◌, ℕ, zero, suc, ◌+◌, ◌-◌, ◌<◌, ◌≤◌, max, Bool, true, false, List, [], ◌∷◌, length, drop, get_or, Option, Some, None, is_some, nat_le, cond, refl, sym, ap, ◌∙◌, subst, arith, add-one}
 use Rattle.std.specs.Prelude.{slice_index_or}
 use Rattle.std.proofs.lemmas.Bool.Decides.{nat_tests}
+use Rattle.op_term.specs.Ops.{Table}
 use Rattle.op_trace.specs.World.{World, Event, loaded}
 use Rattle.op_trace.specs.Run.{Run, events_of, worlds_of, steps_at}
 use Rattle.op_trace.specs.Ending as ending
@@ -77,8 +78,8 @@ next_here run p h = rw (le_true (p + 1) (event_count run) (omega arith)) refl
 pub next_past : (run : Run) (p : ℕ) → event_count run ≤ p → next_from run p ≡ end_found run.ending
 next_past run p h = rw (le_false (p + 1) (event_count run) (omega arith)) refl
 
-pub finds_event : (run : Run) (s : Stand) (k n : Kept) → Feeds run s (record { machine = k; ended = None }) → ShowsEvent k n → k.steps ≤ n.steps → ArrivesAt run s (record { machine = n; ended = None })
-finds_event run s k n f e later =
+pub finds_event : (run : Run) (s : Stand) (t : Table) (k n : Kept) → Feeds run s (record { machine = k; ops = t; ended = None }) → ShowsEvent k n → k.steps ≤ n.steps → ArrivesAt run s (record { machine = n; ops = t; ended = None })
+finds_event run s t k n f e later =
     let here = f.events ∙ e.events in
     let worlds = f.worlds ∙ e.worlds in
     let g = goes_on (events_of run.turns) s.place (event_now n) (events_of (to_come n).turns) here in
@@ -99,6 +100,7 @@ finds_event run s k n f e later =
           steps = rw most (sym steps);
           least = omega (arith, steps);
           looked = most;
+          operators = f.operators;
         };
       };
       here = e.here;
@@ -106,8 +108,8 @@ finds_event run s k n f e later =
     }
 
 -- the end is found, where nothing stands behind the place
-pub finds_end : (run : Run) (s : Stand) (k n : Kept) (e : Ending) → Feeds run s (record { machine = k; ended = None }) → ShowsEnd k n e → k.steps ≤ n.steps → Arrives run s (record { machine = n; ended = Some e }) (end_found run.ending)
-finds_end run s k n e f h later =
+pub finds_end : (run : Run) (s : Stand) (t : Table) (k n : Kept) (e : Ending) → Feeds run s (record { machine = k; ops = t; ended = None }) → ShowsEnd k n e → k.steps ≤ n.steps → Arrives run s (record { machine = n; ops = t; ended = Some e }) (end_found run.ending)
+finds_end run s t k n e f h later =
     let none : drop s.place (events_of run.turns) ≡ [] = f.events ∙ h.none in
     let no_worlds : drop s.place (worlds_of run.turns) ≡ [] = f.worlds ∙ h.no_worlds in
     let past = at_end_of (events_of run.turns) s.place none in
@@ -128,12 +130,13 @@ finds_end run s k n e f h later =
         steps = rw (← place) (sym (steps ∙ world));
         least = omega arith;
         looked = record { furthest = refl; place = place; ending = f.ending ∙ h.ending };
+        operators = f.operators;
       });
     }
 
 -- and again
-pub finds_end_again : (run : Run) (s : Stand) (k : Kept) (e : Ending) → Feeds run s (record { machine = k; ended = Some e }) → Arrives run s (record { machine = k; ended = Some e }) (end_found run.ending)
-finds_end_again run s k e f =
+pub finds_end_again : (run : Run) (s : Stand) (t : Table) (k : Kept) (e : Ending) → Feeds run s (record { machine = k; ops = t; ended = Some e }) → Arrives run s (record { machine = k; ops = t; ended = Some e }) (end_found run.ending)
+finds_end_again run s t k e f =
     let looked : AtEnd run s e = f.looked in
     let place = looked.place in
     record {
@@ -147,6 +150,7 @@ finds_end_again run s k e f =
         steps = rw (← looked.furthest) f.steps;
         least = f.least;
         looked = record { furthest = refl; place = looked.place; ending = looked.ending };
+        operators = f.operators;
       });
     }
 
@@ -156,15 +160,15 @@ finds_by run s feed outcome.Failed h a = subst (λ x. Arrives run s feed (end_fo
 finds_by run s feed outcome.Spent h a = subst (λ x. Arrives run s feed (end_found x)) h a
 
 -- after the machine was asked
-pub finds_asked : (run : Run) (s : Stand) (k n : Kept) (was o : Option Ending) → is_some was ≡ false → Feeds run s (record { machine = k; ended = was }) → Shows k n o → k.steps ≤ n.steps → Finds run s (record { machine = n; ended = o }) (next_of o)
-finds_asked run s k n (Some e) o none f h later = absurd cc
-finds_asked run s k n None None none f h later = finds_event run s k n f h later
-finds_asked run s k n None (Some e) none f h later = finds_by run s _ e (f.ending ∙ h.ending) (finds_end run s k n e f h later)
+pub finds_asked : (run : Run) (s : Stand) (t : Table) (k n : Kept) (was o : Option Ending) → is_some was ≡ false → Feeds run s (record { machine = k; ops = t; ended = was }) → Shows k n o → k.steps ≤ n.steps → Finds run s (record { machine = n; ops = t; ended = o }) (next_of o)
+finds_asked run s t k n (Some e) o none f h later = absurd cc
+finds_asked run s t k n None None none f h later = finds_event run s t k n f h later
+finds_asked run s t k n None (Some e) none f h later = finds_by run s _ e (f.ending ∙ h.ending) (finds_end run s t k n e f h later)
 
 -- after it was not
-pub finds_known : (run : Run) (s : Stand) (k : Kept) (o : Option Ending) → is_some o ≡ true → Feeds run s (record { machine = k; ended = o }) → Finds run s (record { machine = k; ended = o }) (next_of o)
-finds_known run s k None some f = absurd cc
-finds_known run s k (Some e) some f = let l : AtEnd run s e = f.looked in finds_by run s _ e l.ending (finds_end_again run s k e f)
+pub finds_known : (run : Run) (s : Stand) (t : Table) (k : Kept) (o : Option Ending) → is_some o ≡ true → Feeds run s (record { machine = k; ops = t; ended = o }) → Finds run s (record { machine = k; ops = t; ended = o }) (next_of o)
+finds_known run s t k None some f = absurd cc
+finds_known run s t k (Some e) some f = let l : AtEnd run s e = f.looked in finds_by run s _ e l.ending (finds_end_again run s t k e f)
 
 pub here_asked : (k n : Kept) (o : Option Ending) → Shows k n o → IsHere (next_of o) n
 here_asked k n None h = h.here

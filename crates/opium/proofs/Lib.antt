@@ -2,6 +2,7 @@ pub mod Stopping
 pub mod Feeds
 pub mod Texts
 pub mod Saying
+pub mod Lines
 pub mod Holding
 pub mod NoEnd
 pub mod Finishing

@@ -3,13 +3,11 @@ use Rattle.std.proofs.Common.{◌≡◌, ◌||◌, ℕ, suc, ◌<◌, ◌≤◌,
 use Rattle.std.specs.Prelude.{nat_lt, option_and_then, bytes_eq}
 use Rattle.std.specs.List.{list_any}
 use Rattle.std.proofs.lemmas.Bool.Decides.{nat_tests}
-use Rattle.op_logic.specs.Term.{atom}
 use Rattle.op_desk.specs.Contents.{Known, Files, bytes_of, IsFile, IsLonger, IsMissing}
-use Rattle.op_reader.specs.Form.{Rule, is_known, is_control, only_goal, goal_of, program_of}
-use Rattle.op_reader.specs.Lexis.{Token, name as word, neck, comma, stop, tokens}
+use Rattle.op_reader.specs.Form.{Rule, Query, goal_of, program_of}
 use Rattle.op_trace.specs.World.{Text, Clause, loaded}
 use Rattle.op_trace.specs.Run.{run}
-use Rattle.op_machine.specs.Program.{clause_of, clauses_from, program_clauses}
+use Rattle.op_machine.specs.Loaded.{program_clauses}
 use Rattle.opium.specs.declared.status.Status.{Status}
 use Rattle.opium.specs.declared.status.Status.TheVariants as status
 use Rattle.opium.specs.Call.{Outcome, Line, Session, file_limit, with_bytes, with_rules, with_goal, outcome_of, load_line, long_line}
@@ -50,54 +48,15 @@ pub outcome_missing : (shelf : Option Files) (name goal : List ℕ) → IsMissin
 outcome_missing None name goal h = absurd h
 outcome_missing (Some files) name goal h = subst (λ o. HasFile (with_bytes name goal o) → ⊥) (sym h) (λ f. f)
 
--- clauses say which goals are known
-heads_known : (i : ℕ) (rs qs : List (Rule Text)) (g : Text) → clauses_from i rs ≡ clauses_from i qs → list_any (λ (r : Rule Text). bytes_eq r.0 g) rs ≡ list_any (λ (r : Rule Text). bytes_eq r.0 g) qs
-heads_known i [] [] g h = refl
-heads_known i [] (q ∷ qs) g h = absurd cc
-heads_known i (r ∷ rs) [] g h = absurd cc
-heads_known i (r ∷ rs) (q ∷ qs) g h =
-    let first : clause_of i r ≡ clause_of i q = cc in
-    let rest : clauses_from (suc i) rs ≡ clauses_from (suc i) qs = cc in
-    let heads : atom r.0 ≡ atom q.0 = ap (λ (c : Clause). c.head) first in
-    let names : r.0 ≡ q.0 = cc in
-    ap (λ x. bytes_eq x g || list_any (λ (r : Rule Text). bytes_eq r.0 g) rs) names ∙ ap (λ b. bytes_eq q.0 g || b) (heads_known (suc i) rs qs g rest)
+-- the program was read, or refused
+pub outcome_loaded : (name goal : List ℕ) (o : Option (List (Rule Text))) (rs : List (Rule Text)) → o ≡ Some rs → with_goal rs (goal_of rs goal) ≡ with_rules name goal o
+outcome_loaded name goal o rs e = sym (ap (with_rules name goal) e)
 
-known_same : (rs qs : List (Rule Text)) (g : Text) → program_clauses rs ≡ program_clauses qs → is_known rs g ≡ is_known qs g
-known_same rs qs g h = ap (λ b. is_control g || b) (heads_known 0 rs qs g h)
-
-only_same : (rs qs : List (Rule Text)) (ts : List Token) → program_clauses rs ≡ program_clauses qs → only_goal rs ts ≡ only_goal qs ts
-only_same rs qs (word g ∷ []) h = ap (λ b. cond b (Some g) None) (known_same rs qs g h)
-only_same rs qs [] h = refl
-only_same rs qs (word g ∷ t ∷ ts) h = refl
-only_same rs qs (neck ∷ ts) h = refl
-only_same rs qs (comma ∷ ts) h = refl
-only_same rs qs (stop ∷ ts) h = refl
-
-goal_same : (rs qs : List (Rule Text)) (bs : List ℕ) → program_clauses rs ≡ program_clauses qs → goal_of rs bs ≡ goal_of qs bs
-unfolding goal_of
-goal_same rs qs bs h = by (tokens bs)
-  where
-    by : (o : Option (List Token)) → option_and_then (only_goal rs) o ≡ option_and_then (only_goal qs) o
-    by None = refl
-    by (Some ts) = only_same rs qs ts h
-
-with_same : (rs qs : List (Rule Text)) (o : Option Text) → program_clauses rs ≡ program_clauses qs → with_goal rs o ≡ with_goal qs o
-with_same rs qs None h = refl
-with_same rs qs (Some g) h = ap (λ cs. Session (run (record { budget = 10000000; wanted = 1 }) (atom g) (loaded cs))) h
-
--- the clauses were loaded
-pub outcome_loaded : (name goal : List ℕ) (o : Option (List (Rule Text))) (qs : List (Rule Text)) → option_map program_clauses o ≡ Some (program_clauses qs) → with_goal qs (goal_of qs goal) ≡ with_rules name goal o
-outcome_loaded name goal None qs h = absurd cc
-outcome_loaded name goal (Some rs) qs h =
-    let e : program_clauses rs ≡ program_clauses qs = cc in
-    sym (with_same rs qs (goal_of rs goal) e ∙ ap (with_goal qs) (goal_same rs qs goal e))
-
-pub outcome_refused : (name goal : List ℕ) (o : Option (List (Rule Text))) → option_map program_clauses o ≡ None → Line status.Load (load_line name) ≡ with_rules name goal o
-outcome_refused name goal None h = refl
-outcome_refused name goal (Some rs) h = absurd cc
+pub outcome_refused : (name goal : List ℕ) (o : Option (List (Rule Text))) → o ≡ None → Line status.Load (load_line name) ≡ with_rules name goal o
+outcome_refused name goal o e = sym (ap (with_rules name goal) e)
 
 -- a program that was read is no fault of the words
-no_usage_goal : (rs : List (Rule Text)) (o : Option Text) → IsUsage (with_goal rs o) → ⊥
+no_usage_goal : (rs : List (Rule Text)) (o : Option (Query Text)) → IsUsage (with_goal rs o) → ⊥
 no_usage_goal rs None h = h
 no_usage_goal rs (Some g) h = h
 
@@ -128,10 +87,13 @@ by_shelf None f P h = tt
 by_shelf (Some files) f P h = h
 
 -- the goal was read, or refused
-pub outcome_session : (rs : List (Rule Text)) (o : Option Text) (g : Text) (cs : List Clause) → o ≡ Some g → cs ≡ program_clauses rs → Session (run (record { budget = 10000000; wanted = 1 }) (atom g) (loaded cs)) ≡ with_goal rs o
-outcome_session rs o g cs e h = ap (λ cs. Session (run (record { budget = 10000000; wanted = 1 }) (atom g) (loaded cs))) h ∙ sym (ap (with_goal rs) e)
+abbrev pub session_of : Query Text → List Clause → Outcome
+session_of q cs = Session (run (record { budget = 10000000; wanted = 1 }) q.goal q.variables (loaded cs))
 
-pub outcome_no_goal : (rs : List (Rule Text)) (o : Option Text) → o ≡ None → Line status.Load (load_line (codes "(goal)")) ≡ with_goal rs o
+pub outcome_session : (rs : List (Rule Text)) (o : Option (Query Text)) (q : Query Text) (cs : List Clause) → o ≡ Some q → cs ≡ program_clauses rs → session_of q cs ≡ with_goal rs o
+outcome_session rs o q cs e h = ap (session_of q) h ∙ sym (ap (with_goal rs) e)
+
+pub outcome_no_goal : (rs : List (Rule Text)) (o : Option (Query Text)) → o ≡ None → Line status.Load (load_line (codes "(goal)")) ≡ with_goal rs o
 outcome_no_goal rs o e = sym (ap (with_goal rs) e)
 
 pub renamed : (x y : Outcome) (s : Status) (a b : Sight) (before after : ℕ) → x ≡ y → Leaves (Some x) s a b before after → Leaves (Some y) s a b before after

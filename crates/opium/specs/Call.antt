@@ -1,11 +1,10 @@
 -- What a call of the program does by its words and the shelf.
 use Rattle.std.specs.Prelude.{ℕ, nat_lt, List, [], ◌∷◌, ◌++◌, length, codes, Option, Some, None, if◌then◌else◌}
-use Rattle.op_logic.specs.Term.{atom}
 use Rattle.op_desk.specs.Contents.{Files, bytes_of}
-use Rattle.op_reader.specs.Form.{Rule, program_of, goal_of}
+use Rattle.op_reader.specs.Form.{Rule, Query, program_of, goal_of}
 use Rattle.op_trace.specs.World.{Text, loaded}
 use Rattle.op_trace.specs.Run.{Run, run}
-use Rattle.op_machine.specs.Program.{program_clauses}
+use Rattle.op_machine.specs.Loaded.{program_clauses}
 use Rattle.opium.specs.declared.status.Status.{Status}
 use Rattle.opium.specs.declared.status.Status.TheVariants as status
 
@@ -29,12 +28,12 @@ abbrev pub long_line : List ℕ → List ℕ
 long_line name = codes "opium: too long " ++ name ++ codes "\n"
 
 -- the run of a goal: ten million steps, up to its first solution
-abbrev pub run_of : List (Rule Text) → Text → Run
-run_of rules goal = run (record { budget = 10000000; wanted = 1 }) (atom goal) (loaded (program_clauses rules))
+abbrev pub run_of : List (Rule Text) → Query Text → Run
+run_of rules q = run (record { budget = 10000000; wanted = 1 }) q.goal q.variables (loaded (program_clauses rules))
 
-abbrev pub with_goal : List (Rule Text) → Option Text → Outcome
+abbrev pub with_goal : List (Rule Text) → Option (Query Text) → Outcome
 with_goal rules None = Line status.Load (load_line (codes "(goal)"))
-with_goal rules (Some goal) = Session (run_of rules goal)
+with_goal rules (Some q) = Session (run_of rules q)
 
 abbrev pub with_rules : List ℕ → List ℕ → Option (List (Rule Text)) → Outcome
 with_rules name goal None = Line status.Load (load_line name)

@@ -1,5 +1,6 @@
 -- What the feed of a run's events keeps.
 use Rattle.std.specs.Prelude.{◌≡◌, ◌+◌, ◌≤◌, true, [], ◌∷◌, drop, Option, Some, None}
+use Rattle.op_term.specs.Ops.{iso_table}
 use Rattle.op_trace.specs.World.{loaded}
 use Rattle.op_trace.specs.Run.{Run, events_of, worlds_of, steps_at}
 use Rattle.op_machine.specs.declared.core_state.Ending.{Ending}
@@ -32,6 +33,7 @@ pub record Feeds (run : Run) (s : Stand) (feed : Feed) : Type 0 where
   pub steps : feed.machine.steps ≡ steps_at (loaded []) run s.furthest
   pub least : steps_at (loaded []) run s.place ≤ feed.machine.steps
   pub looked : Looked run s feed.ended
+  pub operators : feed.ops ≡ iso_table
 
 -- a machine went on to its next event
 pub record ShowsEvent (old new : Kept) : Type 0 where

@@ -1,4 +1,5 @@
 ghost use Rattle.std.specs.Prelude.{◌≡◌, ℕ, OnOk, IfOk};
+ghost use Rattle.op_term.specs.Ops.{iso_table};
 ghost use Rattle.op_trace.specs.Run.{Run};
 ghost use Rattle.op_machine.specs.Machine.{event_now};
 ghost use Rattle.opium.specs.Moves.{Stand};
@@ -27,6 +28,7 @@ pub fn give_answer<D: Desk, L: Ledger>(
     desk: &mut D,
     steps: &mut Steps<L>,
 ) -> Result<(), Status>
+    requires { feed.old.ops ≡ iso_table }
     ensures { (run : Run) (s : Stand) → Feeds run s feed.old → Gives run s text.now feed.old feed.new steps.old steps.new
         (sight (D.left desk.old) (D.written desk.old) (D.shelf desk.old) (D.steady desk.old) (D.read_faults desk.old) (D.write_faults desk.old))
         (sight (D.left desk.new) (D.written desk.new) (D.shelf desk.new) (D.steady desk.new) (D.read_faults desk.new) (D.write_faults desk.new)) result }
@@ -41,6 +43,7 @@ fn answer<L: Ledger>(
     text: &[u8],
     steps: &mut Steps<L>,
 ) -> Result<Bytes, Memory>
+    requires { feed.old.ops ≡ iso_table }
     ensures told { (run : Run) (s : Stand) → Feeds run s feed.old → IfOk result (λ answer. Told run s text.now answer feed.new) }
     ensures pays { OnOk result (Pays feed.old feed.new steps.old steps.new) }
 {
@@ -54,13 +57,14 @@ fn answer<L: Ledger>(
 }
 
 fn next_text(alloc: Global, feed: &Feed, next: Next) -> Result<Bytes, Memory>
-    requires { IsHere next feed.now.machine }
+    requires here { IsHere next feed.now.machine }
+    requires operators { feed.now.ops ≡ iso_table }
     ensures { IfOk result (λ answer. answer ≡ text_of next (event_now feed.now.machine)) }
 {
     let mut answer = Bytes::new(alloc);
     match next {
         Next::Event => {
-            add_line(&mut answer, &feed.event())?;
+            add_line(alloc, &mut answer, &feed.event(), &feed.ops)?;
             answer.append(b"\nyes\n")?;
         }
         Next::NoEvent => answer.append(b"no\n")?,

@@ -1,9 +1,10 @@
 ghost use Rattle.std.specs.Prelude.{◌≡◌, ◌≢◌, ℕ, ◌+◌, ◌≤◌, ◌∷◌, [], Some, None, option_map, IfOk, IsErrOf, true, map, string_bytes, IsTrue, length};
 ghost use Rattle.op_desk.specs.Frame.{Each};
 ghost use Rattle.op_desk.specs.declared.chan.Chan.{Chan};
-ghost use Rattle.op_reader.specs.Form.{named_rules, program_of, goal_of};
+ghost use Rattle.op_reader.specs.Form.{program_of, goal_of};
 ghost use Rattle.op_trace.specs.World.{loaded};
-ghost use Rattle.op_machine.specs.Program.{clauses, clauses_in};
+ghost use Rattle.op_machine.specs.Program.{clauses};
+ghost use Rattle.op_machine.specs.Loaded.{text_rules, program_clauses};
 ghost use Rattle.opium.specs.Call.{outcome_of, with_rules, with_goal};
 ghost use Rattle.opium.specs.Progress.{Leaves};
 ghost use Rattle.opium.specs.Promise.{WhenTold, DoneAs, CostsAs, BrokenAs, TooLongAs, RefusedAs, IsBroken, IsRefused, IsWordsRefusal, CountsAs, IsFaultless, HasFile};
@@ -15,7 +16,7 @@ use crate::talk::{ended_as, read_file, say, say_name};
 use op_base::Steps;
 use op_desk::Desk;
 use op_machine::Store;
-use op_reader::ReadFault;
+use op_reader::FormFault;
 use std::alloc::Global;
 use std::sync::ledger::Ledger;
 
@@ -99,18 +100,19 @@ fn answer_text<D: Desk, L: Ledger>(
 {
     match store_of(alloc, text) {
         Ok(store) => answer_goal(alloc, store, goal, desk, steps),
-        Err(ReadFault::Form) => ended_as(
+        Err(FormFault::Form) => ended_as(
             Status::Load,
             say_name(alloc, desk, b"opium: load ", program, b":1 form\n"),
         ),
-        Err(ReadFault::Memory) => Status::Memory,
+        Err(FormFault::Memory) => Status::Memory,
     }
 }
 
 // A store with the clauses of a text.
-fn store_of(alloc: Global, text: &[u8]) -> Result<Store, ReadFault>
-    ensures ok { IfOk result (λ s. clauses_in text.now ≡ Some (clauses s)) }
-    ensures form { IsErrOf result ReadFault.Form → clauses_in text.now ≡ None }
+fn store_of(alloc: Global, text: &[u8]) -> Result<Store, FormFault>
+    ensures ok { IfOk result (λ s. program_of text.now ≡ Some (text_rules s)) }
+    ensures numbered { IfOk result (λ s. clauses s ≡ program_clauses (text_rules s)) }
+    ensures form { IsErrOf result FormFault.Form → program_of text.now ≡ None }
 {
     let mut store = Store::new(alloc)?;
     store.load(text)?;
@@ -125,13 +127,14 @@ fn answer_goal<D: Desk, L: Ledger>(
     desk: &mut D,
     steps: &mut Steps<L>,
 ) -> Status
-    ensures { Leaves (Some (with_goal (named_rules store.names store.rules) (goal_of (named_rules store.names store.rules) goal.now))) result
+    requires { clauses store ≡ program_clauses (text_rules store) }
+    ensures { Leaves (Some (with_goal (text_rules store) (goal_of (text_rules store) goal.now))) result
         (sight (D.left desk.old) (D.written desk.old) (D.shelf desk.old) (D.steady desk.old) (D.read_faults desk.old) (D.write_faults desk.old))
         (sight (D.left desk.new) (D.written desk.new) (D.shelf desk.new) (D.steady desk.new) (D.read_faults desk.new) (D.write_faults desk.new)) steps.old steps.new }
 {
     match store.goal(goal.as_bytes()) {
         Ok(goal) => session(alloc, store, goal, BUDGET, desk, steps),
-        Err(ReadFault::Form) => ended_as(Status::Load, say(desk, b"opium: load (goal):1 form\n")),
-        Err(ReadFault::Memory) => Status::Memory,
+        Err(FormFault::Form) => ended_as(Status::Load, say(desk, b"opium: load (goal):1 form\n")),
+        Err(FormFault::Memory) => Status::Memory,
     }
 }

@@ -1,4 +1,5 @@
 ghost use Rattle.std.specs.Prelude.{◌≡◌, ℕ, ◌+◌, ◌-◌, ◌≤◌, true, IfOk, OnOk, IsTrue};
+ghost use Rattle.op_term.specs.Ops.{iso_table};
 ghost use Rattle.op_trace.specs.Run.{Run};
 ghost use Rattle.op_machine.specs.Machine.{to_come, has_event, event_now};
 ghost use Rattle.op_machine.specs.View.{event_in};
@@ -7,6 +8,7 @@ ghost use Rattle.opium.specs.Feeding.{Feeds, Finds, Shows, IsHere, next_of};
 
 use op_base::{Memory, Steps};
 use op_machine::{Ending, EventView, Host, Machine, Turn};
+use op_term::Ops;
 use std::sync::ledger::Ledger;
 
 /// The events of a run in order, one at a time. The machine is asked for a turn only where an event is asked for, and no
@@ -14,6 +16,7 @@ use std::sync::ledger::Ledger;
 #[derive(Drop)]
 pub struct Feed {
     pub machine: Machine,
+    pub ops: Ops,
     pub ended: Option<Ending>,
 }
 
@@ -29,14 +32,16 @@ pub enum Next {
 }
 
 impl Feed {
-    /// A feed before the first event of a machine that made no step.
-    pub fn new(machine: Machine) -> Feed
-        requires { machine.steps ≡ 0 }
+    /// A feed before the first event of a machine that made no step. Events are written with these operators.
+    pub fn new(machine: Machine, ops: Ops) -> Feed
+        requires steps { machine.steps ≡ 0 }
+        requires operators { ops ≡ iso_table }
         ensures feeds { Feeds (to_come machine) at_start result }
         ensures steps { result.machine.steps ≡ 0 }
     {
         Feed {
             machine,
+            ops,
             ended: None,
         }
     }
@@ -45,6 +50,7 @@ impl Feed {
     pub fn next<L: Ledger>(&mut self, steps: &mut Steps<L>) -> Result<Next, Memory>
         ensures finds { (run : Run) (s : Stand) → Feeds run s self.old → IfOk result (λ next. Finds run s self.new next) }
         ensures here { IfOk result (λ next. IsHere next self.new.machine) }
+        ensures operators { self.new.ops ≡ self.old.ops }
         ensures cost { OnOk result (steps.new ≡ steps.old + (self.new.machine.steps - self.old.machine.steps)) }
         ensures later { OnOk result (self.old.machine.steps ≤ self.new.machine.steps) }
     {
@@ -73,7 +79,7 @@ fn next_by(ended: Option<Ending>) -> Next
     }
 }
 
-// A propositional program asks nothing of what lies outside it.
+// A program without builtins asks nothing of what lies outside it.
 #[derive(Drop)]
 struct Nothing;
 

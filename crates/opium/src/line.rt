@@ -1,4 +1,5 @@
 ghost use Rattle.std.specs.Prelude.{◌≡◌, ◌++◌, decimal, OnOk};
+ghost use Rattle.op_term.specs.Ops.{iso_table};
 ghost use Rattle.op_machine.specs.View.{event_in};
 ghost use Rattle.opium.specs.Line.{event_line, port_word as the_word, space};
 
@@ -6,10 +7,19 @@ use itoa::Buffer;
 use op_base::Memory;
 use op_desk::Bytes;
 use op_machine::EventView;
+use op_term::Ops;
 use op_trace::Port;
+use op_writer::write_cut;
+use std::alloc::Global;
 
 /// Adds the line of an event: its number, its box's call number and depth, the port and the goal, without a newline.
-pub fn add_line(line: &mut Bytes, event: &EventView<'_>) -> Result<(), Memory>
+pub fn add_line(
+    alloc: Global,
+    line: &mut Bytes,
+    event: &EventView<'_>,
+    ops: &Ops,
+) -> Result<(), Memory>
+    requires { ops.now ≡ iso_table }
     ensures { OnOk result (line.new ≡ line.old ++ event_line (event_in event.now)) }
 {
     add_number(line, event.chrono())?;
@@ -17,7 +27,16 @@ pub fn add_line(line: &mut Bytes, event: &EventView<'_>) -> Result<(), Memory>
     add_number(line, event.depth())?;
     line.append(port_word(event.port()))?;
     line.append(b" ")?;
-    line.append(event.goal().as_bytes())
+    write_cut(
+        alloc,
+        ops,
+        event.symbols(),
+        event.bindings(),
+        &event.goal(),
+        1200,
+        false,
+        line,
+    )
 }
 
 // A number and a space.

@@ -1,10 +1,11 @@
-ghost use Rattle.std.specs.Prelude.{◌≡◌, ℕ, ◌<◌, ◌≤◌, Some, length};
+ghost use Rattle.std.specs.Prelude.{◌≡◌, ℕ, ◌<◌, ◌≤◌, Some, length, IfOk};
 ghost use Rattle.std.specs.Io.KnownBytes.{IsAtEnd};
 ghost use Rattle.op_desk.specs.declared.chan.Chan.{Chan};
+ghost use Rattle.op_term.specs.Ops.{iso_table};
 ghost use Rattle.op_trace.specs.Run.{Run, run};
 ghost use Rattle.op_trace.specs.World.{loaded};
 ghost use Rattle.op_machine.specs.Machine.{to_come};
-ghost use Rattle.op_machine.specs.Program.{clauses, goal_named};
+ghost use Rattle.op_machine.specs.Program.{clauses, goal_named, IsQuery};
 ghost use Rattle.op_token.specs.Cut.{IsOpen};
 ghost use Rattle.opium.specs.Call.{Session, channel_limit};
 ghost use Rattle.opium.specs.Promise.{too_long_line};
@@ -18,6 +19,7 @@ use crate::talk::{ended_as, say, take_byte};
 use op_base::{Memory, Steps};
 use op_desk::Desk;
 use op_machine::{Goal, Machine, Store};
+use op_term::Ops;
 use op_token::{Cutter, Piece};
 use std::alloc::Global;
 use std::sync::ledger::Ledger;
@@ -33,7 +35,8 @@ fn answer_byte<D: Desk, L: Ledger>(
     desk: &mut D,
     steps: &mut Steps<L>,
 ) -> Result<bool, Status>
-    requires { IsOpen cutter.old }
+    requires open { IsOpen cutter.old }
+    requires operators { feed.old.ops ≡ iso_table }
     ensures { (run : Run) (a : Sight) (n before : ℕ)
         → Holds run a (sight (D.left desk.old) (D.written desk.old) (D.shelf desk.old) (D.steady desk.old) (D.read_faults desk.old) (D.write_faults desk.old)) n before steps.old cutter.old feed.old
         → Goes run a n before (sight (D.left desk.new) (D.written desk.new) (D.shelf desk.new) (D.steady desk.new) (D.read_faults desk.new) (D.write_faults desk.new)) steps.new cutter.new feed.new result }
@@ -56,6 +59,7 @@ fn answer_rest<D: Desk, L: Ledger>(
     desk: &mut D,
     steps: &mut Steps<L>,
 ) -> Result<(), Status>
+    requires { feed.old.ops ≡ iso_table }
     ensures { (run : Run) (a : Sight) (n before : ℕ) → n < channel_limit → IsAtEnd (D.left desk.old Chan.Commands)
         → Holds run a (sight (D.left desk.old) (D.written desk.old) (D.shelf desk.old) (D.steady desk.old) (D.read_faults desk.old) (D.write_faults desk.old)) n before steps.old cutter.now feed.old
         → Ends run a before (sight (D.left desk.new) (D.written desk.new) (D.shelf desk.new) (D.steady desk.new) (D.read_faults desk.new) (D.write_faults desk.new)) steps.new result }
@@ -79,15 +83,17 @@ fn refuse_more<D: Desk>(desk: &mut D) -> Result<(), Status>
 fn answer_all<D: Desk, L: Ledger>(
     alloc: Global,
     machine: Machine,
+    ops: Ops,
     desk: &mut D,
     steps: &mut Steps<L>,
 ) -> Status
-    requires { machine.steps ≡ 0 }
+    requires steps { machine.steps ≡ 0 }
+    requires operators { ops ≡ iso_table }
     ensures { Leaves (Some (Session (to_come machine))) result
         (sight (D.left desk.old) (D.written desk.old) (D.shelf desk.old) (D.steady desk.old) (D.read_faults desk.old) (D.write_faults desk.old))
         (sight (D.left desk.new) (D.written desk.new) (D.shelf desk.new) (D.steady desk.new) (D.read_faults desk.new) (D.write_faults desk.new)) steps.old steps.new }
 {
-    let mut feed = Feed::new(machine);
+    let mut feed = Feed::new(machine, ops);
     let mut cutter = Cutter::new(alloc);
     for _ in 0..CHANNEL_LIMIT {
         match answer_byte(alloc, &mut feed, &mut cutter, desk, steps) {
@@ -104,6 +110,21 @@ fn answer_all<D: Desk, L: Ledger>(
     ended_as(Status::TooLong, refuse_more(desk))
 }
 
+// A machine that has made no step, and the operators that events are written with.
+fn begin(alloc: Global, store: Store, goal: Goal, budget: u64) -> Result<(Machine, Ops), Memory>
+    requires goal { IsQuery (length store.names) goal }
+    requires some { 1 ≤ budget }
+    requires limit { budget ≤ 1000000000 }
+    ensures run { IfOk result (λ p. to_come p.0
+        ≡ run (record { budget = budget; wanted = 1 }) (goal_named store goal.body) goal.vars (loaded (clauses store))) }
+    ensures steps { IfOk result (λ p. p.0.steps ≡ 0) }
+    ensures operators { IfOk result (λ p. p.1 ≡ iso_table) }
+{
+    let machine = Machine::start(alloc, store, &goal, budget, 1)?;
+    let ops = Ops::iso(alloc)?;
+    Ok((machine, ops))
+}
+
 /// A session over the run of a goal, which may take `budget` steps.
 pub fn session<D: Desk, L: Ledger>(
     alloc: Global,
@@ -113,15 +134,15 @@ pub fn session<D: Desk, L: Ledger>(
     desk: &mut D,
     steps: &mut Steps<L>,
 ) -> Status
-    requires goal { goal.name.0 < length store.names }
+    requires goal { IsQuery (length store.names) goal }
     requires some { 1 ≤ budget }
     requires limit { budget ≤ 1000000000 }
-    ensures { Leaves (Some (Session (run (record { budget = budget; wanted = 1 }) (goal_named store goal.name.0) (loaded (clauses store))))) result
+    ensures { Leaves (Some (Session (run (record { budget = budget; wanted = 1 }) (goal_named store goal.body) goal.vars (loaded (clauses store))))) result
         (sight (D.left desk.old) (D.written desk.old) (D.shelf desk.old) (D.steady desk.old) (D.read_faults desk.old) (D.write_faults desk.old))
         (sight (D.left desk.new) (D.written desk.new) (D.shelf desk.new) (D.steady desk.new) (D.read_faults desk.new) (D.write_faults desk.new)) steps.old steps.new }
 {
-    match Machine::start(alloc, store, goal, budget, 1) {
-        Ok(machine) => answer_all(alloc, machine, desk, steps),
+    match begin(alloc, store, goal, budget) {
+        Ok((machine, ops)) => answer_all(alloc, machine, ops, desk, steps),
         Err(Memory) => Status::Memory,
     }
 }

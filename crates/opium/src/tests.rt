@@ -94,7 +94,7 @@ fn short_session<L: Ledger>(
     requires name { blank.name ≡ L.name }
     requires parts { blank.parts ≡ L.parts }
     requires some { 0 < L.parts }
-    requires goal { goal.name.0 < length store.names }
+    requires goal { IsQuery (length store.names) goal }
 {
     let mut steps: Steps<L> = Steps::new(blank);
     let status = session(alloc, store, goal, 100, &mut desk, &mut steps);
@@ -102,7 +102,7 @@ fn short_session<L: Ledger>(
 }
 
 fn short_call(alloc: Global, store: Store, goal: Goal, desk: MemoryDesk) -> Left
-    requires { goal.name.0 < length store.names }
+    requires { IsQuery (length store.names) goal }
 {
     short_session::<Brand>(alloc, Blank::new(1), store, goal, desk)
 }
@@ -247,5 +247,71 @@ fn rows_of_faults(rt: HostRuntime) -> Result<(), Fail> {
     let left = call(alloc, &words, desk);
     assert_eq!(rt; left.status, Status::Write);
     assert!(rt; left.desk.bytes_written(Chan::Talk) == b"1 1 1 call a\nyes\n".as_slice());
+    Ok(())
+}
+
+#[test]
+fn rows_of_terms(rt: HostRuntime) -> Result<(), Fail> {
+    let alloc = rt.alloc();
+    assert!(rt;
+        is_told(
+            alloc,
+            b"e(a,b). e(b,c). p(X,Z) :- e(X,Y), e(Y,Z).",
+            "p(a,W)",
+            NEXTS,
+            Status::Done,
+            b"1 1 1 call p(a,_0)\nyes\n2 2 2 call e(a,_3)\nyes\n3 2 2 exit e(a,b)\nyes\n4 3 2 call e(b,_0)\nyes\n5 3 2 exit e(b,c)\nyes\n6 1 1 exit p(a,c)\nyes\nno\n"
+        )?
+    );
+    assert!(rt;
+        is_told(
+            alloc,
+            b"s(X,f(X)). p :- s(Y,Y).",
+            "p",
+            b"next. next. next. next. next. ",
+            Status::Done,
+            b"1 1 1 call p\nyes\n2 2 2 call s(_0,_0)\nyes\n3 2 2 fail s(_0,_0)\nyes\n4 1 1 fail p\nyes\nno\n"
+        )?
+    );
+    Ok(())
+}
+
+#[test]
+fn bindings_at_each_port(rt: HostRuntime) -> Result<(), Fail> {
+    let alloc = rt.alloc();
+    let mut commands = Bytes::new(alloc);
+    for _ in 0..13 {
+        commands.append(b"next. ")?;
+    }
+    assert!(rt;
+        is_told(
+            alloc,
+            b"q(1). q(2). r(3). p(X) :- q(X), r(X).",
+            "p(Y)",
+            commands.as_slice(),
+            Status::Done,
+            b"1 1 1 call p(_0)\nyes\n2 2 2 call q(_0)\nyes\n3 2 2 exit q(1)\nyes\n4 3 2 call r(1)\nyes\n5 3 2 fail r(1)\nyes\n6 2 2 redo q(1)\nyes\n7 2 2 exit q(2)\nyes\n8 4 2 call r(2)\nyes\n9 4 2 fail r(2)\nyes\n10 2 2 redo q(2)\nyes\n11 2 2 fail q(_0)\nyes\n12 1 1 fail p(_0)\nyes\nno\n"
+        )?
+    );
+    Ok(())
+}
+
+#[test]
+fn variables_have_new_numbers(rt: HostRuntime) -> Result<(), Fail> {
+    let alloc = rt.alloc();
+    let mut commands = Bytes::new(alloc);
+    for _ in 0..9 {
+        commands.append(b"next. ")?;
+    }
+    assert!(rt;
+        is_told(
+            alloc,
+            b"b(f(_)). b(a,_). b(g(_)). b(h(A,_,A)). p :- b(T), fail.",
+            "p",
+            commands.as_slice(),
+            Status::Done,
+            b"1 1 1 call p\nyes\n2 2 2 call b(_0)\nyes\n3 2 2 exit b(f(_1))\nyes\n4 2 2 redo b(f(_1))\nyes\n5 2 2 exit b(g(_2))\nyes\n6 2 2 redo b(g(_2))\nyes\n7 2 2 exit b(h(_3,_4,_3))\nyes\n8 2 2 redo b(h(_3,_4,_3))\nyes\n9 2 2 fail b(_0)\nyes\n"
+        )?
+    );
     Ok(())
 }

@@ -1,40 +1,22 @@
-use Rattle.std.proofs.Common.{◌≡◌, ℕ, suc, ◌-◌, ◌<◌, length, get_or, List, sym, subst, ◌∙◌, arith}
+use Rattle.std.proofs.Common.{◌≡◌, ℕ, suc, ◌-◌, ◌<◌, length, List, Some, ap, ◌∙◌, arith}
 use Rattle.std.proofs.Math.ListN.{length-set}
-use Rattle.std.proofs.lemmas.Grind.{get_or_default_zero}
-use Rattle.op_machine.specs.Program.{heads, IsNext, AreFirst, AreNext}
-use Rattle.op_machine.proofs.Indexing.{length_heads, head_in, head_below, firsts_step, nexts_step}
+use Rattle.std.specs.HashMap.{get}
+use Rattle.op_bind.specs.declared.places.Clause.{Clause as Rule}
+use Rattle.op_machine.specs.Index.{key_at, pi_eq, place_or}
+use Rattle.op_machine.proofs.Indexing.{firsts-key, nexts-key, head-read, unwrap-place}
 use Rattle.op_machine.proofs.index.index_of.Goals as goal
 
-pub index-requires : goal.index-requires
-index-requires c =
-    omega (arith, c.loop-i.first.ok.0, c.loop-i.invariant.1, c.head-head.ensures, head_below c.args.program.now c.args.count (c.loop-i.i - 1) c.requires (omega arith))
-
-pub index_mut-requires-in-loop-i : goal.index_mut-requires-in-loop-i
-index_mut-requires-in-loop-i c =
-    omega (arith, c.loop-i.first.ok.0, c.loop-i.invariant.1, c.head-head.ensures, head_below c.args.program.now c.args.count (c.loop-i.i - 1) c.requires (omega arith))
-
-pub loop-i-preserved : goal.loop-i-preserved
-loop-i-preserved c =
-    let rules = c.args.program.now in
+pub loop-i-preserved-in-Some : goal.loop-i-preserved-in-Some
+loop-i-preserved-in-Some c =
+    let rules : List Rule = c.args.clauses.now in
     let j : ℕ = c.loop-i.i - 1 in
-    let h : ℕ = c.head-head.result.0 in
-    let first : List ℕ = c.loop-i.first.items in
-    let next : List ℕ = c.loop-i.next.items in
-    let f : ℕ = c.index.result.now in
     let inv = c.loop-i.invariant in
-    let inside : j < length rules = omega arith in
-    let head : h < c.args.count = subst (λ x. x < c.args.count) (sym c.head-head.ensures) (head_below rules c.args.count j c.requires inside) in
-    let small : h < length first = omega (arith, inv.1) in
-    let here : get_or (heads rules) j 0 ≡ h = head_in rules j inside ∙ sym c.head-head.ensures in
-    let e : suc j ≡ c.loop-i.i = omega arith in
-    let old_first : AreFirst (heads rules) (suc j) first = subst (λ n. AreFirst (heads rules) n first) (sym e) inv.3 in
-    let old_next : AreNext (heads rules) (suc j) next = subst (λ n. AreNext (heads rules) n next) (sym e) inv.4 in
-    let read : get_or first h 0 ≡ f = sym (get_or_default_zero first h f small) ∙ sym c.index.ensures in
-    let found : IsNext (heads rules) h (suc j) f = subst (λ m. IsNext (heads rules) h (suc j) m) read (old_first h small) in
-    let found_here : IsNext (heads rules) (get_or (heads rules) j 0) (suc j) f = subst (λ x. IsNext (heads rules) x (suc j) f) (sym here) found in (
-      omega arith,
-      length-set first h j ∙ inv.1,
-      length-set next j f ∙ inv.2,
-      firsts_step (heads rules) first j h (omega (arith, length_heads rules)) small here old_first,
-      nexts_step (heads rules) next j f (omega (arith, inv.2)) found_here old_next,
+    let s : suc j ≡ c.loop-i.i = omega (arith, c.loop-i-test.true) in
+    let inside : j < length rules = omega (arith, c.loop-i-test.true, inv.0) in
+    let here : key_at rules j ≡ Some c.in-Some.key = head-read rules j c.index-clauses-i.result c.head_key.result c.in-Some.key inside c.head_key.ensures c.in-Some.is in
+    let later : c.unwrap_or.result ≡ place_or (length rules) (get pi_eq c.loop-i.first c.in-Some.key) = c.unwrap_or.ensures ∙ (unwrap-place c.in_ok-insert.field-0 (length rules) ∙ ap (place_or (length rules)) c.in_ok-insert.ensures.old) in (
+      omega (arith, inside),
+      length-set c.loop-i.next.items j c.unwrap_or.result ∙ inv.1,
+      firsts-key rules c.loop-i.first c.insert.new.self j c.loop-i.i c.in-Some.key s inside here c.in_ok-insert.ensures.updates.0 inv.2,
+      nexts-key rules c.loop-i.next.items c.loop-i.first j c.loop-i.i c.unwrap_or.result c.in-Some.key s inv.1 inside here later inv.2 inv.3,
     )

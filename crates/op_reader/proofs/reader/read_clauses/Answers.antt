@@ -1,24 +1,24 @@
-use Rattle.std.proofs.Common.{◌≡◌, [], ◌∙◌, rules, Some, drop}
+use Rattle.std.proofs.Common.{length, drop, sym, subst}
+use Rattle.std.proofs.lemmas.List.Elements.{All-push}
+use Rattle.std.specs.Prelude.{List, ℕ}
 use Rattle.op_reader.specs.Lexis.{tokens}
-use Rattle.op_reader.proofs.Tables.{kept-kept, kept-length}
-use Rattle.op_reader.proofs.Rules.{below-more, below-push, clause-read, clauses-done}
+use Rattle.op_reader.specs.Form.{Rule, IsSoundRule, AreSound}
+use Rattle.op_reader.specs.Program.{kept_rule}
+use Rattle.op_reader.proofs.Sentences.{kept-kept, kept-length}
+use Rattle.op_reader.proofs.Clauses.{clauses-read, sound-up}
 use Rattle.op_reader.proofs.reader.read_clauses.Goals as goal
 
 pub clauses-preserved : goal.clauses-preserved
 clauses-preserved c =
-    let kept = c.read_clause.ensures.kept in
-    let read = rw (← c.deref.ensures.value) at c.in_ok-read.ensures.ok in
-    let pushed = c.in_ok-push.ensures.ok in
-    let length_kept = kept-length _ _ kept in
-    let below = below-more _ _ c.clauses.program length_kept c.clauses.invariant.known in
+    let bs = c.args.bytes.now in
+    let old = c.clauses.symbols in
+    let new = c.read_clause.new.symbols in
+    let r = kept_rule c.in_ok-read.read.rule in
+    let longer = kept-length old new c.read_clause.ensures.kept in
+    let P : List (Rule ℕ) → Type 0 = λ rs. AreSound (length new) rs in
     record {
-      within = read.within;
-      kept = kept-kept _ _ _ c.clauses.invariant.kept kept;
-      known = below-push _ c.clauses.program c.push.new.self c.in_ok-read.read.head c.deref.result.now pushed below read.head_known read.goals_known;
-      read = c.clauses.invariant.read ∙ clause-read _ _ c.args.bytes.now _ c.clauses.program c.push.new.self c.in_ok-read.read c.deref.result.now kept c.clauses.invariant.known pushed read;
+      within = c.in_ok-read.ensures.inside;
+      kept = kept-kept _ _ _ c.clauses.invariant.kept c.read_clause.ensures.kept;
+      read = clauses-read c.args.signs old new (tokens bs) (tokens (drop c.clauses.at bs)) (tokens (drop c.in_ok-read.read.end bs)) c.clauses.program c.push.new.self r c.clauses.found c.read_clause.new.found c.read_clause.ensures.kept longer c.clauses.invariant.read c.in_ok-read.ensures.ok c.in_ok-push.ensures.ok;
+      sound = subst P (sym c.in_ok-push.ensures.ok) (All-push (λ (r : Rule ℕ). IsSoundRule (length new) r) c.clauses.program r (sound-up (length old) (length new) c.clauses.program longer c.clauses.invariant.sound) c.in_ok-read.ensures.sound);
     }
-
-pub returns-clause-ok : goal.returns-clause-ok
-returns-clause-ok c =
-    let e : tokens (drop c.clauses.at c.args.bytes.now) ≡ Some [] = search rules in
-    c.clauses.invariant.read ∙ clauses-done _ _ e

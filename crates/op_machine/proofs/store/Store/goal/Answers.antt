@@ -1,28 +1,38 @@
-use Rattle.std.proofs.Common.{◌≤◌, length, ap, ◌∙◌, arith}
-use Rattle.op_machine.specs.Program.{clauses, program_clauses}
-use Rattle.op_machine.proofs.Storing.{stored_more, below_more, named_rules_more, longer}
+use Rattle.std.proofs.Common.{List, sym, ap, ◌∙◌}
+use Rattle.op_logic.specs.Names.{named}
+use Rattle.op_reader.specs.Form.{Rule, is_runnable}
+use Rattle.op_trace.specs.World.{Text}
+use Rattle.op_machine.specs.Loaded.{text_rules}
+use Rattle.op_machine.proofs.Loading.{grown, same-clauses, same-rules, goal-runs, goal-refused}
 use Rattle.op_machine.proofs.store.Store.goal.Goals as goal
 
-pub returns-in_err-read-clause-same_clauses : goal.returns-in_err-read-clause-same_clauses
-returns-in_err-read-clause-same_clauses c =
-    ap program_clauses (named_rules_more c.self.inside.symbols c.read_goal-read.new.symbols c.self.inside.program c.in_err-read.ensures.kept c.self.invariant.0.known)
-    ∙ ap clauses c.self.view_is
+pub invariant_of-self : goal.invariant_of-self
+invariant_of-self c = (grown _ c.read_query-read.new.symbols c.self.invariant.0 c.count-count.ensures.table c.read_query-read.ensures.kept, c.self.invariant.1)
 
-pub returns-clause-same_clauses : goal.returns-clause-same_clauses
-returns-clause-same_clauses c =
-    ap program_clauses (named_rules_more c.self.inside.symbols c.read_goal-read.new.symbols c.self.inside.program c.in_ok-read.ensures.kept c.self.invariant.0.known)
-    ∙ ap clauses c.self.view_is
+pub returns-in_err-query-clause-same_clauses : goal.returns-in_err-query-clause-same_clauses
+returns-in_err-query-clause-same_clauses c =
+    same-clauses _ c.args.self.now c.read_query-read.new.symbols c.self.view_is c.self.invariant.0 c.read_query-read.ensures.kept
 
 pub invariant_of-self-2 : goal.invariant_of-self-2
-invariant_of-self-2 c =
-    let more : length c.self.inside.symbols ≤ length c.read_goal-read.new.symbols = longer c.self.inside.symbols c.read_goal-read.new.symbols c.in_ok-read.ensures.kept in (
-      stored_more (record { names = c.self.inside.symbols; rules = c.self.inside.program }) c.read_goal-read.new.symbols c.self.inside.program
-          c.self.invariant.0 c.count-count.ensures.table c.in_ok-read.ensures.kept (below_more c.self.inside.program _ _ more c.self.invariant.0.known),
-      record {
-        first_length = omega (arith, c.self.invariant.1.first_length, more);
-        next_length = c.self.invariant.1.next_length;
-        covered = c.self.invariant.1.covered;
-        firsts = c.self.invariant.1.firsts;
-        nexts = c.self.invariant.1.nexts;
-      },
-    )
+invariant_of-self-2 c = (grown _ c.read_query-read.new.symbols c.self.invariant.0 c.count-count.ensures.table c.read_query-read.ensures.kept, c.self.invariant.1)
+
+pub returns-then-is_runnable-clause-ok : goal.returns-then-is_runnable-clause-ok
+returns-then-is_runnable-clause-ok c =
+    let rules = same-rules _ c.args.self.now c.read_query-read.new.symbols c.self.view_is c.self.invariant.0 c.read_query-read.ensures.kept in
+    goal-runs (text_rules c.args.self.now) c.args.text.now _ c.in_ok-query.ensures.ok
+    (ap (λ (rs : List (Rule Text)). is_runnable rs (named c.read_query-read.new.symbols c.in_ok-query.query.body)) (sym rules) ∙ (sym c.is_runnable.ensures ∙ c.if-is_runnable.true))
+
+pub returns-then-is_runnable-clause-same_clauses : goal.returns-then-is_runnable-clause-same_clauses
+returns-then-is_runnable-clause-same_clauses c =
+    same-clauses _ c.args.self.now c.read_query-read.new.symbols c.self.view_is c.self.invariant.0 c.read_query-read.ensures.kept
+
+pub returns-else-is_runnable-clause-form : goal.returns-else-is_runnable-clause-form
+returns-else-is_runnable-clause-form c =
+    λ e.
+    let rules = same-rules _ c.args.self.now c.read_query-read.new.symbols c.self.view_is c.self.invariant.0 c.read_query-read.ensures.kept in
+    goal-refused (text_rules c.args.self.now) c.args.text.now _ c.in_ok-query.ensures.ok
+    (ap (λ (rs : List (Rule Text)). is_runnable rs (named c.read_query-read.new.symbols c.in_ok-query.query.body)) (sym rules) ∙ (sym c.is_runnable.ensures ∙ c.if-is_runnable.false))
+
+pub returns-else-is_runnable-clause-same_clauses : goal.returns-else-is_runnable-clause-same_clauses
+returns-else-is_runnable-clause-same_clauses c =
+    same-clauses _ c.args.self.now c.read_query-read.new.symbols c.self.view_is c.self.invariant.0 c.read_query-read.ensures.kept

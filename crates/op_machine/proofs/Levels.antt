@@ -1,0 +1,172 @@
+-- Moments that follow one another: what was there is still there, so earlier choices mean what they meant.
+use Rattle.std.proofs.Common.{◌≡◌, ℕ, ◌+◌, ◌-◌, ◌<◌, ◌≤◌, List, [], ◌∷◌, ◌++◌, length, take, drop, map, All, pos, refl, sym, ap, ◌∙◌, subst, arith, length-append}
+use Rattle.std.proofs.lemmas.List.{get_or-take, get_or_append_left}
+use Rattle.std.proofs.Math.Seq.{take-length, get_or-append_seam}
+use Rattle.op_logic.proofs.Tests.{by_order}
+use Rattle.op_logic.specs.Term.{Term, int}
+use Rattle.op_logic.specs.Names.{HasNames, HaveNames}
+use Rattle.op_term.specs.Places.{term_at}
+use Rattle.op_bind.specs.State as bind
+use Rattle.op_bind.specs.State.{oldest, resolved, mark_of, undone, bindings, IsGoodMark}
+use Rattle.op_bind.specs.Grown.{Grows}
+use Rattle.op_bind.proofs.Unifying.{oldest-oldest}
+use Rattle.op_trace.specs.World as world
+use Rattle.op_machine.specs.declared.lists.Item.{Item}
+use Rattle.op_machine.specs.declared.lists.Item.TheVariants as item
+use Rattle.op_machine.specs.declared.frame.Frame.{Frame}
+use Rattle.op_machine.proofs.ListLaws.{take-within}
+use Rattle.op_machine.specs.Lists.{list_in}
+use Rattle.op_machine.specs.Program.{Tables, goal_named}
+use Rattle.op_machine.specs.Core.{Level, level_at, level_of, items_in, item_term, choices_of, choice_of, IsGoal, IsItem, AreItems, IsLevel, IsEarlier, IsFrame, AreFrames, AreValues}
+
+take-front : {A : Type 0} (xs ys : List A) → take (length xs) (xs ++ ys) ≡ xs
+take-front [] ys = refl
+take-front (x ∷ xs) ys = ap (λ zs. x ∷ zs) (take-front xs ys)
+
+-- what was there is the beginning of what is there
+pub record Rises (v w : Level) : Type 0 where
+  pub terms_there : length v.terms ≤ length w.terms
+  pub terms : take (length v.terms) w.terms ≡ v.terms
+  pub bound_there : length v.bound ≤ length w.bound
+  pub bound : oldest (length v.bound) w.bound ≡ v.bound
+  pub lists_there : length v.lists ≤ length w.lists
+  pub lists : take (length v.lists) w.lists ≡ v.lists
+
+pub oldest-all : (ps : List (ℕ × ℕ)) → oldest (length ps) ps ≡ ps
+oldest-all ps = let z : length ps - length ps ≡ 0 = omega arith in ap (λ (k : ℕ). drop k ps) z
+
+pub rises-bindings : (s u : bind.State) (L : List (List Item)) → Grows s u → Rises (level_of s L) (level_of u L)
+rises-bindings s u L g = record {
+  terms_there = g.terms_there;
+  terms = g.terms;
+  bound_there = g.bound_there;
+  bound = g.bound;
+  lists_there = omega arith;
+  lists = take-length L;
+}
+
+pub rises-lists : (s : bind.State) (L : List (List Item)) (I : List Item) → Rises (level_of s L) (level_of s (L ++ I ∷ []))
+rises-lists s L I = record {
+  terms_there = omega arith;
+  terms = take-length s.terms;
+  bound_there = omega arith;
+  bound = oldest-all s.bound;
+  lists_there = omega (arith, length-append L (I ∷ []));
+  lists = take-front L (I ∷ []);
+}
+
+pub level_at-rises : (v w : Level) (f : Frame) → Rises v w → IsEarlier f v → level_at f w ≡ level_at f v
+level_at-rises v w f r e =
+    let t : take f.mark.terms w.terms ≡ take f.mark.terms v.terms =
+    sym (take-within f.mark.terms (length v.terms) w.terms e.terms_there) ∙ ap (take f.mark.terms) r.terms in
+    let b : oldest f.mark.bound w.bound ≡ oldest f.mark.bound v.bound =
+    sym (oldest-oldest f.mark.bound (length v.bound) w.bound e.bound_there r.bound_there) ∙ ap (oldest f.mark.bound) r.bound in
+    let l : take f.lists w.lists ≡ take f.lists v.lists =
+    sym (take-within f.lists (length v.lists) w.lists e.lists_there) ∙ ap (take f.lists) r.lists in
+    cc
+
+pub earlier-rises : (v w : Level) (f : Frame) → Rises v w → IsEarlier f v → IsEarlier f w
+earlier-rises v w f r e =
+    let b : oldest f.mark.bound w.bound ≡ oldest f.mark.bound v.bound =
+    sym (oldest-oldest f.mark.bound (length v.bound) w.bound e.bound_there r.bound_there) ∙ ap (oldest f.mark.bound) r.bound in
+    record {
+      terms_there = omega (arith, e.terms_there, r.terms_there);
+      bound_there = omega (arith, e.bound_there, r.bound_there);
+      bound_below = subst (λ (ps : List (ℕ × ℕ)). All (λ p. p.1 < f.mark.terms) ps) (sym b) e.bound_below;
+      lists_there = omega (arith, e.lists_there, r.lists_there);
+    }
+
+-- choices that were there mean what they meant
+pub choices-rise : (t : Tables) (floor : ℕ) (v w : Level) (F : List Frame) → Rises v w → AreFrames t floor v F → choices_of t w F ≡ choices_of t v F
+choices-rise t floor v w [] r a = refl
+choices-rise t floor v w (f ∷ F) r a =
+    ap (λ (u : Level). choice_of t u f ∷ choices_of t u F) (level_at-rises v w f r a.0)
+
+pub frames-rise : (t : Tables) (floor : ℕ) (v w : Level) (F : List Frame) → Rises v w → AreFrames t floor v F → AreFrames t floor w F
+frames-rise t floor v w [] r a = tt
+frames-rise t floor v w (f ∷ F) r a =
+    let e : level_at f v ≡ level_at f w = sym (level_at-rises v w f r a.0) in (
+      earlier-rises v w f r a.0,
+      subst (IsLevel t floor) e a.1,
+      subst (λ (u : Level). IsFrame t u f) e a.2,
+      subst (λ (u : Level). AreFrames t floor u F) e a.3,
+    )
+
+-- so do terms, items and lists
+pub term-rises : (v w : Level) (r : ℕ) → Rises v w → r < length v.terms → term_at w.terms r ≡ term_at v.terms r
+term-rises v w r h l =
+    sym (get_or-take (length v.terms) w.terms r (int (pos 0)) l) ∙ ap (λ (ts : List (Term ℕ)). term_at ts r) h.terms
+
+pub goal-rises : (n : ℕ) (v w : Level) (r : ℕ) → Rises v w → IsGoal n v.terms r → IsGoal n w.terms r
+goal-rises n v w r h g = (omega (arith, g.0, h.terms_there), subst (HasNames n) (sym (term-rises v w r h g.0)) g.1)
+
+pub item-rises : (n : ℕ) (t : Tables) (v w : Level) (i : Item) → Rises v w → IsItem n v.terms i → item_term t w i ≡ item_term t v i
+item-rises n t v w (item.Goal r m) h a = ap (λ (x : Term ℕ). world.Goal (goal_named t x) (world.Call m)) (term-rises v w r h a.0)
+item-rises n t v w (item.Exit k r) h a = ap (λ (x : Term ℕ). world.Exit k (goal_named t x)) (term-rises v w r h a.0)
+
+pub is-item-rises : (n : ℕ) (v w : Level) (i : Item) → Rises v w → IsItem n v.terms i → IsItem n w.terms i
+is-item-rises n v w (item.Goal r m) h a = goal-rises n v w r h a
+is-item-rises n v w (item.Exit k r) h a = goal-rises n v w r h a
+
+pub items-rise : (n : ℕ) (t : Tables) (v w : Level) (I : List Item) → Rises v w → AreItems n v.terms I → map (item_term t w) I ≡ map (item_term t v) I
+items-rise n t v w [] h a = refl
+items-rise n t v w (i ∷ I) h a =
+    let first : item_term t w i ≡ item_term t v i = item-rises n t v w i h a.0 in
+    let rest : map (item_term t w) I ≡ map (item_term t v) I = items-rise n t v w I h a.1 in
+    cc
+
+pub are-items-rise : (n : ℕ) (v w : Level) (I : List Item) → Rises v w → AreItems n v.terms I → AreItems n w.terms I
+are-items-rise n v w [] h a = tt
+are-items-rise n v w (i ∷ I) h a = (is-item-rises n v w i h a.0, are-items-rise n v w I h a.1)
+
+pub list-rises : (v w : Level) (m : ℕ) → Rises v w → m < length v.lists → list_in w.lists m ≡ list_in v.lists m
+list-rises v w m h l =
+    sym (get_or-take (length v.lists) w.lists m [] l) ∙ ap (λ (L : List (List Item)). list_in L m) h.lists
+
+pub items_in-rise : (t : Tables) (floor : ℕ) (v w : Level) (m : ℕ) → Rises v w → IsLevel t floor v → m < length v.lists → items_in t w m ≡ items_in t v m
+items_in-rise t floor v w m h lev l =
+    ap (map (item_term t w)) (list-rises v w m h l) ∙ items-rise (length t.names) t v w (list_in v.lists m) h (lev.lists m l)
+
+pub values-rise : (floor : ℕ) (v w : Level) (rs : List ℕ) (ps : List (List ℕ × ℕ)) → Rises v w → floor ≤ length v.terms
+    → AreValues (take floor v.terms) rs ps → AreValues (take floor w.terms) rs ps
+values-rise floor v w rs ps h f a =
+    let e : take floor w.terms ≡ take floor v.terms = sym (take-within floor (length v.terms) w.terms f) ∙ ap (take floor) h.terms in
+    subst (λ (ts : List (Term ℕ)). AreValues ts rs ps) (sym e) a
+
+-- a level that has further bindings and terms, but the same lists
+pub level-bindings : (t : Tables) (floor : ℕ) (s u : bind.State) (L : List (List Item)) → Grows s u → HaveNames (length t.names) (bindings u)
+    → IsLevel t floor (level_of s L) → IsLevel t floor (level_of u L)
+level-bindings t floor s u L g names lev = record {
+  lists = λ m l. are-items-rise (length t.names) (level_of s L) (level_of u L) (list_in L m) (rises-bindings s u L g) (lev.lists m l);
+  bound = names;
+  floor_there = omega (arith, lev.floor_there, g.terms_there);
+}
+
+-- a level with a further list
+pub level-lists : (t : Tables) (floor : ℕ) (s : bind.State) (L : List (List Item)) (i : Item) (n : ℕ) → IsLevel t floor (level_of s L)
+    → IsItem (length t.names) s.terms i → n < length L → IsLevel t floor (level_of s (L ++ (i ∷ list_in L n) ∷ []))
+level-lists t floor s L i n lev it h =
+    let I : List Item = i ∷ list_in L n in
+    let len : length (L ++ I ∷ []) ≡ length L + 1 = length-append L (I ∷ []) in
+    record {
+      lists = λ m l.
+          by_order m (length L)
+          (λ k. subst (AreItems (length t.names) s.terms) (sym (get_or_append_left L (I ∷ []) [] m k)) (lev.lists m k))
+          (λ k.
+          let e : m ≡ length L = omega arith in
+          let at_end : list_in (L ++ I ∷ []) m ≡ I = ap (λ x. list_in (L ++ I ∷ []) x) e ∙ get_or-append_seam L I [] [] in
+          subst (AreItems (length t.names) s.terms) (sym at_end) (it, lev.lists n h));
+      bound = lev.bound;
+      floor_there = lev.floor_there;
+    }
+
+-- a choice that is made now is made at this level
+pub level-now : (s : bind.State) (L : List (List Item)) (f : Frame) → f.mark ≡ mark_of s → f.lists ≡ length L → level_at f (level_of s L) ≡ level_of s L
+level-now s L f m l =
+    let t : take f.mark.terms s.terms ≡ s.terms = ap (λ (k : bind.Marked). take k.terms s.terms) m ∙ take-length s.terms in
+    let b : oldest f.mark.bound s.bound ≡ s.bound = ap (λ (k : bind.Marked). oldest k.bound s.bound) m ∙ oldest-all s.bound in
+    let n : take f.lists L ≡ L = ap (λ (k : ℕ). take k L) l ∙ take-length L in
+    cc
+
+pub earlier-now : (s : bind.State) (L : List (List Item)) (f : Frame) → IsGoodMark s f.mark → f.lists ≡ length L → IsEarlier f (level_of s L)
+earlier-now s L f g l = record { terms_there = g.terms_there; bound_there = g.bound_there; bound_below = g.bound_below; lists_there = omega arith }

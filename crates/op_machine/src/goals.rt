@@ -1,0 +1,163 @@
+ghost use Rattle.std.specs.Prelude.{◌≡◌, ◌+◌, ◌<◌, ◌≤◌, ◌^◌, ◌∷◌, length, IfOk, OnOk};
+ghost use Rattle.op_trace.specs.World.{Barrier, Call, Goal};
+ghost use Rattle.op_trace.specs.Visit.{control, Both};
+ghost use Rattle.op_machine.specs.declared.core_state.Step.TheVariants as step;
+ghost use Rattle.op_machine.specs.Core.{world_in, level_in, items_now, goal_now, bindings_now, choices_in, IsGood, IsGoal};
+ghost use Rattle.op_machine.specs.Resume.{silent, Going};
+ghost use Rattle.op_machine.specs.Rows.{Keeps, Advances, chosen_now, goal_moved, rule_met, rule_tried, rules_tried, both_before};
+ghost use Rattle.op_machine.specs.Program.{IsFor};
+ghost use Rattle.op_term.specs.Places.{term_at};
+ghost use Rattle.op_logic.specs.Term.{args_of, arity};
+
+use crate::core_state::{Core, Mode, Step};
+use crate::kind::Kind;
+use crate::lists::Item;
+use op_base::Memory;
+use op_bind::Ref;
+use op_term::{Fuel, WalkFault};
+
+impl Core {
+    // A goal is selected.
+    pub(crate) fn select(&mut self, goal: Ref, barrier: u64, rest: u64) -> Result<Step, Memory>
+        requires good { IsGood self.old }
+        requires there { rest < length self.old.lists }
+        requires goal { IsGoal (length self.old.store.names) self.old.bindings.terms goal }
+        requires fits { self.old.events < 2 ^ 63 }
+        requires calls { self.old.calls < 2 ^ 63 }
+        requires steps { self.old.steps ≤ self.old.budget }
+        ensures advances { IfOk result (Advances self.old self.new (goal_moved self.old (goal_now self.old goal) (Call barrier) rest)) }
+        ensures keeps { Keeps self.old self.new }
+    {
+        if !self.spend() {
+            return Ok(Step::Silent);
+        }
+        self.choose(goal, barrier, rest)
+    }
+
+    // A goal of which the step was paid.
+    fn choose(&mut self, goal: Ref, barrier: u64, rest: u64) -> Result<Step, Memory>
+        requires good { IsGood self.old }
+        requires there { rest < length self.old.lists }
+        requires goal { IsGoal (length self.old.store.names) self.old.bindings.terms goal }
+        requires fits { self.old.events < 2 ^ 63 }
+        requires calls { self.old.calls < 2 ^ 63 }
+        ensures advances { IfOk result (Advances self.old self.new (chosen_now self.old (goal_now self.old goal) (Call barrier) rest (world_in self.old))) }
+        ensures keeps { Keeps self.old self.new }
+    {
+        match self.store.kind(self.bindings.outline(&goal)) {
+            Kind::Truth => {
+                self.mode = Mode::Forward { items: rest };
+                Ok(Step::Silent)
+            }
+            Kind::Failure => {
+                self.mode = Mode::Backward;
+                Ok(Step::Silent)
+            }
+            Kind::Both => {
+                self.split(goal, barrier, rest)?;
+                Ok(Step::Silent)
+            }
+            Kind::Boxed => self.invoke(goal, rest),
+        }
+    }
+
+    // Both goals of a conjunction come next.
+    fn split(&mut self, goal: Ref, barrier: u64, rest: u64) -> Result<(), Memory>
+        requires good { IsGood self.old }
+        requires there { rest < length self.old.lists }
+        requires goal { IsGoal (length self.old.store.names) self.old.bindings.terms goal }
+        requires both { arity (args_of (term_at self.old.bindings.terms goal)) ≡ 2 }
+        ensures advances { OnOk result (Advances self.old self.new (silent (Going (both_before self.old goal barrier rest) (choices_in self.old) (bindings_now self.old) (world_in self.old))) step.Silent) }
+        ensures keeps { Keeps self.old self.new }
+    {
+        let first = self.bindings.argument(&goal, 0);
+        let second = self.bindings.argument(&goal, 1);
+        let tail = self.add(
+            Item::Goal {
+                goal: second,
+                barrier,
+            },
+            rest,
+        )?;
+        let items = self.add(
+            Item::Goal {
+                goal: first,
+                barrier,
+            },
+            tail,
+        )?;
+        self.mode = Mode::Forward { items };
+        Ok(())
+    }
+
+    // A clause is tried, and those behind it of its procedure are kept as a choice.
+    pub(crate) fn retry(
+        &mut self,
+        rule: u64,
+        call: u64,
+        goal: Ref,
+        rest: u64,
+    ) -> Result<Step, Memory>
+        requires good { IsGood self.old }
+        requires there { rest < length self.old.lists }
+        requires goal { IsGoal (length self.old.store.names) self.old.bindings.terms goal }
+        requires rule { rule < length self.old.store.rules }
+        requires here { IsFor self.old.store (term_at self.old.bindings.terms goal) rule }
+        requires steps { self.old.steps ≤ self.old.budget }
+        ensures advances { IfOk result (Advances self.old self.new (rules_tried self.old rule call goal rest)) }
+        ensures keeps { Keeps self.old self.new }
+    {
+        let next = self.store.next_rule(rule);
+        self.push_more(next, call, goal, rest)?;
+        self.attempt(rule, call, goal, rest)
+    }
+
+    // A clause for the goal of a box is tried: a step, and those of the head.
+    fn attempt(&mut self, rule: u64, call: u64, goal: Ref, rest: u64) -> Result<Step, Memory>
+        requires good { IsGood self.old }
+        requires there { rest < length self.old.lists }
+        requires goal { IsGoal (length self.old.store.names) self.old.bindings.terms goal }
+        requires rule { rule < length self.old.store.rules }
+        requires steps { self.old.steps ≤ self.old.budget }
+        ensures advances { IfOk result (Advances self.old self.new (rule_tried self.old rule call goal rest)) }
+        ensures keeps { Keeps self.old self.new }
+    {
+        if !self.spend() {
+            return Ok(Step::Silent);
+        }
+        self.meet(rule, call, goal, rest)
+    }
+
+    // A clause's head is unified with the goal; where they match, its body comes next.
+    fn meet(&mut self, rule: u64, call: u64, goal: Ref, rest: u64) -> Result<Step, Memory>
+        requires good { IsGood self.old }
+        requires there { rest < length self.old.lists }
+        requires goal { IsGoal (length self.old.store.names) self.old.bindings.terms goal }
+        requires rule { rule < length self.old.store.rules }
+        requires steps { self.old.steps ≤ self.old.budget }
+        ensures advances { IfOk result (Advances self.old self.new (rule_met self.old rule call goal rest)) }
+        ensures keeps { Keeps self.old self.new }
+    {
+        let mut fuel = Fuel::new(self.budget - self.steps);
+        match self
+            .bindings
+            .rename(self.store.clause(rule), &goal, &mut fuel)
+        {
+            Ok(Some(body)) => {
+                self.steps = self.budget - fuel.left();
+                self.enter(body, call, goal, rest)?;
+                Ok(Step::Silent)
+            }
+            Ok(None) => {
+                self.steps = self.budget - fuel.left();
+                self.mode = Mode::Backward;
+                Ok(Step::Silent)
+            }
+            Err(WalkFault::Spent) => {
+                self.run_out();
+                Ok(Step::Silent)
+            }
+            Err(WalkFault::Memory) => Err(Memory),
+        }
+    }
+}

@@ -1,0 +1,46 @@
+-- A term's text, a space and a full stop are read as that term (ISO/IEC 13211-1, 7.10.5 and 6.2).
+use Rattle.std.specs.Prelude.{◌≡◌, ◌<◌, ◌^◌, ℕ, ℤ, pos, negsuc, List, [], ◌++◌, length, None, codes}
+use Rattle.std.specs.Str.{IsUtf8}
+use Rattle.op_logic.specs.Term.{Term, var, int, node, Args, no_args, arg}
+use Rattle.op_term.specs.Ops.{Table}
+use Rattle.op_reader.specs.declared.quotes.DoubleQuotes.{DoubleQuotes}
+use Rattle.op_reader.specs.Reading.{term, reading_of}
+use Rattle.op_writer.specs.declared.style.Style.{Style}
+use Rattle.op_writer.specs.declared.style.Style.TheVariants.{Quoted}
+use Rattle.op_writer.specs.Text.{text_of, letter_of}
+
+-- an integer of 64 bits
+abbrev pub IsSmall : ℤ → Type 0
+IsSmall (pos n) = n < 2 ^ 63
+IsSmall (negsuc n) = n < 2 ^ 63
+
+-- no variables; names are texts in UTF-8, and integers have 64 bits
+abbrev mutual
+  pub IsClosed : Term (List ℕ) → Type 0
+  IsClosed (var v) = ⊥
+  IsClosed (int i) = IsSmall i
+  IsClosed (node f ts) = IsUtf8 f × AreClosed ts
+
+  pub AreClosed : Args (List ℕ) → Type 0
+  AreClosed no_args = Unit {0}
+  AreClosed (arg t ts) = IsClosed t × AreClosed ts
+
+-- no '$VAR'(N) with N of 0 or more, which the quoted style writes as a variable's name
+abbrev mutual
+  pub HasNoLetter : Term (List ℕ) → Type 0
+  HasNoLetter (var v) = Unit {0}
+  HasNoLetter (int i) = Unit {0}
+  HasNoLetter (node f ts) = (letter_of Quoted f ts ≡ None) × HaveNoLetter ts
+
+  pub HaveNoLetter : Args (List ℕ) → Type 0
+  HaveNoLetter no_args = Unit {0}
+  HaveNoLetter (arg t ts) = HasNoLetter t × HaveNoLetter ts
+
+-- a term's text within a priority, as a clause
+abbrev pub clause_text : Table → Style → Term (List ℕ) → ℕ → List ℕ
+clause_text ops style t priority = text_of ops style t priority ++ codes " ."
+
+-- all of it is read, as the term, with no named variables
+abbrev pub IsReadBack : Table → DoubleQuotes → Style → Term (List ℕ) → ℕ → Type 0
+IsReadBack ops quotes style t priority =
+    reading_of ops quotes (clause_text ops style t priority) ≡ term t [] (length (clause_text ops style t priority))

@@ -1,0 +1,8 @@
+use crate::word::Operator;
+
+/// An operand, which is a node, or an operator.
+#[derive(Clone, Copy, Debug)]
+pub(crate) enum Piece {
+    Operand(u64),
+    Operator(Operator),
+}

@@ -1,0 +1,156 @@
+ghost use Rattle.std.specs.Prelude.{◌≡◌, ◌<◌, ◌≤◌, ℕ, List, [], ◌∷◌, All, length, take, drop, map, reverse, Some, None, option_map, option_and_then, IfOk, IfSome, OnOk};
+ghost use Rattle.op_reader.specs.Terms.{term_of as the_term_of, as_operand as the_as_operand};
+ghost use Rattle.op_reader.specs.Marks.{MarkBelow, View, Layers, node_in, with_mark, rows_of};
+ghost use Rattle.op_reader.specs.Level.{Extends, level_in, known_in, LevelBelow, Reads, PendingBelow, Popped};
+
+use crate::bracket::Bracket;
+use crate::enclosed::{bracketed_of, compound_of, term_of_level};
+use crate::level::{Level, ListNames, add_operand, add_piece, make_tail, separate};
+use crate::mark::Mark;
+use crate::piece::Piece;
+use op_base::Memory;
+use op_term::{Builder, Sym};
+use std::alloc::Global;
+use std::mem;
+
+/// The rows that are not finished, from their ends: the innermost level, and those around it, the outermost first.
+#[derive(Drop)]
+pub(crate) struct Pending {
+    pub inner: Level,
+    pub outer: Vec<Level>,
+}
+
+// Takes the innermost level away; where no other is left, an empty one takes its place.
+fn pop(alloc: Global, pending: &mut Pending) -> Level
+    ensures value { result ≡ pending.old.inner }
+    ensures popped { Popped pending.old pending.new }
+{
+    match pending.outer.pop() {
+        Some(level) => {
+            let innermost = mem::replace(&mut pending.inner, level);
+            return innermost;
+        }
+        None => {
+            let innermost = mem::replace(&mut pending.inner, Level::new(alloc));
+            return innermost;
+        }
+    }
+}
+
+fn push(alloc: Global, pending: &mut Pending) -> Result<(), Memory>
+    ensures reads { OnOk result ((v : View) (names : ListNames) (l : Layers) → Reads v names pending.old l → Reads v names pending.new (with_mark v Mark.Closed l)) }
+    ensures below { OnOk result ((n : ℕ) → PendingBelow n pending.old → PendingBelow n pending.new) }
+{
+    let level = mem::replace(&mut pending.inner, Level::new(alloc));
+    pending.outer.push(level)?;
+    Ok(())
+}
+
+// An opening bracket: the innermost level is finished, and is an operand of the next.
+fn enclose(pending: &mut Pending, found: Option<u64>) -> Result<(), Memory>
+    ensures added { OnOk result ((v : View) → level_in v pending.new.inner ≡ the_as_operand (option_map (node_in v) found) (level_in v pending.old.inner)) }
+    ensures outer { pending.new.outer ≡ pending.old.outer }
+    ensures below { OnOk result ((n : ℕ) → IfSome found (λ m. m < n) → PendingBelow n pending.old → PendingBelow n pending.new) }
+{
+    add_operand(&mut pending.inner, found)
+}
+
+fn open_compound(
+    alloc: Global,
+    nodes: &mut Builder,
+    pending: &mut Pending,
+    name: Sym,
+) -> Result<(), Memory>
+    requires { PendingBelow (length nodes.old) pending.old }
+    ensures reads { OnOk result ((v : View) (names : ListNames) (l : Layers) → Extends v nodes.new → Reads v names pending.old l → Reads v names pending.new (with_mark v (Mark.Compound name) l)) }
+    ensures below { OnOk result (PendingBelow (length nodes.new) pending.new) }
+    ensures kept { take (length nodes.old) nodes.new ≡ nodes.old }
+{
+    let level = pop(alloc, pending);
+    let found = compound_of(alloc, nodes, name, level)?;
+    enclose(pending, found)?;
+    Ok(())
+}
+
+fn open_bracket(
+    alloc: Global,
+    nodes: &mut Builder,
+    known: ListNames,
+    pending: &mut Pending,
+    bracket: Bracket,
+) -> Result<(), Memory>
+    requires { PendingBelow (length nodes.old) pending.old }
+    ensures reads { OnOk result ((v : View) (l : Layers) → Extends v nodes.new → Reads v known pending.old l → Reads v known pending.new (with_mark v (Mark.Bracketed bracket) l)) }
+    ensures below { OnOk result (PendingBelow (length nodes.new) pending.new) }
+    ensures kept { take (length nodes.old) nodes.new ≡ nodes.old }
+{
+    let level = pop(alloc, pending);
+    let found = bracketed_of(alloc, nodes, known, bracket, level)?;
+    enclose(pending, found)?;
+    Ok(())
+}
+
+// An integer that is too great stands as 0.
+fn number_piece(nodes: &mut Builder, pending: &mut Pending, place: u64) -> Result<(), Memory>
+    requires { PendingBelow (length nodes.old) pending.old }
+    ensures reads { OnOk result ((v : View) (names : ListNames) (l : Layers) → Extends v nodes.new → Reads v names pending.old l → Reads v names pending.new (with_mark v (Mark.Excess place) l)) }
+    ensures below { OnOk result (PendingBelow (length nodes.new) pending.new) }
+    ensures kept { take (length nodes.old) nodes.new ≡ nodes.old }
+{
+    let _place = place;
+    let node = nodes.int(0)?;
+    add_piece(&mut pending.inner, Piece::Operand(node))?;
+    Ok(())
+}
+
+// Takes a mark in front of those behind it.
+fn take_mark(
+    alloc: Global,
+    nodes: &mut Builder,
+    known: ListNames,
+    pending: &mut Pending,
+    mark: Mark,
+) -> Result<(), Memory>
+    requires mark { MarkBelow (length nodes.old) mark }
+    requires below { PendingBelow (length nodes.old) pending.old }
+    ensures reads { OnOk result ((v : View) (l : Layers) → Extends v nodes.new → Reads v known pending.old l → Reads v known pending.new (with_mark v mark l)) }
+    ensures below { OnOk result (PendingBelow (length nodes.new) pending.new) }
+    ensures kept { take (length nodes.old) nodes.new ≡ nodes.old }
+{
+    match mark {
+        Mark::Separator => separate(alloc, nodes, &mut pending.inner),
+        Mark::Tail => make_tail(alloc, nodes, &mut pending.inner),
+        Mark::Operator(operator) => add_piece(&mut pending.inner, Piece::Operator(operator)),
+        Mark::Operand(node) => add_piece(&mut pending.inner, Piece::Operand(node)),
+        Mark::Excess(place) => number_piece(nodes, pending, place),
+        Mark::Compound(name) => open_compound(alloc, nodes, pending, name),
+        Mark::Bracketed(bracket) => open_bracket(alloc, nodes, known, pending, bracket),
+        Mark::Closed => push(alloc, pending),
+    }
+}
+
+/// The node of the term that marks spell; none where a row has no tree.
+pub(crate) fn term_node(
+    alloc: Global,
+    nodes: &mut Builder,
+    known: ListNames,
+    marks: &[Mark],
+) -> Result<Option<u64>, Memory>
+    requires { All (MarkBelow (length nodes.old)) marks.now }
+    ensures term { IfOk result (λ found. (v : View) → Extends v nodes.new → the_term_of (known_in v known) (rows_of v marks.now) ≡ option_map (node_in v) found) }
+    ensures there { IfOk result (λ found. IfSome found (λ n. n < length nodes.new)) }
+    ensures kept { take (length nodes.old) nodes.new ≡ nodes.old }
+{
+    let mut pending = Pending {
+        inner: Level::new(alloc),
+        outer: Vec::new(alloc),
+    };
+    let mut i = marks.len();
+    'marks: while i > 0 {
+        i -= 1;
+        take_mark(alloc, nodes, known, &mut pending, marks[i])?;
+    }
+    let Pending { inner, outer: _ } = pending;
+    let found = term_of_level(alloc, nodes, inner)?;
+    Ok(found)
+}

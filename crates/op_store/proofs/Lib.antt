@@ -1,0 +1,17 @@
+mod Parts
+mod Meeting
+mod Walking
+mod Nodes
+mod Linking
+mod Sharing
+mod RowLaws
+pub mod Naming
+mod Numbers
+mod Copying
+mod Making
+mod Counting
+mod Bodies
+mod Commands
+mod Joining
+mod Converting
+pub mod Soundness

@@ -1,0 +1,127 @@
+-- What the calls of a store keep.
+use Rattle.std.proofs.Common.{◌≡◌, ℕ, zero, suc, ◌<◌, ◌≤◌, ◌==◌, ◌&&◌, max, Bool, true, false, List, [], ◌∷◌, ◌++◌, length, take, Option, Some, None, All, refl, sym, ap, ◌∙◌, subst, arith}
+use Rattle.std.specs.Prelude.{IfSome}
+use Rattle.std.proofs.lemmas.Bool.Decides.{Decides-eqb}
+use Rattle.std.proofs.lemmas.List.{length-take}
+use Rattle.std.proofs.lemmas.List.Elements.{All-push}
+use Rattle.op_logic.proofs.Tests.{by_test, if_true, if_false}
+use Rattle.op_logic.specs.Term.{Term, var, int, node, IsWithin}
+use Rattle.op_store.specs.Counted.{variable_count}
+use Rattle.op_logic.specs.Names.{IsTable, HasNames}
+use Rattle.op_trace.specs.World.{Text}
+use Rattle.op_bind.specs.declared.places.Clause.{Clause as Rule}
+use Rattle.op_store.specs.declared.pi.Pi.{Pi}
+use Rattle.op_store.specs.declared.procedure.Procedure.{Procedure as Row}
+use Rattle.op_store.specs.Rows.{Rows, pi_eq, row_in, with_row, extended_row, pi_of, IsRule, IsRow, AreRows}
+use Rattle.op_store.specs.Stored.{Stored, IsSound, with_rule, first_names}
+use Rattle.op_store.specs.Parts.{body_variables}
+use Rattle.op_store.specs.Told.{with_names}
+use Rattle.op_store.proofs.Bodies.{has-more, kept-has, names-more}
+use Rattle.op_store.proofs.Converting.{within-count}
+
+rule-more : (m n : ℕ) (k : Pi) (r : Rule) → m ≤ n → IsRule m k r → IsRule n k r
+rule-more m n k r l s = record {
+  for = s.for;
+  head_names = has-more m n r.head l s.head_names;
+  body_names = has-more m n r.body l s.body_names;
+  head_within = s.head_within;
+  body_within = s.body_within;
+}
+
+-- the rows over more names
+pub rows-more : (m n : ℕ) (rows : Rows) → m ≤ n → AreRows m rows → AreRows n rows
+rows-more m n [] l h = tt
+rows-more m n (e ∷ es) l h = (record { name = omega (arith, h.0.name); rules = λ i d k. rule-more m n e.0 _ l (h.0.rules i d k) }, rows-more m n es l h.1)
+
+take-front : {A : Type 0} (k n : ℕ) (xs : List A) → k ≤ n → take k (take n xs) ≡ take k xs
+take-front zero n xs l = refl
+take-front (suc k) zero xs l = absurd (omega arith)
+take-front (suc k) (suc n) [] l = refl
+take-front {A = A} (suc k) (suc n) (x ∷ xs) l = ap (λ (ys : List A). x ∷ ys) (take-front k n xs (omega arith))
+
+-- names that grow begin as before
+pub begins-more : (old new : List Text) → take 8 old ≡ first_names → take (length old) new ≡ old → take 8 new ≡ first_names
+begins-more old new b e =
+    let l : 8 ≤ length old = omega (arith, length-take 8 old, ap length b) in
+    sym (take-front 8 (length old) new l) ∙ (ap (take 8) e ∙ b)
+
+pub sound-more : (s : Stored) (names : List Text) → IsSound s → IsTable names → take (length s.names) names ≡ s.names → IsSound (with_names s names)
+sound-more s names h t e = record {
+  names = t;
+  begins = begins-more s.names names h.begins e;
+  table = h.table;
+  rows = rows-more (length s.names) (length names) s.rows (names-more s.names names e) h.rows;
+}
+
+both : (a b : Bool) → (a && b) ≡ true → (a ≡ true) × (b ≡ true)
+both true b h = (refl, h)
+both false b h = absurd cc
+
+pub same-pi : (a b : Pi) → pi_eq a b ≡ true → a ≡ b
+same-pi a b h =
+    let two = both (a.name.0 == b.name.0) (a.arity == b.arity) h in
+    let name : a.name.0 ≡ b.name.0 = (Decides-eqb a.name.0 b.name.0).0 two.0 in
+    let arity : a.arity ≡ b.arity = (Decides-eqb a.arity b.arity).0 two.1 in
+    rw name (rw arity refl)
+
+-- the name of a procedure with a clause is in the table
+key-below : (n : ℕ) (t : Term ℕ) (k : Pi) → pi_of t ≡ Some k → HasNames n t → k.name.0 < n
+key-below n (var v) k e h = absurd cc
+key-below n (int i) k e h = absurd cc
+key-below n (node f ts) k e h = subst (λ (o : Option Pi). IfSome o (λ k. k.name.0 < n)) e h.0
+
+rules-push : (n : ℕ) (k : Pi) (rs : List Rule) (r : Rule) → All (λ r. IsRule n k r) rs → IsRule n k r → All (λ r. IsRule n k r) (rs ++ r ∷ [])
+rules-push n k rs r h s = All-push (λ (q : Rule). IsRule n k q) rs r h s
+
+no-rules : (n : ℕ) (k : Pi) → All (λ r. IsRule n k r) []
+no-rules n k = λ i d l. absurd (omega arith)
+
+new-row : (n : ℕ) (k : Pi) (r : Rule) → IsRule n k r → IsRow n k (extended_row None r)
+new-row n k r s = record { name = key-below n r.head k s.for s.head_names; rules = rules-push n k [] r (no-rules n k) s }
+
+more-row : (n : ℕ) (k : Pi) (p : Row) (r : Rule) → IsRow n k p → IsRule n k r → IsRow n k (extended_row (Some p) r)
+more-row n k p r h s = record { name = h.name; rules = rules-push n k p.clauses r h.rules s }
+
+row-found : (n : ℕ) (k : Pi) (rows : Rows) (r : Rule) → AreRows n rows → IsRule n k r → IsRow n k (extended_row (row_in rows k) r)
+row-found n k [] r h s = new-row n k r s
+row-found n k (e ∷ es) r h s =
+    by_test (pi_eq k e.0)
+    (λ y. subst (λ (o : Option Row). IsRow n k (extended_row o r)) (sym (if_true (pi_eq k e.0) (Some e.1) (row_in es k) y))
+    (more-row n k e.1 r (subst (λ (x : Pi). IsRow n x e.1) (sym (same-pi k e.0 y)) h.0) s))
+    (λ y. subst (λ (o : Option Row). IsRow n k (extended_row o r)) (sym (if_false (pi_eq k e.0) (Some e.1) (row_in es k) y)) (row-found n k es r h.1 s))
+
+pub row-put : (n : ℕ) (k : Pi) (p : Row) (rows : Rows) → AreRows n rows → IsRow n k p → AreRows n (with_row rows k p)
+row-put n k p [] h s = (s, tt)
+row-put n k p (e ∷ es) h s =
+    by_test (pi_eq k e.0)
+    (λ y. subst (λ (rs : Rows). AreRows n rs) (sym (if_true (pi_eq k e.0) ((e.0, p) ∷ es) (e ∷ with_row es k p) y)) (subst (λ (x : Pi). IsRow n x p) (same-pi k e.0 y) s, h.1))
+    (λ y. subst (λ (rs : Rows). AreRows n rs) (sym (if_false (pi_eq k e.0) ((e.0, p) ∷ es) (e ∷ with_row es k p) y)) (h.0, row-put n k p es h.1 s))
+
+-- a clause that joins
+pub sound-joins : (s : Stored) (k : Pi) (r : Rule) → IsSound s → IsRule (length s.names) k r → IsSound (with_rule s k r)
+sound-joins s k r h i = record {
+  names = h.names;
+  begins = h.begins;
+  table = h.table;
+  rows = row-put (length s.names) k (extended_row (row_in s.rows k) r) s.rows h.rows (row-found (length s.names) k s.rows r h.rows i);
+}
+
+-- a clause's variables are those of its parts
+module _ {P : Type 0} (term : P → Term ℕ) where
+  pub head-counted : (h : P) (b : Option P) → IsWithin (body_variables (λ p. variable_count (term p)) h b) (term h)
+  head-counted h None = within-count (term h) _ (omega arith)
+  head-counted h (Some p) = within-count (term h) (max (variable_count (term h)) (variable_count (term p))) (omega arith)
+
+  pub body-counted : (h : P) (b : Option P) → IfSome b (λ p. IsWithin (body_variables (λ p. variable_count (term p)) h b) (term p))
+  body-counted h None = tt
+  body-counted h (Some p) = within-count (term p) (max (variable_count (term h)) (variable_count (term p))) (omega arith)
+
+pub rule-made : (old new : List Text) (k : Pi) (r : Rule) (head : Term ℕ) (n : ℕ) → take (length old) new ≡ old → Some k ≡ pi_of head → r.head ≡ head → HasNames (length old) head → HasNames (length new) r.body
+    → r.vars ≡ n → IsWithin n head → IsWithin n r.body → IsRule (length new) k r
+rule-made old new k r head n e f own h b v wh wb = record {
+  for = ap pi_of own ∙ sym f;
+  head_names = subst (λ (t : Term ℕ). HasNames (length new) t) (sym own) (kept-has old new head e h);
+  body_names = b;
+  head_within = subst (λ (t : Term ℕ). IsWithin r.vars t) (sym own) (subst (λ (m : ℕ). IsWithin m head) (sym v) wh);
+  body_within = subst (λ (m : ℕ). IsWithin m r.body) (sym v) wb;
+}

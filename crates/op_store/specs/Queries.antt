@@ -1,0 +1,65 @@
+-- Goals and commands over the numbers of names, and over the names.
+use Rattle.std.specs.Prelude.{◌≡◌, ℕ, List, Some, None, Result, Ok, Err}
+use Rattle.op_logic.specs.Names.{named, HasNames}
+use Rattle.op_logic.specs.Term.{IsWithin}
+use Rattle.op_store.specs.Counted.{variable_count}
+use Rattle.op_trace.specs.World.{Text}
+use Rattle.op_reader.specs.declared.term_reader.Read.{Read}
+use Rattle.op_store.specs.declared.goal.Goal.{Goal}
+use Rattle.op_store.specs.declared.goal.Converted.{Converted}
+use Rattle.op_store.specs.declared.goal.Converted.TheVariants as converted_as
+use Rattle.op_store.specs.declared.command_fault.CommandFault.{CommandFault}
+use Rattle.op_store.specs.declared.command_fault.CommandFault.TheVariants as faults
+use Rattle.op_store.specs.Body.{converted}
+use Rattle.op_store.specs.Load.{Query, Found, Bad, unreadable, not_body}
+use Rattle.op_store.specs.Fault.{Fault, syntax, trailing, head, body, locked, directive}
+use Rattle.op_store.specs.Rows.{key_named}
+use Rattle.op_store.specs.declared.load_fault.LoadFaultKind.{LoadFaultKind}
+use Rattle.op_store.specs.declared.load_fault.LoadFaultKind.TheVariants as kinds
+use Rattle.op_store.specs.declared.load_fault.LoadFault.{LoadFault}
+use Rattle.op_store.specs.declared.load_fault.LoadFault.TheVariants as load_faults
+
+abbrev pub query_named : List Text → Goal → Query
+query_named names g = record { body = named names g.body; names = g.names; variables = g.vars }
+
+-- a goal whose names are in a table of so many, and whose variables are counted
+pub record IsSoundGoal (n : ℕ) (g : Goal) : Type 0 where
+  pub names : HasNames n g.body
+  pub within : IsWithin g.vars g.body
+
+abbrev pub IsSoundConverted : ℕ → Converted → Type 0
+IsSoundConverted n (converted_as.Goal g) = IsSoundGoal n g
+IsSoundConverted n (converted_as.NotBody t) = HasNames n t
+
+-- the goal of a term that was read, or the term, which stands for no body
+abbrev pub IsConverted : List Text → Read → Converted → Type 0
+IsConverted names r (converted_as.Goal g) =
+    ((converted (named names r.term)).body ≡ Some (named names g.body)) × (g.names ≡ r.names) × (g.vars ≡ variable_count (named names r.term))
+IsConverted names r (converted_as.NotBody t) = ((converted (named names r.term)).body ≡ None) × (t ≡ r.term)
+
+-- a term that stands for no body has its names in a table of so many
+abbrev pub IsSoundFault : ℕ → CommandFault → Type 0
+IsSoundFault n (faults.NotBody t) = HasNames n t
+IsSoundFault n e = Unit {0}
+
+-- what reading a command tells, over the names of a table
+abbrev pub TellsCommand : List Text → Result Goal CommandFault → Result Query Bad → Type 0
+TellsCommand names (Ok g) q = q ≡ Ok (query_named names g)
+TellsCommand names (Err faults.Memory) q = Unit {0}
+TellsCommand names (Err (faults.Bad place kind)) q = q ≡ Err (unreadable place kind)
+TellsCommand names (Err (faults.NotBody t)) q = q ≡ Err (not_body (named names t))
+
+-- a fault over the names of a table
+abbrev pub fault_named : List Text → LoadFaultKind → Fault
+fault_named names (kinds.Syntax kind) = syntax kind
+fault_named names kinds.Trailing = trailing
+fault_named names kinds.Head = head
+fault_named names kinds.Body = body
+fault_named names (kinds.Locked k) = locked (key_named names k)
+fault_named names kinds.Directive = directive
+
+-- what reading a goal tells
+abbrev pub TellsGoal : List Text → Result Goal LoadFault → Result Query Found → Type 0
+TellsGoal names (Ok g) q = q ≡ Ok (query_named names g)
+TellsGoal names (Err load_faults.Memory) q = Unit {0}
+TellsGoal names (Err (load_faults.At line kind)) q = q ≡ Err (record { line = line; fault = fault_named names kind })

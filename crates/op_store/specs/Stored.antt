@@ -1,0 +1,52 @@
+-- What a store has, over the numbers of its names, and the world that this is.
+use Rattle.std.specs.Prelude.{◌≡◌, ℕ, suc, false, List, [], ◌∷◌, Bool, Option, Some, None, length, take, codes}
+use Rattle.op_logic.specs.Names.{IsTable}
+use Rattle.op_term.specs.Ops.{Table, iso_table}
+use Rattle.op_term.specs.Ops as ops
+use Rattle.op_trace.specs.World.{Text}
+use Rattle.op_reader.specs.declared.quotes.DoubleQuotes.TheVariants.{Codes}
+use Rattle.op_bind.specs.declared.places.Clause.{Clause as Rule}
+use Rattle.op_store.specs.declared.flags.Flags.{Flags}
+use Rattle.op_store.specs.declared.locked.Locked.{Locked}
+use Rattle.op_store.specs.declared.pi.Pi.{Pi}
+use Rattle.op_store.specs.World.{World, Procedure}
+use Rattle.op_store.specs.Rows.{Rows, row_in, with_row, extended_row, all_rules, rows_named, AreRows}
+
+-- which names are locked; the names; the operators; the flags; the procedures; the number of the next clause
+pub record Stored : Type 0 where
+  pub locked : Locked
+  pub names : List Text
+  pub table : Table
+  pub flags : Flags
+  pub rows : Rows
+  pub next : ℕ
+
+abbrev pub world_of : Stored → World
+world_of s = record { procedures = rows_named s.names s.rows; next = s.next; table = s.table; flags = s.flags }
+
+-- the names that have the numbers 0 to 7: those of the control constructs (ISO/IEC 13211-1, 7.8), where call has any number of arguments
+abbrev pub first_names : List Text
+first_names = codes "true" ∷ codes "fail" ∷ codes "false" ∷ codes "," ∷ codes ";" ∷ codes "->" ∷ codes "!" ∷ codes "call" ∷ []
+
+-- at first: the operators of the standard, text in double quotes as codes, and unknown procedures are errors
+abbrev pub new_store : Locked → Stored
+new_store l = record { locked = l; names = first_names; table = iso_table; flags = record { quotes = Codes; unknown_fails = false }; rows = []; next = 0 }
+
+-- a clause joins at the end of its procedure
+abbrev pub with_rule : Stored → Pi → Rule → Stored
+with_rule s k r = record s { rows = with_row s.rows k (extended_row (row_in s.rows k) r); next = suc s.next }
+
+-- all clauses, procedure by procedure in order of first sight
+abbrev pub rules_of : Stored → List Rule
+rules_of s = all_rules s.rows
+
+abbrev pub is_dynamic_row : Option Procedure → Bool
+is_dynamic_row None = false
+is_dynamic_row (Some p) = p.dynamic
+
+-- the names begin with those of the control constructs, and those of the procedures and their clauses are among them
+pub record IsSound (s : Stored) : Type 0 where
+  pub names : IsTable s.names
+  pub begins : take 8 s.names ≡ first_names
+  pub table : ops.IsTable s.table
+  pub rows : AreRows (length s.names) s.rows

@@ -1,0 +1,52 @@
+ghost use Rattle.std.specs.Prelude.{◌≡◌, ◌<◌, ℕ, length};
+ghost use Rattle.op_logic.specs.Names.{HasNames, named};
+ghost use Rattle.op_store.specs.Body.{part_of_term, connective};
+
+use op_term::{Node, Symbols, Tree};
+
+/// What a term is as a part of a body (ISO/IEC 13211-1, 7.6.2): a control construct of two parts, a variable, another goal, or a number,
+/// which is no goal.
+#[derive(Clone, Copy, Debug, PartialEq, Eq)]
+pub(crate) enum Part {
+    And,
+    Or,
+    Then,
+    Variable,
+    Goal,
+    Number,
+}
+
+// What a compound of two arguments is.
+fn pair_part(name: &str) -> Part
+    ensures { result ≡ connective name.now }
+{
+    if name == "," {
+        Part::And
+    } else if name == ";" {
+        Part::Or
+    } else if name == "->" {
+        Part::Then
+    } else {
+        Part::Goal
+    }
+}
+
+/// What the term at a place is.
+pub(crate) fn part_of<T: Tree>(tree: &T, at: &T::At, symbols: &Symbols) -> Part
+    requires place { T.IsPlace tree.now at.now }
+    requires names { HasNames (length symbols.now) (T.term tree.now at.now) }
+    ensures { result ≡ part_of_term (named symbols.now (T.term tree.now at.now)) }
+{
+    match tree.node(at) {
+        Node::Var(_) => Part::Variable,
+        Node::Int(_) => Part::Number,
+        Node::Atom(_) => Part::Goal,
+        Node::Struct(name, arity) => {
+            if arity == 2 {
+                pair_part(symbols.name_of(name))
+            } else {
+                Part::Goal
+            }
+        }
+    }
+}

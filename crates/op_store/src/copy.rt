@@ -1,0 +1,122 @@
+ghost use Rattle.std.specs.Prelude.{◌≡◌, ◌<◌, ◌≤◌, ◌++◌, ◌∷◌, [], ℕ, length, take, drop, map, All, IfOk, OnOk};
+ghost use Rattle.op_logic.specs.Term.{Term as SpecTerm, args_of, arity};
+ghost use Rattle.op_term.specs.Places.{term_at};
+ghost use Rattle.op_bind.specs.Built.{visit, join, HasArgs};
+ghost use Rattle.op_store.specs.Copied.{args_list, argument_count};
+
+use op_base::Memory;
+use op_term::{Builder, Node, Tree};
+use std::alloc::Global;
+
+fn arity_of(node: Node) -> u64
+    ensures { result ≡ argument_count node }
+{
+    match node {
+        Node::Struct(_, n) => n,
+        _ => 0,
+    }
+}
+
+// The places of a term's arguments, the last on top.
+fn push_args<T: Tree>(tree: &T, at: &T::At, n: u64, todo: &mut Vec<T::At>) -> Result<(), Memory>
+    requires place { T.IsPlace tree.now at.now }
+    requires count { n ≡ arity (args_of (T.term tree.now at.now)) }
+    requires todo { All (λ p. T.IsPlace tree.now p) todo.old.items }
+    ensures todo { OnOk result (All (λ p. T.IsPlace tree.now p) todo.new.items) }
+    ensures terms { OnOk result (map (λ p. T.term tree.now p) todo.new.items
+        ≡ map (λ p. T.term tree.now p) todo.old.items ++ args_list (args_of (T.term tree.now at.now))) }
+{
+    'push: for i in 0..n {
+        todo.push(tree.part(at, i))?;
+    }
+    Ok(())
+}
+
+// The nodes of a term, each before its arguments', and the last argument's first.
+pub(crate) fn nodes_of<T: Tree>(alloc: Global, tree: &T, at: &T::At) -> Result<Vec<Node>, Memory>
+    requires { T.IsPlace tree.now at.now }
+    ensures { IfOk result (λ nodes. nodes.items ≡ visit (T.term tree.now at.now)) }
+{
+    let mut todo = Vec::new(alloc);
+    let mut nodes = Vec::new(alloc);
+    todo.push(*at)?;
+    'walk: while let Some(next) = todo.pop() {
+        let node = tree.node(&next);
+        nodes.push(node)?;
+        push_args(tree, &next, arity_of(node), &mut todo)?;
+    }
+    Ok(nodes)
+}
+
+// Makes a node of what was made, with the arguments that stand last, which are taken.
+fn make_node(node: Node, made: &mut Builder, stack: &mut Vec<u64>) -> Result<u64, Memory>
+    requires there { All (λ r. r < length made.old) stack.old.items }
+    requires args { HasArgs node (map (term_at made.old) stack.old.items) }
+    ensures place { IfOk result (λ at. at < length made.new) }
+    ensures there { OnOk result (All (λ r. r < length made.new) stack.new.items) }
+    ensures joined { IfOk result (λ at. map (term_at made.new) (stack.new.items ++ at ∷ [])
+        ≡ join node (map (term_at made.old) stack.old.items)) }
+    ensures kept { take (length made.old) made.new ≡ made.old }
+{
+    match node {
+        Node::Var(v) => made.var(v),
+        Node::Int(i) => made.int(i),
+        Node::Atom(name) => made.atom(name),
+        Node::Struct(name, n) => {
+            let from = stack.len() - n as usize;
+            let at = made.compound(name, tail(stack, from))?;
+            stack.truncate(from);
+            return Ok(at);
+        }
+    }
+}
+
+fn tail(numbers: &[u64], from: usize) -> &[u64]
+    requires { from ≤ length numbers.now }
+    ensures { result.now ≡ drop from numbers.now }
+{
+    &numbers[from..]
+}
+
+// A node joins what was made.
+fn join_node(node: Node, made: &mut Builder, stack: &mut Vec<u64>) -> Result<(), Memory>
+    requires there { All (λ r. r < length made.old) stack.old.items }
+    requires args { HasArgs node (map (term_at made.old) stack.old.items) }
+    ensures there { OnOk result (All (λ r. r < length made.new) stack.new.items) }
+    ensures joined { OnOk result (map (term_at made.new) stack.new.items ≡ join node (map (term_at made.old) stack.old.items)) }
+    ensures kept { take (length made.old) made.new ≡ made.old }
+{
+    let at = make_node(node, made, stack)?;
+    stack.push(at)?;
+    Ok(())
+}
+
+// The term of nodes that were met, behind what was made before.
+fn build(alloc: Global, mut nodes: Vec<Node>, made: &mut Builder) -> Result<u64, Memory>
+    requires { (t : SpecTerm ℕ) × (nodes.items ≡ visit t) }
+    ensures there { IfOk result (λ r. r < length made.new) }
+    ensures term { IfOk result (λ r. (t : SpecTerm ℕ) → nodes.items ≡ visit t → term_at made.new r ≡ t) }
+    ensures kept { take (length made.old) made.new ≡ made.old }
+{
+    let mut stack = Vec::new(alloc);
+    'back: while let Some(node) = nodes.pop() {
+        join_node(node, made, &mut stack)?;
+    }
+    Ok(stack[0])
+}
+
+/// The term at a place of a tree, made again behind what was made before: the number of its node.
+pub(crate) fn copy_term<T: Tree>(
+    alloc: Global,
+    tree: &T,
+    at: &T::At,
+    made: &mut Builder,
+) -> Result<u64, Memory>
+    requires { T.IsPlace tree.now at.now }
+    ensures there { IfOk result (λ r. r < length made.new) }
+    ensures term { IfOk result (λ r. term_at made.new r ≡ T.term tree.now at.now) }
+    ensures kept { take (length made.old) made.new ≡ made.old }
+{
+    let nodes = nodes_of(alloc, tree, at)?;
+    build(alloc, nodes, made)
+}

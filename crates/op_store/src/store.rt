@@ -1,0 +1,264 @@
+ghost use Rattle.std.specs.Prelude.{◌≡◌, ◌≢◌, ◌<◌, ℕ, [], length, take, map, option_map, Some, None, Ok, Err, IfOk, IfErr, IfSome, OnOk, OnErr, is_some};
+ghost use Rattle.op_logic.specs.Names.{IsTable, HasNames, named};
+ghost use Rattle.op_logic.specs.Term.{IsWithin};
+ghost use Rattle.op_store.specs.Counted.{variable_count};
+ghost use Rattle.op_store.specs.Body.{converted};
+ghost use Rattle.op_store.specs.Clauses.{with_parts};
+ghost use Rattle.op_store.specs.Parts.{body_text, body_variables};
+ghost use Rattle.op_term.specs.Ops.{set_in};
+ghost use Rattle.op_term.specs.declared.ops.OpFault.TheVariants.{Memory as want_of_memory};
+ghost use Rattle.op_store.specs.World.{procedure_in, clauses_of_world, key_of};
+ghost use Rattle.op_store.specs.Load.{goal_of, command_of};
+ghost use Rattle.op_store.specs.Locked.{is_locked as the_locked};
+ghost use Rattle.op_store.specs.Rows.{row_in, key_named, clause_named, IsRule};
+
+use crate::builtins::is_locked_name;
+use crate::clause_parts::{clause_body, clause_variables, own_term, procedure_of};
+use crate::command::read_command;
+use crate::command_fault::CommandFault;
+use crate::first_names::first_symbols;
+use crate::flags::Flags;
+use crate::goal::Goal;
+use crate::goal_text::read_goal;
+use crate::load_fault::{LoadFault, LoadFaultKind};
+use crate::locked::Locked;
+use crate::pi::Pi;
+use crate::procedures::Procedures;
+use crate::snapshot::Snapshot;
+use crate::term_fault::TermFault;
+use op_base::Memory;
+use op_bind::Clause;
+use op_reader::DoubleQuotes;
+use op_term::{OpFault, OpKind, Ops, Symbols, Term, Tree};
+use std::alloc::Global;
+use std::marker::Model;
+
+/// A program as it stands: its names, operators, flags and procedures. A clause sees them over the numbers of the names; `world_of` says
+/// what they are.
+#[derive(Drop)]
+pub struct Store {
+    alloc: Global,
+    locked: Locked,
+    symbols: Symbols,
+    ops: Ops,
+    flags: Flags,
+    procedures: Procedures,
+    next: u64,
+}
+
+impl Model for Store {
+    ghost use Rattle.std.specs.Coded.{codes};
+    ghost use Rattle.op_logic.specs.Code.{term_code};
+    ghost use Rattle.op_store.specs.Stored.{Stored, IsSound};
+
+    ghost Value = { Stored };
+
+    ghost coded = { Prim.hlevel (codes, term_code) };
+
+    ghost view = { λ s. record { locked = s.locked; names = s.symbols; table = s.ops; flags = s.flags; rows = s.procedures; next = s.next } };
+
+    ghost invariant = { λ s. IsSound (record { locked = s.locked; names = s.symbols; table = s.ops; flags = s.flags; rows = s.procedures; next = s.next }) };
+}
+
+impl Store {
+    ghost use Rattle.op_store.specs.Queries.{TellsGoal, TellsCommand, IsSoundGoal, IsSoundFault};
+    ghost use Rattle.op_store.specs.Told.{TellsTerm, with_names};
+    ghost use Rattle.op_store.specs.Stored.{Stored, world_of, new_store, with_rule, rules_of, is_dynamic_row, IsSound};
+
+    /// A store without clauses, with the operators of the standard and the names of the control constructs.
+    pub fn new(alloc: Global, locked: Locked) -> Result<Store, Memory>
+        ensures { IfOk result (λ s. s ≡ new_store locked) }
+    {
+        Ok(Store {
+            alloc,
+            locked,
+            symbols: first_symbols(alloc)?,
+            ops: Ops::iso(alloc)?,
+            flags: Flags {
+                quotes: DoubleQuotes::Codes,
+                unknown_fails: false,
+            },
+            procedures: Procedures::new(alloc),
+            next: 0,
+        })
+    }
+
+    /// The names.
+    pub fn symbols(&self) -> &Symbols
+        ensures { result.now ≡ self.now.names }
+    {
+        &self.symbols
+    }
+
+    /// The operators.
+    pub fn ops(&self) -> &Ops
+        ensures { result.now ≡ self.now.table }
+    {
+        &self.ops
+    }
+
+    /// Sets an operator, or removes it by priority 0, as `Ops::set` does.
+    pub fn set_op(&mut self, priority: i64, kind: OpKind, name: &str) -> Result<(), OpFault>
+        ensures ok { OnOk result (set_in self.old.table priority kind name.now ≡ Ok self.new.table) }
+        ensures kept { self.new ≡ record self.old { table = self.new.table } }
+        ensures refused { IfErr result (λ e. e ≢ want_of_memory → set_in self.old.table priority kind name.now ≡ Err e) }
+        ensures err { OnErr result (self.new ≡ self.old) }
+    {
+        self.ops.set(priority, kind, name)
+    }
+
+    /// The flags.
+    pub fn flags(&self) -> Flags
+        ensures { result ≡ self.now.flags }
+    {
+        self.flags
+    }
+
+    /// Sets the flags.
+    pub fn set_flags(&mut self, flags: Flags)
+        ensures { self.new ≡ record self.old { flags = flags } }
+    {
+        self.flags = flags;
+    }
+
+    /// The clauses of a procedure at this moment, or None where there is no such procedure. It takes constant time.
+    pub fn snapshot(&self, pi: Pi) -> Result<Option<Snapshot>, Memory>
+        ensures rules { IfOk result (λ o. o ≡ option_map (λ p. p.clauses) (row_in self.now.rows pi)) }
+        ensures world { IfOk result (λ o. option_map (map (clause_named self.now.names)) o
+            ≡ option_map (λ p. p.clauses) (procedure_in (world_of self.now).procedures (key_named self.now.names pi))) }
+    {
+        let _names = self.symbols.count();
+        match self.procedures.find(pi) {
+            Some(procedure) => Ok(Some(procedure.clauses.copy()?)),
+            None => Ok(None),
+        }
+    }
+
+    /// All clauses at this moment, procedure by procedure in order of first sight. It takes time linear in their number.
+    pub fn all_clauses(&self) -> Result<Snapshot, Memory>
+        ensures rules { IfOk result (λ all. all ≡ rules_of self.now) }
+        ensures world { IfOk result (λ all. map (clause_named self.now.names) all ≡ clauses_of_world (world_of self.now)) }
+        ensures sound { IsSound self.now }
+    {
+        self.procedures.all_clauses()
+    }
+
+    /// Whether there is a procedure, with clauses or without.
+    pub fn has_procedure(&self, pi: Pi) -> bool
+        ensures { result ≡ is_some (procedure_in (world_of self.now).procedures (key_named self.now.names pi)) }
+    {
+        self.procedures.find(pi).is_some()
+    }
+
+    /// Whether the program may change a procedure.
+    pub fn is_dynamic(&self, pi: Pi) -> bool
+        ensures { result ≡ is_dynamic_row (procedure_in (world_of self.now).procedures (key_named self.now.names pi)) }
+    {
+        let _names = self.symbols.count();
+        match self.procedures.find(pi) {
+            Some(procedure) => procedure.dynamic,
+            None => false,
+        }
+    }
+
+    /// Whether no clause may be for a procedure.
+    pub fn is_locked(&self, pi: Pi) -> bool
+        requires { pi.name.0 < length self.now.names }
+        ensures { result ≡ the_locked self.now.locked (key_named self.now.names pi) }
+    {
+        is_locked_name(self.locked, self.symbols.name_of(pi.name), pi.arity)
+    }
+
+    /// Reads a goal, with a full stop of its own on a line behind it, and converts it. It is refused for syntax, for what stands behind
+    /// it and for its body alone. Names that were new stay, also after a refusal.
+    pub fn goal(&mut self, text: &[u8]) -> Result<Goal, LoadFault>
+        ensures tells { TellsGoal self.new.names result (goal_of self.old.table self.old.flags.quotes text.now) }
+        ensures sound { IfOk result (IsSoundGoal (length self.new.names)) }
+        ensures kept { self.new ≡ record self.old { names = self.new.names } }
+        ensures names { take (length self.old.names) self.new.names ≡ self.old.names }
+    {
+        let goal = read_goal(self.alloc, &self.ops, self.flags, &mut self.symbols, text);
+        let _count = self.symbols.count();
+        goal
+    }
+
+    /// Reads a command and converts it. Names that were new stay, also after a refusal.
+    pub fn command(&mut self, text: &[u8]) -> Result<Goal, CommandFault>
+        ensures tells { TellsCommand self.new.names result (command_of self.old.table self.old.flags.quotes text.now) }
+        ensures sound { IfOk result (IsSoundGoal (length self.new.names)) }
+        ensures refused { IfErr result (IsSoundFault (length self.new.names)) }
+        ensures kept { self.new ≡ record self.old { names = self.new.names } }
+        ensures names { take (length self.old.names) self.new.names ≡ self.old.names }
+    {
+        let goal = read_command(self.alloc, &self.ops, self.flags, &mut self.symbols, text);
+        let _count = self.symbols.count();
+        goal
+    }
+
+    // Adds a clause at the end of its procedure, under the next number.
+    pub(crate) fn add(&mut self, pi: Pi, head: Term, body: Term, vars: u64) -> Result<(), Memory>
+        requires { IsRule (length self.old.names) pi (record { id = self.old.next; head = head; body = body; vars = vars }) }
+        ensures ok { OnOk result (self.new ≡ with_rule self.old pi (record { id = self.old.next; head = head; body = body; vars = vars })) }
+        ensures err { OnErr result (self.new ≡ self.old) }
+    {
+        let id = self.next;
+        let next = id.checked_add(1).ok_or(Memory)?;
+        let clause = Clause {
+            id,
+            head,
+            body,
+            vars,
+        };
+        self.procedures.add(pi, clause)?;
+        self.next = next;
+        Ok(())
+    }
+
+    // The body of a clause, or None where the term stands for no body. Names that were new stay.
+    fn body_term<T: Tree>(&mut self, tree: &T, body: Option<T::At>) -> Result<Option<Term>, Memory>
+        requires place { IfSome body (λ b. T.IsPlace tree.now b) }
+        requires names { IfSome body (λ b. HasNames (length self.old.names) (T.term tree.now b)) }
+        ensures body { IfOk result (λ o. option_map (named self.new.names) o ≡ (converted (body_text (λ p. named self.new.names (T.term tree.now p)) body)).body) }
+        ensures has { IfOk result (λ o. IfSome o (HasNames (length self.new.names))) }
+        ensures within { IfOk result (λ o. (n : ℕ) → IfSome body (λ b. IsWithin n (T.term tree.now b)) → IfSome o (IsWithin n)) }
+        ensures kept { self.new ≡ with_names self.old self.new.names }
+        ensures names { take (length self.old.names) self.new.names ≡ self.old.names }
+    {
+        let made = clause_body(self.alloc, &mut self.symbols, tree, body);
+        let _count = self.symbols.count();
+        made
+    }
+
+    /// Adds the clause of a head and a body, which a fact hasn't. It is refused for its head, then its body, then its name.
+    pub(crate) fn add_clause<T: Tree>(
+        &mut self,
+        tree: &T,
+        head: &T::At,
+        body: Option<T::At>,
+    ) -> Result<(), TermFault>
+        requires head { T.IsPlace tree.now head.now }
+        requires head_names { HasNames (length self.old.names) (T.term tree.now head.now) }
+        requires body { IfSome body (λ b. T.IsPlace tree.now b) }
+        requires body_names { IfSome body (λ b. HasNames (length self.old.names) (T.term tree.now b)) }
+        ensures tells { TellsTerm (with_names self.old self.new.names) self.new result
+            (with_parts self.old.locked (world_of (with_names self.old self.new.names)) (named self.new.names (T.term tree.now head.now))
+            (body_variables (λ p. variable_count (T.term tree.now p)) head.now body) (key_of (named self.new.names (T.term tree.now head.now)))
+            (converted (body_text (λ p. named self.new.names (T.term tree.now p)) body)).body) }
+        ensures names { take (length self.old.names) self.new.names ≡ self.old.names }
+    {
+        let Some(pi) = procedure_of(tree, head) else {
+            return Err(TermFault::Refused(LoadFaultKind::Head));
+        };
+        let body_term = match self.body_term(tree, body)? {
+            Some(term) => term,
+            None => return Err(TermFault::Refused(LoadFaultKind::Body)),
+        };
+        if self.is_locked(pi) {
+            return Err(TermFault::Refused(LoadFaultKind::Locked(pi)));
+        }
+        let vars = clause_variables(self.alloc, tree, head, body)?;
+        let head_term = own_term(self.alloc, tree, head)?;
+        self.add(pi, head_term, body_term, vars)?;
+        Ok(())
+    }
+}

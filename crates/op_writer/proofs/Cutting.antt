@@ -1,0 +1,69 @@
+-- A part of a text that is longer than a line is cut as the text.
+use Rattle.std.proofs.Common.{◌≡◌, ◌<◌, ◌≤◌, ◌-◌, ℕ, zero, suc, Bool, true, false, cond, ◌&&◌, List, ◌++◌, length, take, get_or, leb, ltb, refl, sym, ◌∙◌, ap, arith, length-append}
+use Rattle.std.specs.Prelude.{codes}
+use Rattle.std.proofs.lemmas.List.{get_or_append_left, take-append-le, append-nil}
+use Rattle.std.proofs.lemmas.Bool.{lt-leb}
+use Rattle.op_logic.proofs.Tests.{by_test, by_order, if_true, if_false}
+use Rattle.op_writer.specs.Cut.{boundary, cut}
+use Rattle.op_writer.specs.Stack.{IsFront}
+
+abbrev continues : List ℕ → ℕ → Bool
+continues t n = leb 128 (get_or t n 0) && ltb (get_or t n 0) 192
+
+pub boundary-zero : (t : List ℕ) → boundary t 0 ≡ 0
+unfolding boundary
+boundary-zero t = refl
+
+pub boundary-suc : (t : List ℕ) (n : ℕ) → boundary t (suc n) ≡ cond (continues t (suc n)) (boundary t n) (suc n)
+unfolding boundary
+boundary-suc t n = refl
+
+-- a step back from a place where no character begins, and none from one where one does
+pub boundary-back : (t : List ℕ) (n : ℕ) → 0 < n → continues t n ≡ true → boundary t (n - 1) ≡ boundary t n
+boundary-back t zero l h = absurd (omega arith)
+boundary-back t (suc n) l h =
+    let e : suc n - 1 ≡ n = omega arith in
+    ap (boundary t) e ∙ sym (boundary-suc t n ∙ if_true (continues t (suc n)) (boundary t n) (suc n) h)
+
+pub boundary-here : (t : List ℕ) (n : ℕ) → continues t n ≡ false → n ≡ boundary t n
+boundary-here t zero h = sym (boundary-zero t)
+boundary-here t (suc n) h = sym (boundary-suc t n ∙ if_false (continues t (suc n)) (boundary t n) (suc n) h)
+
+pub boundary-le : (t : List ℕ) (n : ℕ) → boundary t n ≤ n
+boundary-le t zero = omega (arith, boundary-zero t)
+boundary-le t (suc n) = by_test (continues t (suc n))
+    (λ e. let h = boundary-le t n in let f = if_true (continues t (suc n)) (boundary t n) (suc n) e in omega (arith, h, f, boundary-suc t n))
+    (λ e. let f = if_false (continues t (suc n)) (boundary t n) (suc n) e in omega (arith, f, boundary-suc t n))
+
+pub boundary-front : (b more : List ℕ) (n : ℕ) → n < length b → boundary (b ++ more) n ≡ boundary b n
+boundary-front b more zero l = boundary-zero (b ++ more) ∙ sym (boundary-zero b)
+boundary-front b more (suc n) l =
+    let same : get_or (b ++ more) (suc n) 0 ≡ get_or b (suc n) 0 = get_or_append_left b more 0 (suc n) l in
+    let h = boundary-front b more n (omega (arith, l)) in
+    boundary-suc (b ++ more) n
+    ∙ (ap (λ (x : ℕ). cond (leb 128 x && ltb x 192) (boundary (b ++ more) n) (suc n)) same
+    ∙ (ap (λ (x : ℕ). cond (continues b (suc n)) x (suc n)) h ∙ sym (boundary-suc b n)))
+
+-- a part within the limit is the whole
+pub front-whole : (limit : ℕ) (b t : List ℕ) → IsFront limit b t → length b ≤ limit → t ≡ b
+front-whole limit b t f l = f.1.0 ∙ (ap (λ (m : List ℕ). b ++ m) (f.1.1 l) ∙ append-nil b)
+
+-- and one that is longer says that the whole is longer
+pub front-longer : (limit : ℕ) (b t : List ℕ) → IsFront limit b t → limit < length b → limit < length t
+front-longer limit b t f l = omega (arith, l, ap length f.1.0, length-append b f.0)
+
+cut-whole : (b t : List ℕ) → IsFront 4096 b t → length b ≤ 4096 → cut t ≡ cut b
+cut-whole b t f l = ap cut (front-whole 4096 b t f l)
+
+cut-longer : (b t : List ℕ) → IsFront 4096 b t → 4096 < length b → cut t ≡ cut b
+cut-longer b t f l =
+    let longer = front-longer 4096 b t f l in
+    let same : boundary t 4096 ≡ boundary b 4096 = ap (λ (x : List ℕ). boundary x 4096) f.1.0 ∙ boundary-front b f.0 4096 l in
+    let short : take (boundary t 4096) t ≡ take (boundary b 4096) b =
+    ap (λ (n : ℕ). take n t) same ∙ (ap (take (boundary b 4096)) f.1.0 ∙ take-append-le (boundary b 4096) b f.0 (omega (arith, boundary-le b 4096, l))) in
+    if_false (leb (length t) 4096) t (take (boundary t 4096) t ++ codes "...") (lt-leb (length t) 4096 longer)
+    ∙ (ap (λ (x : List ℕ). x ++ codes "...") short ∙ sym (if_false (leb (length b) 4096) b (take (boundary b 4096) b ++ codes "...") (lt-leb (length b) 4096 l)))
+
+-- a part that is longer than a line is cut as the whole
+pub cut-front : (b t : List ℕ) → IsFront 4096 b t → cut t ≡ cut b
+cut-front b t f = by_order 4096 (length b) (cut-longer b t f) (cut-whole b t f)

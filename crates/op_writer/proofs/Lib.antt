@@ -1,0 +1,7 @@
+mod Names
+mod Terms
+mod Forms
+mod Letters
+mod Expanding
+mod Cutting
+mod Named

@@ -1,0 +1,8 @@
+pub mod Signs
+pub mod Spelling
+pub mod Pieces
+pub mod Text
+pub mod Cut
+pub mod Stack
+pub mod Named
+pub mod Examples

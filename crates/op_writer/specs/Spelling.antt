@@ -1,0 +1,54 @@
+-- How a name is spelt (ISO/IEC 13211-1, 6.4.2).
+use Rattle.std.specs.Prelude.{ℕ, ◌+◌, ◌/◌, ◌%◌, Bool, false, not, ◌||◌, ◌&&◌, ◌==◌, nat_lt, List, [], ◌∷◌, ◌++◌, take, if◌then◌else◌, codes, bytes_eq, encode_utf8}
+use Rattle.std.specs.List.{list_all, flat_map}
+use Rattle.std.specs.Str.{chars}
+use Rattle.op_writer.specs.Signs.{is_symbol, is_word, is_small, is_control}
+use Rattle.op_writer.specs.declared.style.Style.{Style}
+use Rattle.op_writer.specs.declared.style.Style.TheVariants.{Plain, Quoted, Canonical}
+
+-- symbol characters alone, one at least
+abbrev pub is_symbolic : List ℕ → Bool
+is_symbolic [] = false
+is_symbolic (b ∷ bs) = is_symbol b && list_all is_symbol bs
+
+-- a small letter, and then letters, digits and _
+abbrev pub is_word_name : List ℕ → Bool
+is_word_name [] = false
+is_word_name (b ∷ bs) = is_small b && list_all is_word bs
+
+abbrev pub is_solo : List ℕ → Bool
+is_solo name = bytes_eq name (codes "[]") || bytes_eq name (codes "{}") || bytes_eq name (codes "!") || bytes_eq name (codes ";")
+
+-- the full stop, and what begins a comment
+abbrev pub is_other_token : List ℕ → Bool
+is_other_token name = bytes_eq name (codes ".") || bytes_eq (take 2 name) (codes "/*")
+
+-- a name that needs no quotes
+abbrev pub is_unquoted : List ℕ → Bool
+is_unquoted name = is_word_name name || is_solo name || (is_symbolic name && not (is_other_token name))
+
+-- a digit to base 16
+abbrev pub digit : ℕ → ℕ
+digit d = if nat_lt d 10 then 48 + d else 87 + d
+
+-- a number below 256 in hexadecimal, without leading zeros
+abbrev pub hexadecimal : ℕ → List ℕ
+hexadecimal c = if nat_lt c 16 then digit c ∷ [] else digit (c / 16) ∷ digit (c % 16) ∷ []
+
+-- a character inside quotes
+abbrev pub escaped : ℕ → List ℕ
+escaped c =
+    if c == 10 then codes "\\n" else
+    if c == 9 then codes "\\t" else
+    if c == 92 then codes "\\\\" else
+    if c == 39 then codes "\\'" else
+    if is_control c then codes "\\x" ++ hexadecimal c ++ codes "\\" else encode_utf8 c
+
+abbrev pub quoted : List ℕ → List ℕ
+quoted name = codes "'" ++ flat_map escaped (chars name) ++ codes "'"
+
+-- a name as a style writes it: plain as it is, else in quotes where it needs them
+abbrev pub name_text : Style → List ℕ → List ℕ
+name_text Plain name = name
+name_text Quoted name = if is_unquoted name then name else quoted name
+name_text Canonical name = if is_unquoted name then name else quoted name

@@ -1,0 +1,133 @@
+ghost use Rattle.std.specs.Prelude.{◌≡◌, ◌<◌, ◌++◌, OnOk, OnErr, codes, bytes_eq, take, IfOk, true, false};
+ghost use Rattle.std.specs.List.{list_all};
+ghost use Rattle.op_writer.specs.Signs.{is_symbol as symbol, is_word as word};
+ghost use Rattle.op_writer.specs.Spelling.{is_symbolic as symbolic, is_word_name as word_name, is_solo as solo, is_unquoted as unquoted, hexadecimal, escaped, quoted, digit as hexadecimal_digit, name_text};
+
+use crate::signs::{is_control, is_small, is_symbol, is_word};
+use crate::style::Style;
+use op_base::Memory;
+use op_desk::Bytes;
+use std::alloc::Global;
+
+fn all_symbols(name: &[u8]) -> bool
+    ensures { result ≡ list_all symbol name.now }
+{
+    name.iter().all(|b| is_symbol(*b))
+}
+
+fn all_words(name: &[u8]) -> bool
+    ensures { result ≡ list_all word name.now }
+{
+    name.iter().all(|b| is_word(*b))
+}
+
+/// Symbol characters alone, one at least.
+pub fn is_symbolic(name: &[u8]) -> bool
+    ensures { result ≡ symbolic name.now }
+{
+    !name.is_empty() && all_symbols(name)
+}
+
+fn is_word_name(name: &[u8]) -> bool
+    ensures { result ≡ word_name name.now }
+{
+    !name.is_empty() && is_small(name[0]) && all_words(&name[1..])
+}
+
+fn is_solo(name: &str) -> bool
+    ensures { result ≡ solo name.now }
+{
+    name == "[]" || name == "{}" || name == "!" || name == ";"
+}
+
+fn begins_comment(name: &[u8]) -> bool
+    ensures { result ≡ bytes_eq (take 2 name.now) (codes "/*") }
+{
+    name.len() >= 2 && name[0] == b'/' && name[1] == b'*'
+}
+
+/// A name that needs no quotes.
+pub fn is_unquoted(name: &str) -> bool
+    ensures { result ≡ unquoted name.now }
+{
+    let bytes = name.as_bytes();
+    is_word_name(bytes)
+        || is_solo(name)
+        || (is_symbolic(bytes) && !(name == "." || begins_comment(bytes)))
+}
+
+/// Whether a style writes a name in quotes.
+pub fn has_quotes(style: Style, name: &str) -> bool
+    ensures yes { result ≡ true → name_text style name.now ≡ quoted name.now }
+    ensures no { result ≡ false → name_text style name.now ≡ name.now }
+{
+    match style {
+        Style::Plain => false,
+        _ => !is_unquoted(name),
+    }
+}
+
+fn digit(d: u32) -> u8
+    requires { d < 16 }
+    ensures { result ≡ hexadecimal_digit d }
+{
+    if d < 10 {
+        b'0' + d as u8
+    } else {
+        b'a' + (d - 10) as u8
+    }
+}
+
+fn add_hexadecimal(out: &mut Bytes, c: u32) -> Result<(), Memory>
+    requires { c < 256 }
+    ensures { OnOk result (out.new ≡ out.old ++ hexadecimal c) }
+{
+    if c >= 16 {
+        out.push(digit(c / 16))?;
+    }
+    out.push(digit(c % 16))
+}
+
+fn add_control(out: &mut Bytes, c: u32) -> Result<(), Memory>
+    requires { c < 256 }
+    ensures { OnOk result (out.new ≡ out.old ++ (codes "\\x" ++ hexadecimal c ++ codes "\\")) }
+{
+    out.append(b"\\x")?;
+    add_hexadecimal(out, c)?;
+    out.append(b"\\")
+}
+
+fn add_escaped(out: &mut Bytes, c: char) -> Result<(), Memory>
+    ensures { OnOk result (out.new ≡ out.old ++ escaped c) }
+{
+    if c == '\n' {
+        return out.append(b"\\n");
+    }
+    if c == '\t' {
+        return out.append(b"\\t");
+    }
+    if c == '\\' {
+        return out.append(b"\\\\");
+    }
+    if c == '\'' {
+        return out.append(b"\\'");
+    }
+    if is_control(c) {
+        return add_control(out, c as u32);
+    }
+    let mut buffer = [0; 4];
+    out.append(c.encode_utf8(&mut buffer).as_bytes())
+}
+
+/// A name in quotes.
+pub fn in_quotes(alloc: Global, name: &str) -> Result<Bytes, Memory>
+    ensures { IfOk result (λ b. b ≡ quoted name.now) }
+{
+    let mut out = Bytes::new(alloc);
+    out.append(b"'")?;
+    for c in name.chars() {
+        add_escaped(&mut out, c)?;
+    }
+    out.append(b"'")?;
+    Ok(out)
+}
