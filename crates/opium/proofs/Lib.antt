@@ -8,3 +8,4 @@ pub mod NoEnd
 pub mod Finishing
 pub mod Leaving
 pub mod Outcomes
+pub mod Runnables

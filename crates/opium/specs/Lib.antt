@@ -6,5 +6,6 @@ pub mod Line
 pub mod Moves
 pub mod Progress
 pub mod Promise
+pub mod Runnable
 pub mod Session
 pub mod Sight

@@ -9,6 +9,7 @@ mod call;
 mod command;
 mod feed;
 mod line;
+mod runnable;
 mod session;
 mod status;
 mod talk;

@@ -1,0 +1,45 @@
+-- Which goals can be run by now. A body is a conjunction of parts, and each is `true`, `fail` or `false`, or its procedure is one of the
+-- program: it has a clause, or it is dynamic. The other control constructs and the builtins have none (ISO/IEC 13211-1, 7.8 and 8).
+use Rattle.std.specs.Prelude.{ℕ, ◌==◌, ◌||◌, ◌&&◌, Bool, true, false, List, [], ◌∷◌, Option, Some, None, is_some, codes, if◌then◌else◌}
+use Rattle.std.specs.List.{list_all}
+use Rattle.op_logic.specs.Term.{Term, var, int, node, Args, no_args, arg}
+use Rattle.op_trace.specs.World.{Text, text_eq, Clause}
+use Rattle.op_store.specs.World.{Key, key, key_of, World, procedure_in, clauses_of_world}
+
+-- the control constructs without parts that are run
+abbrev pub is_silent_name : Text → Bool
+is_silent_name f = text_eq f (codes "true") || (text_eq f (codes "fail") || text_eq f (codes "false"))
+
+abbrev pub is_silent : Key → Bool
+is_silent k = (k.arity == 0) && is_silent_name k.name
+
+-- a part that is no conjunction
+abbrev pub is_goal : World → Option Key → Bool
+is_goal w None = false
+is_goal w (Some k) = is_silent k || is_some (procedure_in w.procedures k)
+
+abbrev pub is_conjunction : Term Text → Bool
+is_conjunction (node f (arg a (arg b no_args))) = text_eq f (codes ",")
+is_conjunction t = false
+
+-- a compound, by what holds of its arguments
+abbrev pub is_compound : World → Text → Args Text → List Bool → Bool
+is_compound w f ts (a ∷ b ∷ []) = if text_eq f (codes ",") then a && b else is_goal w (key_of (node f ts))
+is_compound w f ts bs = is_goal w (key_of (node f ts))
+
+abbrev mutual
+  pub is_runnable : World → Term Text → Bool
+  is_runnable w (var v) = false
+  is_runnable w (int i) = false
+  is_runnable w (node f ts) = is_compound w f ts (each_runnable w ts)
+
+  pub each_runnable : World → Args Text → List Bool
+  each_runnable w no_args = []
+  each_runnable w (arg t ts) = is_runnable w t ∷ each_runnable w ts
+
+abbrev pub all_runnable : World → List (Term Text) → Bool
+all_runnable w ts = list_all (is_runnable w) ts
+
+-- a program whose clauses all can be run
+abbrev pub are_runnable : World → Bool
+are_runnable w = list_all (λ (c : Clause). is_runnable w c.body) (clauses_of_world w)
