@@ -1,6 +1,7 @@
 -- The variables of a clause or a goal, numbered from 0 in order of first occurrence. Each `_` is a variable of its own.
-use Rattle.std.specs.Prelude.{ℕ, ◌+◌, ◌<◌, List, [], ◌∷◌, ◌++◌, map, Option, Some, None, String, string_bytes, bytes_eq, codes, if◌then◌else◌, unwrap_or}
+use Rattle.std.specs.Prelude.{ℕ, ◌+◌, List, [], ◌∷◌, ◌++◌, map, Option, Some, None, String, string_bytes, bytes_eq, codes, if◌then◌else◌, unwrap_or}
 use Rattle.op_reader.specs.Lexis.{Token, name, functor, variable, integer, opening, closing, comma, neck, stop, Spelled}
+pub use Rattle.op_reader.specs.Reading.{AreCounted}
 
 -- the entries of a table, with the texts of their names
 abbrev pub seen : {A : Type 0} → List (String A × ℕ) → List (List ℕ × ℕ)
@@ -18,11 +19,6 @@ pub record Met : Type 0 where
 
 abbrev pub none_met : Met
 none_met = record { names = []; count = 0 }
-
--- each number is below the count
-abbrev pub AreCounted : ℕ → List (List ℕ × ℕ) → Type 0
-AreCounted count [] = Unit {0}
-AreCounted count (n ∷ ns) = (n.1 < count) × AreCounted count ns
 
 -- the number that a variable has, or gets
 abbrev pub variable_number : Met → List ℕ → ℕ

@@ -1,5 +1,5 @@
 -- Reading the first clause of a text (ISO/IEC 13211-1, 6.2 and 6.3): a term, the end of the text, or the first refusal with its place.
-use Rattle.std.specs.Prelude.{ℕ, List, [], ◌∷◌, length, Option, Some, None, Ok, Err}
+use Rattle.std.specs.Prelude.{ℕ, ◌<◌, List, [], ◌∷◌, length, Option, Some, None, Ok, Err}
 use Rattle.op_logic.specs.Term.{Term}
 use Rattle.op_term.specs.Ops.{Table}
 use Rattle.op_token.specs.declared.token.Token.{Token}
@@ -19,6 +19,11 @@ pub data Outcome : Type 0 where
   term : Term (List ℕ) → List (List ℕ × ℕ) → ℕ → Outcome
   end : Outcome
   refused : ℕ → ReadFaultKind → Outcome
+
+-- each named variable's number is below a count
+abbrev pub AreCounted : ℕ → List (List ℕ × ℕ) → Type 0
+AreCounted count [] = Unit {0}
+AreCounted count (n ∷ ns) = (n.1 < count) × AreCounted count ns
 
 abbrev pub refused_or : ReadFaultKind → Option ℕ → Outcome → Outcome
 refused_or kind (Some place) outcome = refused place kind

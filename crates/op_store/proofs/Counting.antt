@@ -1,5 +1,8 @@
 -- How many variables terms have.
-use Rattle.std.proofs.Common.{◌≡◌, ℕ, max, List, [], ◌∷◌, ◌++◌, refl, ap, ◌∙◌, arith}
+use Rattle.std.proofs.Common.{◌≡◌, ℕ, suc, ◌<◌, max, List, [], ◌∷◌, ◌++◌, length, refl, ap, ◌∙◌, arith}
+use Rattle.std.specs.Prelude.{slice_index_or}
+use Rattle.op_trace.specs.World.{Text}
+use Rattle.op_reader.specs.Reading.{AreCounted}
 use Rattle.op_logic.specs.Term.{Term, var, int, node, Args, no_args, arg, rename_args}
 use Rattle.op_store.specs.Counted.{variable_count, args_variable_count}
 use Rattle.op_logic.specs.Names.{name_at, named}
@@ -48,3 +51,8 @@ mutual
       let a : variable_count (named names t) ≡ variable_count t = count-named names t in
       let b : args_variable_count (rename_args (name_at names) ts) ≡ args_variable_count ts = count-args-named names ts in
       omega arith
+
+-- numbers that are each below a count
+pub all-counted : (n : ℕ) (ns : List (Text × ℕ)) → ((k : ℕ) → k < length ns → (slice_index_or ns k ([], 0)).1 < n) → AreCounted n ns
+all-counted n [] h = tt
+all-counted n (e ∷ ns) h = (h 0 (omega arith), all-counted n ns (λ k l. h (suc k) (omega arith)))

@@ -15,3 +15,4 @@ mod Commands
 mod Joining
 mod Converting
 pub mod Soundness
+mod Loading

@@ -125,3 +125,12 @@ rule-made old new k r head n e f own h b v wh wb = record {
   head_within = subst (λ (t : Term ℕ). IsWithin r.vars t) (sym own) (subst (λ (m : ℕ). IsWithin m head) (sym v) wh);
   body_within = subst (λ (m : ℕ). IsWithin m r.body) (sym v) wb;
 }
+
+-- a procedure that is found
+pub row-at : (n : ℕ) (k : Pi) (rows : Rows) (p : Row) → AreRows n rows → row_in rows k ≡ Some p → IsRow n k p
+row-at n k [] p h e = absurd cc
+row-at n k (x ∷ xs) p h e =
+    by_test (pi_eq k x.0)
+    (λ y. let same : x.1 ≡ p = cc (sym (if_true (pi_eq k x.0) (Some x.1) (row_in xs k) y) ∙ e) in
+    subst (λ (q : Row). IsRow n k q) same (subst (λ (i : Pi). IsRow n i x.1) (sym (same-pi k x.0 y)) h.0))
+    (λ y. row-at n k xs p h.1 (sym (if_false (pi_eq k x.0) (Some x.1) (row_in xs k) y) ∙ e))

@@ -1,17 +1,19 @@
 -- Goals and commands over the numbers of names, and over the names.
-use Rattle.std.specs.Prelude.{◌≡◌, ℕ, List, Some, None, Result, Ok, Err}
+use Rattle.std.specs.Prelude.{◌≡◌, ◌<◌, ℕ, List, Some, None, Result, Ok, Err}
 use Rattle.op_logic.specs.Names.{named, HasNames}
 use Rattle.op_logic.specs.Term.{IsWithin}
 use Rattle.op_store.specs.Counted.{variable_count}
 use Rattle.op_trace.specs.World.{Text}
 use Rattle.op_reader.specs.declared.term_reader.Read.{Read}
+use Rattle.op_reader.specs.Reading.{AreCounted}
 use Rattle.op_store.specs.declared.goal.Goal.{Goal}
 use Rattle.op_store.specs.declared.goal.Converted.{Converted}
 use Rattle.op_store.specs.declared.goal.Converted.TheVariants as converted_as
 use Rattle.op_store.specs.declared.command_fault.CommandFault.{CommandFault}
 use Rattle.op_store.specs.declared.command_fault.CommandFault.TheVariants as faults
 use Rattle.op_store.specs.Body.{converted}
-use Rattle.op_store.specs.Load.{Query, Found, Bad, unreadable, not_body}
+use Rattle.op_store.specs.Load.{Query, Found, Bad, unreadable, not_body, Loaded, loaded, stopped}
+use Rattle.op_store.specs.Stored.{Stored, world_of}
 use Rattle.op_store.specs.Fault.{Fault, syntax, trailing, head, body, locked, directive}
 use Rattle.op_store.specs.Rows.{key_named}
 use Rattle.op_store.specs.declared.load_fault.LoadFaultKind.{LoadFaultKind}
@@ -26,6 +28,7 @@ query_named names g = record { body = named names g.body; names = g.names; varia
 pub record IsSoundGoal (n : ℕ) (g : Goal) : Type 0 where
   pub names : HasNames n g.body
   pub within : IsWithin g.vars g.body
+  pub counted : AreCounted g.vars g.names
 
 abbrev pub IsSoundConverted : ℕ → Converted → Type 0
 IsSoundConverted n (converted_as.Goal g) = IsSoundGoal n g
@@ -63,3 +66,18 @@ abbrev pub TellsGoal : List Text → Result Goal LoadFault → Result Query Foun
 TellsGoal names (Ok g) q = q ≡ Ok (query_named names g)
 TellsGoal names (Err load_faults.Memory) q = Unit {0}
 TellsGoal names (Err (load_faults.At line kind)) q = q ≡ Err (record { line = line; fault = fault_named names kind })
+
+-- what loading a text tells, over the names of the store behind it
+abbrev pub TellsLoad : {U : Type 0} → Stored → Result U LoadFault → Loaded → Type 0
+TellsLoad new (Ok u) l = l ≡ loaded (world_of new)
+TellsLoad new (Err load_faults.Memory) l = Unit {0}
+TellsLoad new (Err (load_faults.At line kind)) l = l ≡ stopped (world_of new) line (fault_named new.names kind)
+
+-- a name that is locked is in a table of so many
+abbrev pub IsKnownFault : ℕ → LoadFaultKind → Type 0
+IsKnownFault n (kinds.Locked k) = k.name.0 < n
+IsKnownFault n kind = Unit {0}
+
+abbrev pub IsSoundLoadFault : ℕ → LoadFault → Type 0
+IsSoundLoadFault n load_faults.Memory = Unit {0}
+IsSoundLoadFault n (load_faults.At line kind) = IsKnownFault n kind

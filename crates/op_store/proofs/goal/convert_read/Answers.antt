@@ -33,6 +33,7 @@ returns-in-Some-clause-sound c =
     record {
       names = rw c.in-Some.is at c.in_ok-body.ensures.has;
       within = rw c.in-Some.is at c.in_ok-body.ensures.within n within;
+      counted = c.are_counted-counted.ensures c.if-not-counted.false;
     }
 
 pub returns-in-None-clause-sound : goal.returns-in-None-clause-sound
