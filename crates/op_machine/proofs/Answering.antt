@@ -11,7 +11,8 @@ use Rattle.op_machine.specs.declared.core_state.Ending.TheVariants as outcome
 use Rattle.op_machine.specs.declared.turn.Last.{Last}
 use Rattle.op_machine.specs.declared.turn.Turn as declared
 use Rattle.op_machine.specs.declared.turn.Turn.TheVariants as turn
-use Rattle.op_machine.specs.Program.{Tables, clauses, goal_named}
+use Rattle.op_store.specs.Stored.{Stored}
+use Rattle.op_machine.specs.Program.{clauses, goal_named}
 use Rattle.op_machine.specs.Core.{state_of, world_in, verdict_of}
 use Rattle.op_machine.specs.Resume.{State, owed, resume}
 use Rattle.op_machine.specs.Machine.{kept_of, to_come, only_ending, ending_for, last_after, Answers}
@@ -24,7 +25,7 @@ resume-none : (s : Setup) (v : Visited) → and_then v (resume s []) ≡ v
 unfolding resume
 resume-none s v = and_then-gives v
 
-pub begun-run : (t : Tables) (g : Term ℕ) (n : ℕ) (names : List (List ℕ × ℕ)) (b w : ℕ) (c : Core) (l : Last) (f : Bool) → IsBegun t g n names b w c
+pub begun-run : (t : Stored) (g : Term ℕ) (n : ℕ) (names : List (List ℕ × ℕ)) (b w : ℕ) (c : Core) (l : Last) (f : Bool) → IsBegun t g n names b w c
     → to_come (kept_of c l f) ≡ run (record { budget = b; wanted = w }) (goal_named t g) n (loaded (clauses t))
 unfolding to_come owed
 begun-run t g n names b w c l f h =

@@ -18,8 +18,10 @@ use Rattle.op_machine.specs.declared.core_state.Mode.TheVariants as mode
 use Rattle.op_machine.specs.declared.frame.Frame.{Frame}
 use Rattle.op_machine.specs.declared.lists.Item.{Item}
 use Rattle.op_machine.specs.declared.lists.Item.TheVariants as item
-use Rattle.op_machine.specs.declared.store.Goal.{Goal}
-use Rattle.op_machine.specs.Program.{Tables, clauses, goal_named, IsQuery}
+use Rattle.op_store.specs.declared.goal.Goal.{Goal}
+use Rattle.op_store.specs.Queries.{IsSoundGoal}
+use Rattle.op_store.specs.Stored.{Stored}
+use Rattle.op_machine.specs.Program.{clauses, goal_named}
 use Rattle.op_machine.specs.Core.{Level, level_in, setup_of, world_in, state_with, state_of, items_in, item_term, bindings_in, choices_of, IsGood, IsGoal, AreLists, AreFrames, AreValues, IsMode, IsSound}
 use Rattle.op_machine.specs.Lists.{list_in}
 use Rattle.op_machine.specs.Counted.{Counted}
@@ -44,13 +46,13 @@ pub record IsFirst (c : Core) (q : Goal) (body : ℕ) : Type 0 where
   pub floor_there : c.floor.terms ≤ length c.bindings.terms
   pub numbers : (c.calls ≡ 0) × (c.steps ≡ 0) × (c.events ≡ 0) × (c.solutions ≡ 0)
 
-abbrev begun : Tables → Goal → State
+abbrev begun : Stored → Goal → State
 begun t q = Going (world.Goal (goal_named t q.body) (Call 0) ∷ []) [] [] (started q.vars (loaded (clauses t)))
 
-numbered : Tables → ℕ → ℕ → ℕ → ℕ → ℕ → World
+numbered : Stored → ℕ → ℕ → ℕ → ℕ → ℕ → World
 numbered t variables calls steps events solutions = record (loaded (clauses t)) { variables = variables; calls = calls; steps = steps; events = events; solutions = solutions }
 
-first-world : (c : Core) (q : Goal) (body n : ℕ) → IsQuery n q → IsFirst c q body → world_in c ≡ started q.vars (loaded (clauses c.store))
+first-world : (c : Core) (q : Goal) (body n : ℕ) → IsSoundGoal n q → IsFirst c q body → world_in c ≡ started q.vars (loaded (clauses c.store))
 first-world c q body n query f =
     let v : c.bindings.count ≡ q.vars = f.count in
     let a = f.numbers.0 in
@@ -63,9 +65,9 @@ first-world c q body n query f =
     ∙ (ap (λ (x : ℕ). record (loaded (clauses c.store)) { variables = q.vars; calls = 0; steps = 0; events = x; solutions = c.solutions }) d
     ∙ ap (λ (x : ℕ). record (loaded (clauses c.store)) { variables = q.vars; calls = 0; steps = 0; events = 0; solutions = x }) e)))
 
-first-state : (c : Core) (q : Goal) (body n : ℕ) → IsQuery n q → IsFirst c q body → state_of c ≡ begun c.store q
+first-state : (c : Core) (q : Goal) (body n : ℕ) → IsSoundGoal n q → IsFirst c q body → state_of c ≡ begun c.store q
 first-state c q body n query f =
-    let t : Tables = c.store in
+    let t : Stored = c.store in
     let v : Level = level_in c in
     let items : items_in t v 1 ≡ world.Goal (goal_named t q.body) (Call 0) ∷ [] =
     ap (λ (L : List (List Item)). map (item_term t v) (list_in L 1)) f.lists ∙ ap (λ (x : Term ℕ). world.Goal (goal_named t x) (Call 0) ∷ []) f.value in
@@ -76,7 +78,7 @@ first-state c q body n query f =
     ∙ (ap (λ (σ : Bindings Text). Going (world.Goal (goal_named t q.body) (Call 0) ∷ []) [] σ (world_in c)) bound
     ∙ ap (λ (w : World). Going (world.Goal (goal_named t q.body) (Call 0) ∷ []) [] [] w) (first-world c q body n query f))))
 
-pub first-begun : (c : Core) (q : Goal) (body n budget wanted : ℕ) → IsQuery n q → IsFirst c q body → c.budget ≡ budget → c.wanted ≡ wanted → IsBegun c.store q.body q.vars q.names budget wanted c
+pub first-begun : (c : Core) (q : Goal) (body n budget wanted : ℕ) → IsSoundGoal n q → IsFirst c q body → c.budget ≡ budget → c.wanted ≡ wanted → IsBegun c.store q.body q.vars q.names budget wanted c
 first-begun c q body n budget wanted query f b w = record {
   state = first-state c q body n query f;
   names = f.names;
@@ -90,7 +92,7 @@ first-lists-good n ts body g zero h = tt
 first-lists-good n ts body g (suc zero) h = (g, tt)
 first-lists-good n ts body g (suc (suc m)) h = absurd (omega arith)
 
-first-good : (c : Core) (q : Goal) (body : ℕ) → IsQuery (length c.store.names) q → IsFirst c q body → IsGood c
+first-good : (c : Core) (q : Goal) (body : ℕ) → IsSoundGoal (length c.store.names) q → IsFirst c q body → IsGood c
 first-good c q body query f =
     let n : ℕ = length c.store.names in
     let goal : IsGoal n c.bindings.terms body = (f.there, subst (HasNames n) (sym f.value) query.names) in
@@ -105,7 +107,7 @@ first-good c q body query f =
       values = subst (AreValues (take c.floor.terms c.bindings.terms) c.values.items) (sym f.names) f.values;
     }
 
-pub first-sound : (c : Core) (q : Goal) (body : ℕ) → IsQuery (length c.store.names) q → IsFirst c q body → c.budget ≤ 1000000000 → IsSound c
+pub first-sound : (c : Core) (q : Goal) (body : ℕ) → IsSoundGoal (length c.store.names) q → IsFirst c q body → c.budget ≤ 1000000000 → IsSound c
 first-sound c q body query f limit =
     let s : state_of c ≡ begun c.store q = first-state c q body (length c.store.names) query f in
     record {

@@ -16,7 +16,8 @@ use Rattle.op_machine.specs.declared.lists.Item.TheVariants as item
 use Rattle.op_machine.specs.declared.frame.Frame.{Frame}
 use Rattle.op_machine.proofs.ListLaws.{take-within}
 use Rattle.op_machine.specs.Lists.{list_in}
-use Rattle.op_machine.specs.Program.{Tables, goal_named}
+use Rattle.op_store.specs.Stored.{Stored}
+use Rattle.op_machine.specs.Program.{goal_named}
 use Rattle.op_machine.specs.Core.{Level, level_at, level_of, items_in, item_term, choices_of, choice_of, IsGoal, IsItem, AreItems, IsLevel, IsEarlier, IsFrame, AreFrames, AreValues}
 
 take-front : {A : Type 0} (xs ys : List A) → take (length xs) (xs ++ ys) ≡ xs
@@ -77,12 +78,12 @@ earlier-rises v w f r e =
     }
 
 -- choices that were there mean what they meant
-pub choices-rise : (t : Tables) (floor : ℕ) (v w : Level) (F : List Frame) → Rises v w → AreFrames t floor v F → choices_of t w F ≡ choices_of t v F
+pub choices-rise : (t : Stored) (floor : ℕ) (v w : Level) (F : List Frame) → Rises v w → AreFrames t floor v F → choices_of t w F ≡ choices_of t v F
 choices-rise t floor v w [] r a = refl
 choices-rise t floor v w (f ∷ F) r a =
     ap (λ (u : Level). choice_of t u f ∷ choices_of t u F) (level_at-rises v w f r a.0)
 
-pub frames-rise : (t : Tables) (floor : ℕ) (v w : Level) (F : List Frame) → Rises v w → AreFrames t floor v F → AreFrames t floor w F
+pub frames-rise : (t : Stored) (floor : ℕ) (v w : Level) (F : List Frame) → Rises v w → AreFrames t floor v F → AreFrames t floor w F
 frames-rise t floor v w [] r a = tt
 frames-rise t floor v w (f ∷ F) r a =
     let e : level_at f v ≡ level_at f w = sym (level_at-rises v w f r a.0) in (
@@ -100,7 +101,7 @@ term-rises v w r h l =
 pub goal-rises : (n : ℕ) (v w : Level) (r : ℕ) → Rises v w → IsGoal n v.terms r → IsGoal n w.terms r
 goal-rises n v w r h g = (omega (arith, g.0, h.terms_there), subst (HasNames n) (sym (term-rises v w r h g.0)) g.1)
 
-pub item-rises : (n : ℕ) (t : Tables) (v w : Level) (i : Item) → Rises v w → IsItem n v.terms i → item_term t w i ≡ item_term t v i
+pub item-rises : (n : ℕ) (t : Stored) (v w : Level) (i : Item) → Rises v w → IsItem n v.terms i → item_term t w i ≡ item_term t v i
 item-rises n t v w (item.Goal r m) h a = ap (λ (x : Term ℕ). world.Goal (goal_named t x) (world.Call m)) (term-rises v w r h a.0)
 item-rises n t v w (item.Exit k r) h a = ap (λ (x : Term ℕ). world.Exit k (goal_named t x)) (term-rises v w r h a.0)
 
@@ -108,7 +109,7 @@ pub is-item-rises : (n : ℕ) (v w : Level) (i : Item) → Rises v w → IsItem 
 is-item-rises n v w (item.Goal r m) h a = goal-rises n v w r h a
 is-item-rises n v w (item.Exit k r) h a = goal-rises n v w r h a
 
-pub items-rise : (n : ℕ) (t : Tables) (v w : Level) (I : List Item) → Rises v w → AreItems n v.terms I → map (item_term t w) I ≡ map (item_term t v) I
+pub items-rise : (n : ℕ) (t : Stored) (v w : Level) (I : List Item) → Rises v w → AreItems n v.terms I → map (item_term t w) I ≡ map (item_term t v) I
 items-rise n t v w [] h a = refl
 items-rise n t v w (i ∷ I) h a =
     let first : item_term t w i ≡ item_term t v i = item-rises n t v w i h a.0 in
@@ -123,7 +124,7 @@ pub list-rises : (v w : Level) (m : ℕ) → Rises v w → m < length v.lists �
 list-rises v w m h l =
     sym (get_or-take (length v.lists) w.lists m [] l) ∙ ap (λ (L : List (List Item)). list_in L m) h.lists
 
-pub items_in-rise : (t : Tables) (floor : ℕ) (v w : Level) (m : ℕ) → Rises v w → IsLevel t floor v → m < length v.lists → items_in t w m ≡ items_in t v m
+pub items_in-rise : (t : Stored) (floor : ℕ) (v w : Level) (m : ℕ) → Rises v w → IsLevel t floor v → m < length v.lists → items_in t w m ≡ items_in t v m
 items_in-rise t floor v w m h lev l =
     ap (map (item_term t w)) (list-rises v w m h l) ∙ items-rise (length t.names) t v w (list_in v.lists m) h (lev.lists m l)
 
@@ -134,7 +135,7 @@ values-rise floor v w rs ps h f a =
     subst (λ (ts : List (Term ℕ)). AreValues ts rs ps) (sym e) a
 
 -- a level that has further bindings and terms, but the same lists
-pub level-bindings : (t : Tables) (floor : ℕ) (s u : bind.State) (L : List (List Item)) → Grows s u → HaveNames (length t.names) (bindings u)
+pub level-bindings : (t : Stored) (floor : ℕ) (s u : bind.State) (L : List (List Item)) → Grows s u → HaveNames (length t.names) (bindings u)
     → IsLevel t floor (level_of s L) → IsLevel t floor (level_of u L)
 level-bindings t floor s u L g names lev = record {
   lists = λ m l. are-items-rise (length t.names) (level_of s L) (level_of u L) (list_in L m) (rises-bindings s u L g) (lev.lists m l);
@@ -143,7 +144,7 @@ level-bindings t floor s u L g names lev = record {
 }
 
 -- a level with a further list
-pub level-lists : (t : Tables) (floor : ℕ) (s : bind.State) (L : List (List Item)) (i : Item) (n : ℕ) → IsLevel t floor (level_of s L)
+pub level-lists : (t : Stored) (floor : ℕ) (s : bind.State) (L : List (List Item)) (i : Item) (n : ℕ) → IsLevel t floor (level_of s L)
     → IsItem (length t.names) s.terms i → n < length L → IsLevel t floor (level_of s (L ++ (i ∷ list_in L n) ∷ []))
 level-lists t floor s L i n lev it h =
     let I : List Item = i ∷ list_in L n in

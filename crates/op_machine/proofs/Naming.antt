@@ -14,12 +14,13 @@ use Rattle.op_bind.specs.State.{bindings, value_of}
 use Rattle.op_bind.specs.Pairs.{unified, with_variables}
 use Rattle.op_trace.specs.World.{Text, text_eq}
 use Rattle.op_trace.specs.Visit.{is_true}
-use Rattle.op_machine.specs.Program.{Tables, goal_named}
+use Rattle.op_store.specs.Stored.{Stored}
+use Rattle.op_machine.specs.Program.{goal_named}
 
-pub value-named : (t : Tables) (s : bind.State) (r : ℕ) → goal_named t (value_of s r) ≡ apply (rename_bindings (name_at t.names) (bindings s)) (goal_named t (term_at s.terms r))
+pub value-named : (t : Stored) (s : bind.State) (r : ℕ) → goal_named t (value_of s r) ≡ apply (rename_bindings (name_at t.names) (bindings s)) (goal_named t (term_at s.terms r))
 value-named t s r = sym (apply-rename (name_at t.names) (bindings s) (term_at s.terms r))
 
-pub shift-named : (t : Tables) (n : ℕ) (b : Term ℕ) → goal_named t (shift n b) ≡ shift n (goal_named t b)
+pub shift-named : (t : Stored) (n : ℕ) (b : Term ℕ) → goal_named t (shift n b) ≡ shift n (goal_named t b)
 shift-named t n b = sym (shift-rename (name_at t.names) n b)
 
 pub is_true-shift : (n : ℕ) (b : Term Text) → is_true (shift n b) ≡ is_true b
@@ -29,7 +30,7 @@ is_true-shift n (node f no_args) = refl
 is_true-shift n (node f (arg t ts)) = refl
 
 -- a head is unified over texts as over numbers
-pub unified-named : (t : Tables) (left : ℕ) (s : bind.State) (g h : Term ℕ) → IsTable t.names
+pub unified-named : (t : Stored) (left : ℕ) (s : bind.State) (g h : Term ℕ) → IsTable t.names
     → unify text_eq left (rename_bindings (name_at t.names) (bindings s)) ((goal_named t g, goal_named t h) ∷ []) ≡ rename_solved (name_at t.names) (unified left s g h)
 unified-named t left s g h table = unify-named t.names table left (bindings s) ((g, h) ∷ [])
 

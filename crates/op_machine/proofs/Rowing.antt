@@ -1,5 +1,5 @@
 -- Each row of the machine makes one move.
-use Rattle.std.proofs.Common.{◌≡◌, ℕ, suc, ◌+◌, ◌-◌, ◌<◌, ◌≤◌, List, [], ◌∷◌, length, refl, sym, ap, ◌∙◌, subst, Result, Ok, Err, IfOk}
+use Rattle.std.proofs.Common.{◌≡◌, ℕ, suc, ◌+◌, ◌-◌, ◌<◌, ◌≤◌, List, [], ◌∷◌, length, get_or, refl, sym, ap, ◌∙◌, subst, Result, Ok, Err, IfOk}
 use Rattle.op_logic.specs.Term.{Term, shift}
 use Rattle.op_logic.specs.Bind.{unify}
 use Rattle.op_trace.specs.declared.port.Port.TheVariants as port
@@ -7,7 +7,6 @@ use Rattle.op_trace.specs.World as world
 use Rattle.op_trace.specs.World.{Text, text_eq, Clause, World, Setup, Event, Turn, Shown, Barrier, procedure}
 use Rattle.op_trace.specs.Visit as visit
 use Rattle.op_trace.specs.Visit.{event_of, with_event, control}
-use Rattle.op_term.specs.Places.{term_at}
 use Rattle.op_machine.specs.declared.core_state.Core.{Core}
 use Rattle.op_machine.specs.declared.core_state.Seen.{Seen}
 use Rattle.op_machine.specs.declared.core_state.Mode.TheVariants as mode
@@ -15,30 +14,17 @@ use Rattle.op_machine.specs.declared.core_state.Ending.TheVariants as outcome
 use Rattle.op_machine.specs.declared.core_state.Step.{Step}
 use Rattle.op_machine.specs.declared.core_state.Step.TheVariants as step
 use Rattle.op_machine.specs.declared.frame.FrameKind.TheVariants as kind
-use Rattle.op_machine.specs.Program.{clauses_for, clause_at, IsFor, IsNext}
+use Rattle.op_bind.specs.declared.places.Clause.{Clause as Rule}
+use Rattle.op_machine.specs.Program.{clauses, clauses_from, clause_in}
 use Rattle.op_machine.specs.Core.{setup_of, world_in, level_in, items_now, goal_now, bindings_now, choices_in, choice_by, event_seen, IsGood, IsGoal}
 use Rattle.op_machine.specs.Rows.{Advances, goal_moved, chosen_now, rule_tried, rule_met, rules_tried, box_invoked}
 use Rattle.op_machine.specs.Resume.{Back, Over, Moved, silent, pay, met, tried, move, with_more}
 use Rattle.op_machine.proofs.Paying.{pay-yes, pay-no}
-use Rattle.op_machine.proofs.Clauses.{clauses_for-here, clauses_for-end}
+use Rattle.op_machine.proofs.Choosing.{clauses_from-here}
 
 pub IfOk-then : {A E : Type 0} (r : Result A E) (P Q : A → Type 0) → ((x : A) → P x → Q x) → IfOk r P → IfOk r Q
 IfOk-then (Ok x) P Q f h = f x h
 IfOk-then (Err e) P Q f h = tt
-
--- clauses from one of the goal's procedure on are a choice
-pub with_more-here : (c : Core) (i k g n : ℕ) (K : List visit.Choice) → i < length c.store.rules → IsFor c.store (term_at c.bindings.terms g) i
-    → with_more (clauses_for c.store (term_at c.bindings.terms g) i) k (goal_now c g) (bindings_now c) (items_now c n) K ≡ choice_by c.store (level_in c) (kind.More i) k g n ∷ K
-with_more-here c i k g n K h e =
-    let t : Term ℕ = term_at c.bindings.terms g in
-    ap (λ (x : List Clause). with_more x k (goal_now c g) (bindings_now c) (items_now c n) K) (clauses_for-here c.store t i h e)
-    ∙ ap (λ (x : List Clause). visit.More x k (goal_now c g) (bindings_now c) (items_now c n) ∷ K) (sym (clauses_for-here c.store t i h e))
-
--- and none past the last clause
-pub with_more-end : (c : Core) (i k g n : ℕ) (K : List visit.Choice) → length c.store.rules ≤ i
-    → with_more (clauses_for c.store (term_at c.bindings.terms g) i) k (goal_now c g) (bindings_now c) (items_now c n) K ≡ K
-with_more-end c i k g n K h =
-    ap (λ (x : List Clause). with_more x k (goal_now c g) (bindings_now c) (items_now c n) K) (clauses_for-end c.store (term_at c.bindings.terms g) i h)
 
 -- where a step is not there, the run is spent
 pub spent-advances : (c : Core) (h : World → Moved) → IsGood c → c.budget < c.steps + 1
@@ -84,27 +70,24 @@ chosen-paid c paid new g n m s e fits a =
     (subst (λ (x : Core). Advances x new (chosen_now x (goal_now x g) m n (world_in x)) s) e a)
 
 -- the clause was paid, and then its head was met
-pub tried-paid : (c paid new : Core) (i k g n : ℕ) (s : Step) → paid ≡ record c { steps = c.steps + 1 } → c.steps + 1 ≤ c.budget
-    → Advances paid new (rule_met paid i k g n) s → Advances c new (rule_tried c i k g n) s
-tried-paid c paid new i k g n s e fits a =
+pub tried-paid : (c paid new : Core) (r : Rule) (k g n : ℕ) (s : Step) → paid ≡ record c { steps = c.steps + 1 } → c.steps + 1 ≤ c.budget
+    → Advances paid new (rule_met paid r k g n) s → Advances c new (rule_tried c r k g n) s
+tried-paid c paid new r k g n s e fits a =
     let h : World → Moved =
-    λ u. met (setup_of c) (clause_at c.store i) k (goal_now c g) (items_now c n) (choices_in c) u
-    (unify text_eq (c.budget - u.steps) (bindings_now c) ((goal_now c g, shift u.variables (clause_at c.store i).head) ∷ [])) in
-    paid-advances c new h s fits (subst (λ (x : Core). Advances x new (rule_met x i k g n) s) e a)
+    λ u. met (setup_of c) (clause_in c.store r) k (goal_now c g) (items_now c n) (choices_in c) u
+    (unify text_eq (c.budget - u.steps) (bindings_now c) ((goal_now c g, shift u.variables (clause_in c.store r).head) ∷ [])) in
+    paid-advances c new h s fits (subst (λ (x : Core). Advances x new (rule_met x r k g n) s) e a)
 
 -- the first of the clauses is tried, with those behind it as a choice
-pub retry-moved : (c mid : Core) (i k g n nx : ℕ) → mid ≡ record c { frames = mid.frames }
-    → choices_in mid ≡ with_more (clauses_for c.store (term_at c.bindings.terms g) nx) k (goal_now c g) (bindings_now c) (items_now c n) (choices_in c)
-    → IsNext c.store (term_at c.bindings.terms g) (suc i) nx → IsFor c.store (term_at c.bindings.terms g) i → i < length c.store.rules
-    → rule_tried mid i k g n ≡ rules_tried c i k g n
-retry-moved c mid i k g n nx e choices later here inside =
-    let t : Term ℕ = term_at c.bindings.terms g in
+pub retry-moved : (c mid : Core) (rules : List Rule) (i : ℕ) (r : Rule) (k g n : ℕ) → mid ≡ record c { frames = mid.frames }
+    → choices_in mid ≡ with_more (clauses_from c.store rules (suc i)) k (goal_now c g) (bindings_now c) (items_now c n) (choices_in c)
+    → i < length rules → r ≡ get_or rules i r → rule_tried mid r k g n ≡ rules_tried c rules i k g n
+retry-moved c mid rules i r k g n e choices inside here =
     let J : List world.Item = items_now c n in
-    let with_rest : List Clause → List visit.Choice = λ cs. with_more cs k (goal_now c g) (bindings_now c) J (choices_in c) in
-    let tried_over : List visit.Choice → Moved = λ K. tried (setup_of c) (clause_at c.store i) k (goal_now c g) (bindings_now c) J K (world_in c) in
-    ap (λ (x : Core). tried (setup_of x) (clause_at x.store i) k (goal_now x g) (bindings_now x) (items_now x n) (choices_in mid) (world_in x)) e
-    ∙ (ap tried_over (choices ∙ ap with_rest (sym later.clauses))
-    ∙ ap (λ (cs : List Clause). move (setup_of c) (Back (visit.More cs k (goal_now c g) (bindings_now c) J ∷ choices_in c) (world_in c))) (sym (clauses_for-here c.store t i inside here)))
+    let tried_over : List visit.Choice → Moved = λ K. tried (setup_of c) (clause_in c.store r) k (goal_now c g) (bindings_now c) J K (world_in c) in
+    ap (λ (x : Core). tried (setup_of x) (clause_in x.store r) k (goal_now x g) (bindings_now x) (items_now x n) (choices_in mid) (world_in x)) e
+    ∙ (ap tried_over choices
+    ∙ ap (λ (cs : List Clause). move (setup_of c) (Back (visit.More cs k (goal_now c g) (bindings_now c) J ∷ choices_in c) (world_in c))) (sym (clauses_from-here c.store rules i r inside here)))
 
 pub retry-advances : (c mid new : Core) (m : Moved) (n : Moved) (s : Step) → mid ≡ record c { frames = mid.frames } → m ≡ n
     → Advances mid new m s → Advances c new n s
@@ -129,27 +112,24 @@ world_called c = record (world_in c) { calls = c.calls + 1 }
 abbrev is_goal_in : Core → ℕ → Type 0
 is_goal_in c g = IsGoal (length c.store.names) c.bindings.terms g
 
-pub invoked-advances : (c more : Core) (g n rule : ℕ) → more ≡ called c more
+pub invoked-advances : (c more : Core) (g n : ℕ) → more ≡ called c more
     → event_seen c.store c.bindings more.seen ≡ event_of port.Call (c.calls + 1) (goal_now c g) (bindings_now c) (items_now c n) (world_called c)
-    → choices_in more ≡ with_more (clauses_for c.store (term_at c.bindings.terms g) rule) (c.calls + 1) (goal_now c g) (bindings_now c) (items_now c n)
+    → choices_in more ≡ with_more (procedure (clauses c.store) (goal_now c g)) (c.calls + 1) (goal_now c g) (bindings_now c) (items_now c n)
     (choice_by c.store (level_in c) kind.Fail (c.calls + 1) g n ∷ choices_in c)
-    → IsNext c.store (term_at c.bindings.terms g) 0 rule
     → IsGood more → more.seen.goal ≡ g → is_goal_in c g
     → Advances c (record more { mode = mode.Backward }) (box_invoked c g n) step.Event
-invoked-advances c more g n rule e seen choices next good goal there =
+invoked-advances c more g n e seen choices good goal there =
     let u : World = world_called c in
     let after : World = with_event u in
-    let t : Term ℕ = term_at c.bindings.terms g in
     let K : List visit.Choice = choice_by c.store (level_in c) kind.Fail (c.calls + 1) g n ∷ choices_in c in
-    let over : List Clause → List visit.Choice = λ cs. with_more cs (c.calls + 1) (goal_now c g) (bindings_now c) (items_now c n) K in
+    let made : List visit.Choice = with_more (procedure (clauses c.store) (goal_now c g)) (c.calls + 1) (goal_now c g) (bindings_now c) (items_now c n) K in
     let same_world : world_in more ≡ after = ap world_in e in
-    let same_choices : choices_in more ≡ over (clauses_for c.store t 0) = choices ∙ ap over (sym next.clauses) in
     let shown : event_seen more.store more.bindings more.seen ≡ event_of port.Call (c.calls + 1) (goal_now c g) (bindings_now c) (items_now c n) u =
     ap (λ (x : Core). event_seen x.store x.bindings more.seen) e ∙ seen in
     let there_more : is_goal_in more g = subst (λ (x : Core). is_goal_in x g) (sym e) there in
     record {
       turns = ap (λ (x : Event). Shown x (world_in more) ∷ []) shown ∙ ap (λ (w : World). Shown (event_of port.Call (c.calls + 1) (goal_now c g) (bindings_now c) (items_now c n) u) w ∷ []) same_world;
-      state = ap (λ (L : List visit.Choice). Back L (world_in more)) same_choices ∙ ap (λ (w : World). Back (over (clauses_for c.store t 0)) w) same_world;
+      state = ap (λ (L : List visit.Choice). Back L (world_in more)) choices ∙ ap (λ (w : World). Back made w) same_world;
       good = record { level = good.level; frames = good.frames; mode = tt; values = good.values };
       looked = subst (λ (x : ℕ). is_goal_in more x) (sym goal) there_more;
       store = ap (λ (x : Core). x.store) e;
@@ -159,25 +139,23 @@ invoked-advances c more g n rule e seen choices next good goal there =
     }
 
 -- the event was shown, the choices were made one after the other
-pub invoked-choices : (c shown pushed more : Core) (g n rule : ℕ) → shown ≡ record c { calls = c.calls + 1; events = c.events + 1; seen = shown.seen }
+pub invoked-choices : (c shown pushed more : Core) (g n : ℕ) → shown ≡ record c { calls = c.calls + 1; events = c.events + 1; seen = shown.seen }
     → pushed ≡ record shown { frames = pushed.frames } → more ≡ record pushed { frames = more.frames }
     → event_seen c.store c.bindings shown.seen ≡ event_of port.Call (c.calls + 1) (goal_now c g) (bindings_now c) (items_now c n) (world_called c)
     → choices_in pushed ≡ choice_by shown.store (level_in shown) kind.Fail (c.calls + 1) g n ∷ choices_in shown
-    → choices_in more ≡ with_more (clauses_for pushed.store (term_at pushed.bindings.terms g) rule) (c.calls + 1) (goal_now pushed g) (bindings_now pushed) (items_now pushed n) (choices_in pushed)
-    → IsNext pushed.store (term_at pushed.bindings.terms g) 0 rule → IsGood more → shown.seen.goal ≡ g → is_goal_in c g
+    → choices_in more ≡ with_more (procedure (clauses pushed.store) (goal_now pushed g)) (c.calls + 1) (goal_now pushed g) (bindings_now pushed) (items_now pushed n) (choices_in pushed)
+    → IsGood more → shown.seen.goal ≡ g → is_goal_in c g
     → Advances c (record more { mode = mode.Backward }) (box_invoked c g n) step.Event
-invoked-choices c shown pushed more g n rule es ep em seen one two next good goal there =
+invoked-choices c shown pushed more g n es ep em seen one two good goal there =
     let seen_more : more.seen ≡ shown.seen = ap (λ (x : Core). x.seen) em ∙ ap (λ (x : Core). x.seen) ep in
     let whole : more ≡ called c more =
     em ∙ (ap (λ (x : Core). record x { frames = more.frames }) ep
     ∙ (ap (λ (x : Core). record x { frames = more.frames }) es
     ∙ ap (λ (x : Seen). record c { calls = c.calls + 1; events = c.events + 1; seen = x; frames = more.frames }) (sym seen_more))) in
-    let at_pushed : (x : Core) → List visit.Choice → List visit.Choice = λ x K. with_more (clauses_for x.store (term_at x.bindings.terms g) rule) (c.calls + 1) (goal_now x g) (bindings_now x) (items_now x n) K in
+    let at_pushed : (x : Core) → List visit.Choice → List visit.Choice = λ x K. with_more (procedure (clauses x.store) (goal_now x g)) (c.calls + 1) (goal_now x g) (bindings_now x) (items_now x n) K in
     let fail_at : Core → List visit.Choice = λ x. choice_by x.store (level_in x) kind.Fail (c.calls + 1) g n ∷ choices_in x in
     let choices : choices_in more ≡ at_pushed c (fail_at c) =
     two ∙ (ap (λ (x : Core). at_pushed x (choices_in pushed)) ep
     ∙ (ap (at_pushed shown) one
     ∙ (ap (λ (x : Core). at_pushed x (fail_at shown)) es ∙ ap (λ (x : Core). at_pushed c (fail_at x)) es))) in
-    let next_here : IsNext c.store (term_at c.bindings.terms g) 0 rule =
-    subst (λ (x : Core). IsNext x.store (term_at x.bindings.terms g) 0 rule) es (subst (λ (x : Core). IsNext x.store (term_at x.bindings.terms g) 0 rule) ep next) in
-    invoked-advances c more g n rule whole (ap (event_seen c.store c.bindings) seen_more ∙ seen) choices next_here good (ap (λ (x : Seen). x.goal) seen_more ∙ goal) there
+    invoked-advances c more g n whole (ap (event_seen c.store c.bindings) seen_more ∙ seen) choices good (ap (λ (x : Seen). x.goal) seen_more ∙ goal) there

@@ -10,11 +10,11 @@ use Rattle.op_machine.specs.declared.lists.Item.{Item}
 use Rattle.op_machine.specs.declared.lists.Item.TheVariants as item
 use Rattle.op_machine.specs.declared.core_state.Core.{Core}
 use Rattle.op_machine.specs.Lists.{list_in, opened}
-use Rattle.op_machine.specs.Program.{Tables}
+use Rattle.op_store.specs.Stored.{Stored}
 use Rattle.op_machine.specs.Core.{Level, level_in, item_term, items_now, goal_now, bindings_now, world_in, event_seen}
 use Rattle.op_machine.proofs.Naming.{value-named}
 
-open_boxes-items : (t : Tables) (v : Level) (I : List Item) → open_boxes (map (item_term t v) I) ≡ opened I
+open_boxes-items : (t : Stored) (v : Level) (I : List Item) → open_boxes (map (item_term t v) I) ≡ opened I
 open_boxes-items t v [] = refl
 open_boxes-items t v (item.Goal f m ∷ I) = open_boxes-items t v I
 open_boxes-items t v (item.Exit k g ∷ I) = ap (λ ks. k ∷ ks) (open_boxes-items t v I)

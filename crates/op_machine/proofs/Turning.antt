@@ -11,21 +11,20 @@ use Rattle.op_machine.specs.declared.core_state.Step.TheVariants as step
 use Rattle.op_machine.specs.declared.frame.Frame.{Frame}
 use Rattle.op_machine.specs.declared.frame.FrameKind.{FrameKind}
 use Rattle.op_machine.specs.declared.frame.FrameKind.TheVariants as kind
-use Rattle.op_term.specs.Places.{term_at}
-use Rattle.op_machine.specs.Program.{Tables}
+use Rattle.op_store.specs.Stored.{Stored}
 use Rattle.op_machine.specs.Core.{Level, level_at, level_in, setup_of, world_in, state_of, state_with, items_in, term_in, bindings_in, choices_of, choice_by, IsSound, AreFrames, IsKind}
 use Rattle.op_machine.specs.Counted.{Counted, event_bound}
 use Rattle.op_machine.specs.Resume.{State, Going, Back, Over, Moved, owed, move, world_of}
 use Rattle.op_machine.specs.Scope.{InStep}
 use Rattle.op_machine.specs.Rows.{Advances, turns_of}
 use Rattle.op_machine.specs.Turned.{turns_in, Follows, Walked, Showed, Ended}
-use Rattle.op_machine.proofs.Clauses.{clauses_for-here}
+use Rattle.op_machine.proofs.Choosing.{clauses_from-some}
 use Rattle.op_machine.proofs.Counting.{move-counted, bound-same}
 use Rattle.op_machine.proofs.MoveLaws.{move-row}
 use Rattle.op_machine.proofs.Scoping.{move-in_step}
 use Rattle.op_machine.proofs.Progress.{count_in, IsOnward, move-onward, move-lighter, weight, IsOver, HasClauses}
 
-pub world-with : (t : Tables) (v : Level) (F : List Frame) (w : World) (q : Mode) → world_of (state_with t v F w q) ≡ w
+pub world-with : (t : Stored) (v : Level) (F : List Frame) (w : World) (q : Mode) → world_of (state_with t v F w q) ≡ w
 world-with t v F w (mode.Forward n) = refl
 world-with t v F w mode.Backward = refl
 world-with t v F w (mode.Over e) = refl
@@ -142,24 +141,24 @@ walked-self c s = record {
 }
 
 -- choices of clauses have some
-pub frames-clauses : (t : Tables) (floor : ℕ) (v : Level) (F : List Frame) (w : World) → AreFrames t floor v F → HasClauses (Back (choices_of t v F) w)
+pub frames-clauses : (t : Stored) (floor : ℕ) (v : Level) (F : List Frame) (w : World) → AreFrames t floor v F → HasClauses (Back (choices_of t v F) w)
 frames-clauses t floor v [] w a = tt
 frames-clauses t floor v (f ∷ F) w a = go f.kind a.2.kind
   where
     u : Level
     u = level_at f v
 
-    go : (q : FrameKind) → IsKind t u f.goal q → HasClauses (Back (choice_by t u q f.call f.goal f.rest ∷ choices_of t u F) w)
+    go : (q : FrameKind) → IsKind (length t.names) q → HasClauses (Back (choice_by t u q f.call f.goal f.rest ∷ choices_of t u F) w)
     go kind.Redo k = tt
-    go (kind.More i) k = subst (λ (cs : List Clause). HasClauses (Back (More cs f.call (term_in t u f.goal) (bindings_in t u) (items_in t u f.rest) ∷ choices_of t u F) w)) (sym (clauses_for-here t (term_at u.terms f.goal) i k.0 k.1)) tt
+    go (kind.More rules i) k = subst (λ (cs : List Clause). HasClauses (Back (More cs f.call (term_in t u f.goal) (bindings_in t u) (items_in t u f.rest) ∷ choices_of t u F) w)) (sym (clauses_from-some t rules i k.0).1.1) tt
     go kind.Fail k = tt
 
-pub has-clauses : (t : Tables) (floor : ℕ) (v : Level) (F : List Frame) (w : World) (q : Mode) → AreFrames t floor v (reverse F) → HasClauses (state_with t v F w q)
+pub has-clauses : (t : Stored) (floor : ℕ) (v : Level) (F : List Frame) (w : World) (q : Mode) → AreFrames t floor v (reverse F) → HasClauses (state_with t v F w q)
 has-clauses t floor v F w (mode.Forward i) a = tt
 has-clauses t floor v F w mode.Backward a = frames-clauses t floor v (reverse F) w a
 has-clauses t floor v F w (mode.Over e) a = tt
 
-pub not-over : (t : Tables) (v : Level) (F : List Frame) (w : World) (q : Mode) → ((e : Ending) → q ≡ mode.Over e → ⊥) → IsOver (state_with t v F w q) → ⊥
+pub not-over : (t : Stored) (v : Level) (F : List Frame) (w : World) (q : Mode) → ((e : Ending) → q ≡ mode.Over e → ⊥) → IsOver (state_with t v F w q) → ⊥
 not-over t v F w (mode.Forward i) no_end o = o
 not-over t v F w mode.Backward no_end o = o
 not-over t v F w (mode.Over e) no_end o = no_end e refl

@@ -23,7 +23,8 @@ use Rattle.op_machine.specs.declared.core_state.Ending.{Ending}
 use Rattle.op_machine.specs.declared.core_state.Ending.TheVariants as ending
 use Rattle.op_machine.specs.declared.core_state.Seen.{Seen}
 use Rattle.op_machine.specs.Lists.{list_in}
-use Rattle.op_machine.specs.Program.{Tables, clauses, clauses_for, goal_named, IsFor}
+use Rattle.op_store.specs.Stored.{Stored}
+use Rattle.op_machine.specs.Program.{clauses, clauses_from, goal_named, AreKnown}
 use Rattle.op_machine.specs.Resume.{State, Going, Back, Over}
 use Rattle.op_machine.specs.Counted.{Counted}
 use Rattle.op_machine.specs.Scope.{InStep}
@@ -35,25 +36,25 @@ pub record Level : Type 0 where
   pub lists : List (List Item)
 
 -- what the bindings of a moment are over texts, and the term of a Ref
-abbrev pub bindings_in : Tables → Level → Bindings Text
+abbrev pub bindings_in : Stored → Level → Bindings Text
 bindings_in t v = rename_bindings (name_at t.names) (resolved v.terms v.bound)
 
-abbrev pub term_in : Tables → Level → ℕ → Term Text
+abbrev pub term_in : Stored → Level → ℕ → Term Text
 term_in t v r = goal_named t (term_at v.terms r)
 
-abbrev pub item_term : Tables → Level → Item → world.Item
+abbrev pub item_term : Stored → Level → Item → world.Item
 item_term t v (item.Goal r m) = world.Goal (term_in t v r) (world.Call m)
 item_term t v (item.Exit k r) = world.Exit k (term_in t v r)
 
-abbrev pub items_in : Tables → Level → ℕ → List world.Item
+abbrev pub items_in : Stored → Level → ℕ → List world.Item
 items_in t v n = map (item_term t v) (list_in v.lists n)
 
-abbrev pub choice_by : Tables → Level → FrameKind → ℕ → ℕ → ℕ → visit.Choice
+abbrev pub choice_by : Stored → Level → FrameKind → ℕ → ℕ → ℕ → visit.Choice
 choice_by t v kind.Redo k g n = visit.Redo k (term_in t v g) (bindings_in t v) (items_in t v n)
-choice_by t v (kind.More i) k g n = visit.More (clauses_for t (term_at v.terms g) i) k (term_in t v g) (bindings_in t v) (items_in t v n)
+choice_by t v (kind.More rules i) k g n = visit.More (clauses_from t rules i) k (term_in t v g) (bindings_in t v) (items_in t v n)
 choice_by t v kind.Fail k g n = visit.Fail k (term_in t v g) (bindings_in t v) (items_in t v n)
 
-abbrev pub choice_of : Tables → Level → Frame → visit.Choice
+abbrev pub choice_of : Stored → Level → Frame → visit.Choice
 choice_of t v f = choice_by t v f.kind f.call f.goal f.rest
 
 -- the moment at which a choice was made, which is the beginning of a later one
@@ -61,7 +62,7 @@ abbrev pub level_at : Frame → Level → Level
 level_at f v = record { terms = take f.mark.terms v.terms; bound = oldest f.mark.bound v.bound; lists = take f.lists v.lists }
 
 -- the last first
-abbrev pub choices_of : Tables → Level → List Frame → List visit.Choice
+abbrev pub choices_of : Stored → Level → List Frame → List visit.Choice
 choices_of t v [] = []
 choices_of t v (f ∷ F) = choice_of t (level_at f v) f ∷ choices_of t (level_at f v) F
 
@@ -94,7 +95,7 @@ verdict_of ending.Stopped = visit.Stopped
 verdict_of ending.Failed = visit.Failed
 verdict_of ending.Spent = visit.Spent
 
-abbrev pub state_with : Tables → Level → List Frame → World → Mode → State
+abbrev pub state_with : Stored → Level → List Frame → World → Mode → State
 state_with t v F w (mode.Forward n) = Going (items_in t v n) (choices_of t v (reverse F)) (bindings_in t v) w
 state_with t v F w mode.Backward = Back (choices_of t v (reverse F)) w
 state_with t v F w (mode.Over e) = Over (verdict_of e) w
@@ -102,7 +103,7 @@ state_with t v F w (mode.Over e) = Over (verdict_of e) w
 abbrev pub state_of : Core → State
 state_of c = state_with c.store (level_in c) c.frames.items (world_in c) c.mode
 
-abbrev pub event_seen : Tables → bind.State → Seen → Event
+abbrev pub event_seen : Stored → bind.State → Seen → Event
 event_seen t s e = record { chrono = e.chrono; call = e.call; parent = e.parent; depth = e.depth; port = e.port; goal = goal_named t (value_of s e.goal) }
 
 -- a Ref to a term whose names are among the first n
@@ -121,7 +122,7 @@ abbrev pub AreLists : ℕ → List (Term ℕ) → List (List Item) → Type 0
 AreLists n ts L = (m : ℕ) → m < length L → AreItems n ts (list_in L m)
 
 -- each list's items and each binding lead to what is there, and the first terms are
-pub record IsLevel (t : Tables) (floor : ℕ) (v : Level) : Type 0 where
+pub record IsLevel (t : Stored) (floor : ℕ) (v : Level) : Type 0 where
   pub lists : AreLists (length t.names) v.terms v.lists
   pub bound : HaveNames (length t.names) (resolved v.terms v.bound)
   pub floor_there : floor ≤ length v.terms
@@ -133,19 +134,20 @@ pub record IsEarlier (f : Frame) (v : Level) : Type 0 where
   pub bound_below : All (λ p. p.1 < f.mark.terms) (oldest f.mark.bound v.bound)
   pub lists_there : f.lists ≤ length v.lists
 
-abbrev pub IsKind : Tables → Level → ℕ → FrameKind → Type 0
-IsKind t v g kind.Redo = Unit {0}
-IsKind t v g (kind.More i) = (i < length t.rules) × IsFor t (term_at v.terms g) i
-IsKind t v g kind.Fail = Unit {0}
+-- some clause is left of those that are tried
+abbrev pub IsKind : ℕ → FrameKind → Type 0
+IsKind n kind.Redo = Unit {0}
+IsKind n (kind.More rules i) = (i < length rules) × AreKnown n rules
+IsKind n kind.Fail = Unit {0}
 
 -- a choice leads to what was there when it was made
-pub record IsFrame (t : Tables) (v : Level) (f : Frame) : Type 0 where
+pub record IsFrame (t : Stored) (v : Level) (f : Frame) : Type 0 where
   pub rest : f.rest < length v.lists
   pub goal : IsGoal (length t.names) v.terms f.goal
-  pub kind : IsKind t v f.goal f.kind
+  pub kind : IsKind (length t.names) f.kind
 
 -- the last first
-abbrev pub AreFrames : Tables → ℕ → Level → List Frame → Type 0
+abbrev pub AreFrames : Stored → ℕ → Level → List Frame → Type 0
 AreFrames t floor v [] = Unit {0}
 AreFrames t floor v (f ∷ F) = IsEarlier f v × IsLevel t floor (level_at f v) × IsFrame t (level_at f v) f × AreFrames t floor (level_at f v) F
 

@@ -1,9 +1,7 @@
 pub mod Core
 pub mod Counted
-pub mod Index
 pub mod Kinds
 pub mod Lists
-pub mod Loaded
 pub mod Machine
 pub mod Program
 pub mod Resume

@@ -14,14 +14,15 @@ use Rattle.op_machine.specs.declared.turn.Last.{Last}
 use Rattle.op_machine.specs.declared.turn.Last.TheVariants as last
 use Rattle.op_machine.specs.declared.turn.Turn as declared
 use Rattle.op_machine.specs.declared.turn.Turn.TheVariants as turn
-use Rattle.op_machine.specs.Program.{Tables, clauses}
+use Rattle.op_store.specs.Stored.{Stored}
+use Rattle.op_machine.specs.Program.{clauses}
 use Rattle.op_bind.specs.State as bind
 use Rattle.op_machine.specs.Core.{IsSeen, Level, level_of, bindings_in, state_with, event_seen}
 use Rattle.op_machine.specs.Resume.{State, owed}
 
 -- what a machine keeps: but the last event, no turn that was or is to come is among it
 pub record Kept : Type 0 where
-  pub tables : Tables
+  pub tables : Stored
   pub bindings : bind.State
   pub lists : List (List Item)
   pub frames : List Frame

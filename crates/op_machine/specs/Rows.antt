@@ -6,7 +6,8 @@ use Rattle.op_logic.specs.Bind.{unify, Solved as Result}
 use Rattle.op_trace.specs.World as world
 use Rattle.op_trace.specs.World.{Text, text_eq, World, Clause, Barrier, Turn, Shown, Solved}
 use Rattle.op_trace.specs.Visit.{control, is_true}
-use Rattle.op_machine.specs.Program.{clause_at, goal_named}
+use Rattle.op_bind.specs.declared.places.Clause.{Clause as Rule}
+use Rattle.op_machine.specs.Program.{clause_in, goal_named}
 use Rattle.op_machine.specs.declared.core_state.Core.{Core}
 use Rattle.op_machine.specs.declared.core_state.Step.{Step}
 use Rattle.op_machine.specs.declared.core_state.Step.TheVariants as step
@@ -56,21 +57,21 @@ both_before c g m n =
     world.Goal (goal_named c.store (nth_arg ts 0)) (world.Call m) ∷ world.Goal (goal_named c.store (nth_arg ts 1)) (world.Call m) ∷ items_now c n
 
 -- a clause's head is unified with the goal, with the steps that are left
-abbrev pub head_unified : Core → ℕ → ℕ → Option (Result Text)
-head_unified c i g =
-    unify text_eq (c.budget - c.steps) (bindings_now c) ((goal_now c g, shift c.bindings.count (clause_at c.store i).head) ∷ [])
+abbrev pub head_unified : Core → Rule → ℕ → Option (Result Text)
+head_unified c r g =
+    unify text_eq (c.budget - c.steps) (bindings_now c) ((goal_now c g, shift c.bindings.count (clause_in c.store r).head) ∷ [])
 
-abbrev pub rule_met : Core → ℕ → ℕ → ℕ → ℕ → Moved
-rule_met c i k g n = met (setup_of c) (clause_at c.store i) k (goal_now c g) (items_now c n) (choices_in c) (world_in c) (head_unified c i g)
+abbrev pub rule_met : Core → Rule → ℕ → ℕ → ℕ → Moved
+rule_met c r k g n = met (setup_of c) (clause_in c.store r) k (goal_now c g) (items_now c n) (choices_in c) (world_in c) (head_unified c r g)
 
 -- the move of a clause that is tried for a goal before a list
-abbrev pub rule_tried : Core → ℕ → ℕ → ℕ → ℕ → Moved
-rule_tried c i k g n =
-    tried (setup_of c) (clause_at c.store i) k (goal_now c g) (bindings_now c) (items_now c n) (choices_in c) (world_in c)
+abbrev pub rule_tried : Core → Rule → ℕ → ℕ → ℕ → Moved
+rule_tried c r k g n =
+    tried (setup_of c) (clause_in c.store r) k (goal_now c g) (bindings_now c) (items_now c n) (choices_in c) (world_in c)
 
--- the move of a choice, made at the present moment, of the clauses for a goal from one on
-abbrev pub rules_tried : Core → ℕ → ℕ → ℕ → ℕ → Moved
-rules_tried c i k g n = move (setup_of c) (Back (choice_by c.store (level_in c) (kind.More i) k g n ∷ choices_in c) (world_in c))
+-- the move of a choice, made at the present moment, of clauses from one on
+abbrev pub rules_tried : Core → List Rule → ℕ → ℕ → ℕ → ℕ → Moved
+rules_tried c rules i k g n = move (setup_of c) (Back (choice_by c.store (level_in c) (kind.More rules i) k g n ∷ choices_in c) (world_in c))
 
 -- the program and the goal's names stay, also where memory is wanting, and steps never fall
 pub record Keeps (old new : Core) : Type 0 where

@@ -1,8 +1,8 @@
 use crate::frame::Frame;
 use crate::lists::Lists;
-use crate::store::Store;
 use op_bind::{Bindings, Mark, Ref};
 use op_reader::Names;
+use op_store::Store;
 use op_trace::Port;
 
 /// How a run ended.

@@ -1,19 +1,20 @@
 use op_bind::{Mark, Ref};
+use op_store::Snapshot;
 
 /// What is to be done on backtracking.
-#[derive(Clone, Copy, Debug, PartialEq, Eq)]
+#[derive(Drop)]
 pub enum FrameKind {
     /// A box that has exited is entered again.
     Redo,
-    /// The clauses of a box's procedure from one on are tried.
-    More { rule: u64 },
+    /// The clauses from one on are tried, of those that the box's procedure had at the call.
+    More { rules: Snapshot, next: u64 },
     /// A box has no alternative left.
     Fail,
 }
 
 /// A choice: the box that made it, the goal that the box was called with, the list that goes on behind it, and the bindings and
 /// lists that were there when it was made.
-#[derive(Clone, Copy)]
+#[derive(Drop)]
 pub struct Frame {
     pub kind: FrameKind,
     pub call: u64,

@@ -5,15 +5,16 @@ ghost use Rattle.op_machine.specs.declared.core_state.Step.TheVariants as step;
 ghost use Rattle.op_machine.specs.Core.{world_in, level_in, items_now, goal_now, bindings_now, choices_in, IsGood, IsGoal};
 ghost use Rattle.op_machine.specs.Resume.{silent, Going};
 ghost use Rattle.op_machine.specs.Rows.{Keeps, Advances, chosen_now, goal_moved, rule_met, rule_tried, rules_tried, both_before};
-ghost use Rattle.op_machine.specs.Program.{IsFor};
+ghost use Rattle.op_machine.specs.Program.{IsKnown, AreKnown};
 ghost use Rattle.op_term.specs.Places.{term_at};
 ghost use Rattle.op_logic.specs.Term.{args_of, arity};
 
 use crate::core_state::{Core, Mode, Step};
-use crate::kind::Kind;
+use crate::kind::{Kind, kind_of};
 use crate::lists::Item;
 use op_base::Memory;
-use op_bind::Ref;
+use op_bind::{Clause, Ref};
+use op_store::Snapshot;
 use op_term::{Fuel, WalkFault};
 
 impl Core {
@@ -44,7 +45,7 @@ impl Core {
         ensures advances { IfOk result (Advances self.old self.new (chosen_now self.old (goal_now self.old goal) (Call barrier) rest (world_in self.old))) }
         ensures keeps { Keeps self.old self.new }
     {
-        match self.store.kind(self.bindings.outline(&goal)) {
+        match kind_of(&self.store, self.bindings.outline(&goal)) {
             Kind::Truth => {
                 self.mode = Mode::Forward { items: rest };
                 Ok(Step::Silent)
@@ -90,10 +91,11 @@ impl Core {
         Ok(())
     }
 
-    // A clause is tried, and those behind it of its procedure are kept as a choice.
+    // One of some clauses is tried, and those behind it are kept as a choice.
     pub(crate) fn retry(
         &mut self,
-        rule: u64,
+        rules: &Snapshot,
+        next: u64,
         call: u64,
         goal: Ref,
         rest: u64,
@@ -101,25 +103,25 @@ impl Core {
         requires good { IsGood self.old }
         requires there { rest < length self.old.lists }
         requires goal { IsGoal (length self.old.store.names) self.old.bindings.terms goal }
-        requires rule { rule < length self.old.store.rules }
-        requires here { IsFor self.old.store (term_at self.old.bindings.terms goal) rule }
+        requires here { next < length rules.now }
+        requires known { AreKnown (length self.old.store.names) rules.now }
         requires steps { self.old.steps ≤ self.old.budget }
-        ensures advances { IfOk result (Advances self.old self.new (rules_tried self.old rule call goal rest)) }
+        ensures advances { IfOk result (Advances self.old self.new (rules_tried self.old rules.now next call goal rest)) }
         ensures keeps { Keeps self.old self.new }
     {
-        let next = self.store.next_rule(rule);
-        self.push_more(next, call, goal, rest)?;
-        self.attempt(rule, call, goal, rest)
+        let _count = rules.len();
+        self.push_more(rules, next + 1, call, goal, rest)?;
+        self.attempt(rules.clause(next), call, goal, rest)
     }
 
     // A clause for the goal of a box is tried: a step, and those of the head.
-    fn attempt(&mut self, rule: u64, call: u64, goal: Ref, rest: u64) -> Result<Step, Memory>
+    fn attempt(&mut self, rule: &Clause, call: u64, goal: Ref, rest: u64) -> Result<Step, Memory>
         requires good { IsGood self.old }
         requires there { rest < length self.old.lists }
         requires goal { IsGoal (length self.old.store.names) self.old.bindings.terms goal }
-        requires rule { rule < length self.old.store.rules }
+        requires known { IsKnown (length self.old.store.names) rule.now }
         requires steps { self.old.steps ≤ self.old.budget }
-        ensures advances { IfOk result (Advances self.old self.new (rule_tried self.old rule call goal rest)) }
+        ensures advances { IfOk result (Advances self.old self.new (rule_tried self.old rule.now call goal rest)) }
         ensures keeps { Keeps self.old self.new }
     {
         if !self.spend() {
@@ -129,20 +131,18 @@ impl Core {
     }
 
     // A clause's head is unified with the goal; where they match, its body comes next.
-    fn meet(&mut self, rule: u64, call: u64, goal: Ref, rest: u64) -> Result<Step, Memory>
+    fn meet(&mut self, rule: &Clause, call: u64, goal: Ref, rest: u64) -> Result<Step, Memory>
         requires good { IsGood self.old }
         requires there { rest < length self.old.lists }
         requires goal { IsGoal (length self.old.store.names) self.old.bindings.terms goal }
-        requires rule { rule < length self.old.store.rules }
+        requires known { IsKnown (length self.old.store.names) rule.now }
         requires steps { self.old.steps ≤ self.old.budget }
-        ensures advances { IfOk result (Advances self.old self.new (rule_met self.old rule call goal rest)) }
+        ensures advances { IfOk result (Advances self.old self.new (rule_met self.old rule.now call goal rest)) }
         ensures keeps { Keeps self.old self.new }
     {
+        let _names = self.store.symbols().count();
         let mut fuel = Fuel::new(self.budget - self.steps);
-        match self
-            .bindings
-            .rename(self.store.clause(rule), &goal, &mut fuel)
-        {
+        match self.bindings.rename(rule, &goal, &mut fuel) {
             Ok(Some(body)) => {
                 self.steps = self.budget - fuel.left();
                 self.enter(body, call, goal, rest)?;

@@ -4,21 +4,18 @@
 mod core_state;
 mod frame;
 mod goals;
-mod index;
-mod key;
 mod kind;
 mod lists;
 mod machine;
 mod moves;
+mod procedure;
 mod rows;
 mod run;
-mod store;
 mod turn;
 mod view;
 
 pub use core_state::Ending;
 pub use machine::{Host, Machine};
-pub use store::{Goal, Store};
 pub use turn::{Cause, MachineFault, Turn};
 pub use view::{EventView, SolutionView};
 

@@ -1,14 +1,17 @@
 ghost use Rattle.std.specs.Prelude.{◌≡◌, ◌≢◌, ◌+◌, ◌-◌, ◌^◌, ◌<◌, ◌≤◌, ◌↔◌, true, false, length, IfOk, OnErr, IsErrOf, IfSome, is_some, OnOk};
-ghost use Rattle.op_machine.specs.Program.{IsQuery};
+ghost use Rattle.op_store.specs.Queries.{IsSoundGoal};
+ghost use Rattle.op_store.specs.World.{clauses_of_world};
+ghost use Rattle.op_store.specs.Stored.{world_of};
+ghost use Rattle.op_logic.specs.Names.{named};
 ghost use Rattle.op_trace.specs.Run.{run};
 ghost use Rattle.op_trace.specs.World.{loaded};
 ghost use Rattle.op_machine.specs.Machine.{last_after};
 
 use crate::core_state::{Core, Ending, Mode, Seen};
-use crate::store::{Goal, Store};
 use crate::turn::{Cause, Last, MachineFault, Turn};
 use crate::view::{EventView, SolutionView};
 use op_base::{Memory, Steps};
+use op_store::{Goal, Store};
 use op_term::Symbols;
 use op_trace::Port;
 use std::alloc::Global;
@@ -46,7 +49,6 @@ impl Model for Machine {
 
 impl Machine {
     ghost use Rattle.op_machine.specs.Machine.{to_come, Answers, answered, event_now, has_event, has_solution};
-    ghost use Rattle.op_machine.specs.Program.{clauses, goal_named};
     ghost use Rattle.op_machine.specs.View.{event_in};
 
     /// A machine before the first turn of a goal's run over the clauses of a store: the run may take `budget` steps,
@@ -58,11 +60,11 @@ impl Machine {
         budget: u64,
         wanted: u64,
     ) -> Result<Machine, Memory>
-        requires goal { IsQuery (length store.names) goal.now }
+        requires goal { IsSoundGoal (length store.names) goal.now }
         requires some { 1 ≤ budget }
         requires limit { budget ≤ 1000000000 }
         ensures run { IfOk result (λ m. to_come m
-            ≡ run (record { budget = budget; wanted = wanted }) (goal_named store goal.now.body) goal.now.vars (loaded (clauses store))) }
+            ≡ run (record { budget = budget; wanted = wanted }) (named store.names goal.now.body) goal.now.vars (loaded (clauses_of_world (world_of store)))) }
         ensures names { IfOk result (λ m. m.names ≡ goal.now.names) }
         ensures steps { IfOk result (λ m. m.steps ≡ 0) }
         ensures answered { IfOk result (λ m. answered m ≡ 0) }
@@ -123,10 +125,18 @@ impl Machine {
         self.core.steps
     }
 
+    /// The program of the run.
+    pub fn store(&self) -> &Store
+        ensures { result.now ≡ self.now.tables }
+    {
+        &self.core.store
+    }
+
     /// The event that was the last turn; None where the last turn was no event or a fault was answered.
     pub fn event(&self) -> Option<EventView<'_>>
         ensures there { is_some result ≡ has_event self.now }
         ensures event { IfSome result (λ v. event_in v ≡ event_now self.now) }
+        ensures bindings { IfSome result (λ v. v.state ≡ self.now.bindings) }
         ensures symbols { IfSome result (λ v. v.names ≡ self.now.tables.names) }
     {
         if self.faulted || self.last != Last::Event {

@@ -76,7 +76,7 @@ impl Core {
         match self.pop() {
             Some(frame) => {
                 self.restore(&frame);
-                self.resume(frame)
+                self.resume(&frame)
             }
             None => {
                 self.mode = Mode::Over {
@@ -88,18 +88,20 @@ impl Core {
     }
 
     // What a choice, made at the present moment, does after a failure.
-    fn resume(&mut self, frame: Frame) -> Result<Step, Memory>
+    fn resume(&mut self, frame: &Frame) -> Result<Step, Memory>
         requires good { IsGood self.old }
-        requires frame { IsFrame self.old.store (level_in self.old) frame }
+        requires frame { IsFrame self.old.store (level_in self.old) frame.now }
         requires events { self.old.events < 2 ^ 63 }
         requires steps { self.old.steps ≤ self.old.budget }
         ensures advances { IfOk result (Advances self.old self.new (move (setup_of self.old)
-            (Back (choice_of self.old.store (level_in self.old) frame ∷ choices_in self.old) (world_in self.old)))) }
+            (Back (choice_of self.old.store (level_in self.old) frame.now ∷ choices_in self.old) (world_in self.old)))) }
         ensures keeps { Keeps self.old self.new }
     {
-        match frame.kind {
+        match &frame.kind {
             FrameKind::Redo => Ok(self.go_back(Port::Redo, frame.call, frame.goal, frame.rest)),
-            FrameKind::More { rule } => self.retry(rule, frame.call, frame.goal, frame.rest),
+            FrameKind::More { rules, next } => {
+                self.retry(rules, *next, frame.call, frame.goal, frame.rest)
+            }
             FrameKind::Fail => Ok(self.go_back(Port::Fail, frame.call, frame.goal, frame.rest)),
         }
     }

@@ -8,16 +8,20 @@ ghost use Rattle.op_machine.specs.declared.core_state.Ending.TheVariants as endi
 ghost use Rattle.op_machine.specs.declared.core_state.Step.TheVariants as step;
 ghost use Rattle.op_machine.specs.declared.frame.FrameKind.TheVariants as kind;
 ghost use Rattle.op_machine.specs.Core.{setup_of, world_in, level_in, items_now, goal_now, bindings_now, choices_in, choice_by, item_term, items_in, event_seen, IsGood, IsItem, IsGoal, IsEarlier, IsKind};
-ghost use Rattle.op_machine.specs.Program.{IsFor, clauses_for};
+ghost use Rattle.op_machine.specs.Program.{clauses, clauses_from, AreKnown};
 ghost use Rattle.op_machine.specs.Resume.{at_solution, showing, with_more, silent, Going, Back};
 ghost use Rattle.op_machine.specs.Rows.{Keeps, Advances, IsLooked, exit_moved, box_invoked, body_entered, body_before};
-ghost use Rattle.op_term.specs.Places.{term_at};
+ghost use Rattle.op_trace.specs.World.{procedure};
+ghost use Rattle.op_store.specs.Snapshots.{rules_in};
 
 use crate::core_state::{Core, Ending, Mode, Seen, Step};
 use crate::frame::{Frame, FrameKind};
+use crate::kind::is_truth;
 use crate::lists::Item;
+use crate::procedure::pi_of;
 use op_base::Memory;
 use op_bind::Ref;
+use op_store::Snapshot;
 use op_trace::Port;
 
 impl Core {
@@ -79,7 +83,7 @@ impl Core {
         requires good { IsGood self.old }
         requires there { rest < length self.old.lists }
         requires goal { IsGoal (length self.old.store.names) self.old.bindings.terms goal }
-        requires kind { IsKind self.old.store (level_in self.old) goal kind }
+        requires kind { IsKind (length self.old.store.names) kind }
         ensures choices { OnOk result (choices_in self.new ≡ choice_by self.old.store (level_in self.old) kind call goal rest ∷ choices_in self.old) }
         ensures good { OnOk result (IsGood self.new) }
         ensures rest { self.new ≡ record self.old { frames = self.new.frames } }
@@ -193,16 +197,44 @@ impl Core {
         let call = self.calls;
         self.show(Port::Call, call, goal, rest);
         self.push(FrameKind::Fail, call, goal, rest)?;
-        let rule = self.store.first_rule(self.bindings.outline(&goal));
-        self.push_more(rule, call, goal, rest)?;
+        self.push_clauses(call, goal, rest)?;
         self.mode = Mode::Backward;
         Ok(Step::Event)
     }
 
-    // A choice of the clauses from one on, where there are any.
+    // The clauses of a goal's procedure at this moment, or None where there is no such procedure.
+    fn clauses_of(&self, goal: Ref) -> Result<Option<Snapshot>, Memory>
+        requires { goal < length self.now.bindings.terms }
+        ensures clauses { IfOk result (λ o. procedure (clauses self.now.store) (goal_now self.now goal) ≡ clauses_from self.now.store (rules_in o) 0) }
+        ensures known { IfOk result (λ o. AreKnown (length self.now.store.names) (rules_in o)) }
+    {
+        match pi_of(self.bindings.outline(&goal)) {
+            Some(pi) => Ok(self.store.snapshot(pi)?),
+            None => Ok(None),
+        }
+    }
+
+    // A choice of the clauses of a goal's procedure, where it has any.
+    fn push_clauses(&mut self, call: u64, goal: Ref, rest: u64) -> Result<(), Memory>
+        requires good { IsGood self.old }
+        requires there { rest < length self.old.lists }
+        requires goal { IsGoal (length self.old.store.names) self.old.bindings.terms goal }
+        ensures choices { OnOk result (choices_in self.new ≡ with_more (procedure (clauses self.old.store) (goal_now self.old goal)) call (goal_now self.old goal)
+            (bindings_now self.old) (items_now self.old rest) (choices_in self.old)) }
+        ensures good { OnOk result (IsGood self.new) }
+        ensures rest { self.new ≡ record self.old { frames = self.new.frames } }
+    {
+        match self.clauses_of(goal)? {
+            Some(rules) => self.push_more(&rules, 0, call, goal, rest),
+            None => Ok(()),
+        }
+    }
+
+    // A choice of clauses from one on, where there are any.
     pub(crate) fn push_more(
         &mut self,
-        rule: u64,
+        rules: &Snapshot,
+        next: u64,
         call: u64,
         goal: Ref,
         rest: u64,
@@ -210,14 +242,15 @@ impl Core {
         requires good { IsGood self.old }
         requires there { rest < length self.old.lists }
         requires goal { IsGoal (length self.old.store.names) self.old.bindings.terms goal }
-        requires here { rule < length self.old.store.rules → IsFor self.old.store (term_at self.old.bindings.terms goal) rule }
-        ensures choices { OnOk result (choices_in self.new ≡ with_more (clauses_for self.old.store (term_at self.old.bindings.terms goal) rule) call (goal_now self.old goal)
+        requires known { AreKnown (length self.old.store.names) rules.now }
+        ensures choices { OnOk result (choices_in self.new ≡ with_more (clauses_from self.old.store rules.now next) call (goal_now self.old goal)
             (bindings_now self.old) (items_now self.old rest) (choices_in self.old)) }
         ensures good { OnOk result (IsGood self.new) }
         ensures rest { self.new ≡ record self.old { frames = self.new.frames } }
     {
-        if rule < self.store.len() {
-            self.push(FrameKind::More { rule }, call, goal, rest)?;
+        if next < rules.len() {
+            let rules = rules.copy()?;
+            self.push(FrameKind::More { rules, next }, call, goal, rest)?;
         }
         Ok(())
     }
@@ -265,6 +298,6 @@ impl Core {
         requires { body < length self.now.bindings.terms }
         ensures { result ≡ is_true (goal_now self.now body) }
     {
-        self.store.is_truth(self.bindings.outline(&body))
+        is_truth(&self.store, self.bindings.outline(&body))
     }
 }

@@ -4,17 +4,17 @@ ghost use Rattle.op_term.specs.Places.{term_at};
 ghost use Rattle.op_reader.specs.Met.{AreCounted};
 ghost use Rattle.op_bind.specs.Grown.{Grows};
 ghost use Rattle.op_machine.specs.Core.{IsSound, AreValues};
-ghost use Rattle.op_machine.specs.Program.{IsQuery};
+ghost use Rattle.op_store.specs.Queries.{IsSoundGoal};
 ghost use Rattle.op_machine.specs.Rows.{Keeps};
 ghost use Rattle.op_machine.specs.Turned.{Turned, IsBegun};
 
 use crate::core_state::{Core, Mode, Seen, Step};
 use crate::lists::{Item, Lists};
-use crate::store::{Goal, Store};
 use crate::turn::Turn;
 use op_base::Memory;
 use op_bind::{Bindings, Ref};
 use op_reader::Names;
+use op_store::{Goal, Store};
 use op_term::Builder;
 use op_trace::Port;
 use std::alloc::Global;
@@ -56,7 +56,7 @@ impl Core {
         budget: u64,
         wanted: u64,
     ) -> Result<Core, Memory>
-        requires goal { IsQuery (length store.names) goal.now }
+        requires goal { IsSoundGoal (length store.names) goal.now }
         requires limit { budget ≤ 1000000000 }
         ensures begun { IfOk result (IsBegun store goal.now.body goal.now.vars goal.now.names budget wanted) }
         ensures sound { IfOk result IsSound }

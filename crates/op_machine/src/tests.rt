@@ -1,9 +1,12 @@
-ghost use Rattle.std.specs.Prelude.{◌≡◌, ◌<◌, ◌≤◌};
+ghost use Rattle.std.specs.Prelude.{◌≡◌, ◌<◌, ◌≤◌, length};
+ghost use Rattle.op_logic.specs.Names.{HasNames};
+ghost use Rattle.op_bind.specs.State.{value_of};
 
-use crate::{Ending, EventView, Host, Machine, SolutionView, Store, Turn};
+use crate::{Ending, EventView, Host, Machine, SolutionView, Turn};
 use op_base::Steps;
-use op_reader::FormFault;
-use op_term::Node;
+use op_bind::{Bindings, Ref};
+use op_store::{Locked, Store};
+use op_term::{Node, Symbols};
 use op_trace::Port;
 use std::alloc::{AllocError, Global};
 use std::marker::Brand;
@@ -32,24 +35,63 @@ fn ending_word(ending: Ending) -> &'static str {
     }
 }
 
+// A value's outermost part.
+fn add_value(
+    text: &mut String,
+    bindings: &Bindings,
+    symbols: &Symbols,
+    value: &Ref,
+) -> Result<(), AllocError>
+    requires there { value.now < length bindings.now.terms }
+    requires names { HasNames (length symbols.now) (value_of bindings.now value.now) }
+{
+    match bindings.head_of(value) {
+        Node::Var(n) => write!(text, "_{n}"),
+        Node::Int(i) => write!(text, "{i}"),
+        Node::Atom(name) => text.push_str(symbols.name_of(name)),
+        Node::Struct(name, _) => {
+            text.push_str(symbols.name_of(name))?;
+            text.push_str("(..)")
+        }
+    }
+}
+
+// A goal's first argument, where it is a variable or a number.
+fn add_first(text: &mut String, bindings: &Bindings, goal: &Ref) -> Result<(), AllocError>
+    requires { goal.now < length bindings.now.terms }
+{
+    match bindings.outline(goal) {
+        Node::Struct(_, _) => match bindings.head_of(&bindings.argument(goal, 0)) {
+            Node::Var(n) => write!(text, " _{n}"),
+            Node::Int(i) => write!(text, " {i}"),
+            _ => text.push_str(" -"),
+        },
+        _ => Ok(()),
+    }
+}
+
 fn add_event(text: &mut String, view: EventView<'_>) -> Result<(), AllocError> {
     let port = word(view.port());
     let chrono = view.chrono();
     let call = view.call();
     let parent = view.parent();
     let depth = view.depth();
-    write!(text, "{chrono} {call} {parent} {depth} {port}|")
+    write!(text, "{chrono} {call} {parent} {depth} {port}")?;
+    add_first(text, view.bindings(), &view.goal())?;
+    text.push_str("|")
 }
 
-// The first named variable's value, where that is an integer.
+// The named variables and their values.
 fn add_solution(text: &mut String, view: SolutionView<'_>) -> Result<(), AllocError> {
-    if view.names().len() == 0 {
-        return text.push_str("solution|");
+    let names = view.names();
+    text.push_str("solution")?;
+    for i in 0..names.len() {
+        text.push_str(" ")?;
+        text.push_str(names.name(i))?;
+        text.push_str("=")?;
+        add_value(text, view.bindings(), view.symbols(), &view.value(i))?;
     }
-    match view.bindings().head_of(&view.value(0)) {
-        Node::Int(i) => write!(text, "solution {i}|"),
-        _ => text.push_str("solution of another kind|"),
-    }
+    text.push_str("|")
 }
 
 // The turns of a run, up to fifty, the ending and the steps.
@@ -68,7 +110,7 @@ fn trace<L: Ledger>(
     requires most { budget ≤ 1000000000 }
 {
     let mut steps = Steps::<L>::new(blank);
-    let mut store = Store::new(alloc)?;
+    let mut store = Store::new(alloc, Locked::Program)?;
     store.load(program)?;
     let goal = store.goal(goal)?;
     let mut machine = Machine::start(alloc, store, &goal, budget, wanted)?;
@@ -110,13 +152,13 @@ fn a_join(rt: HostRuntime) -> Result<(), Fail> {
     let text = trace::<Brand>(
         rt.alloc(),
         Blank::new(1),
-        b"e(1,2). e(2,3). p(X,Z) :- e(X,Y), e(Y,Z).",
-        b"p(1,W)",
+        b"e(a,b). e(b,c). p(X,Z) :- e(X,Y), e(Y,Z).",
+        b"p(a,W)",
         1000,
         1,
     )?;
     let want =
-        "1 1 0 1 call|2 2 1 2 call|3 2 1 2 exit|4 3 1 2 call|5 3 1 2 exit|6 1 0 1 exit|solution 3|stopped 26";
+        "1 1 0 1 call -|2 2 1 2 call -|3 2 1 2 exit -|4 3 1 2 call -|5 3 1 2 exit -|6 1 0 1 exit -|solution W=c|stopped 26";
     assert_eq!(rt; text.as_str(), want);
     Ok(())
 }
@@ -131,16 +173,94 @@ fn no_cyclic_term(rt: HostRuntime) -> Result<(), Fail> {
         1000,
         1,
     )?;
-    let want = "1 1 0 1 call|2 2 1 2 call|3 2 1 2 fail|4 1 0 1 fail|failed 12";
+    let want = "1 1 0 1 call|2 2 1 2 call _0|3 2 1 2 fail _0|4 1 0 1 fail|failed 12";
     assert_eq!(rt; text.as_str(), want);
     Ok(())
 }
 
 #[test]
 fn all_solutions(rt: HostRuntime) -> Result<(), Fail> {
-    let text = trace::<Brand>(rt.alloc(), Blank::new(1), b"q(7). q(8).", b"q(X)", 1000, 0)?;
+    let text = trace::<Brand>(
+        rt.alloc(),
+        Blank::new(1),
+        b"q(7). other. q(8).",
+        b"q(X)",
+        1000,
+        0,
+    )?;
     let want =
-        "1 1 0 1 call|2 1 0 1 exit|solution 7|3 1 0 1 redo|4 1 0 1 exit|solution 8|5 1 0 1 redo|6 1 0 1 fail|failed 9";
+        "1 1 0 1 call _0|2 1 0 1 exit 7|solution X=7|3 1 0 1 redo 7|4 1 0 1 exit 8|solution X=8|5 1 0 1 redo 8|6 1 0 1 fail _0|failed 9";
+    assert_eq!(rt; text.as_str(), want);
+    Ok(())
+}
+
+#[test]
+fn two_named_variables(rt: HostRuntime) -> Result<(), Fail> {
+    let text = trace::<Brand>(
+        rt.alloc(),
+        Blank::new(1),
+        b"e(a,b). e(b,f(c)).",
+        b"e(X,Y)",
+        1000,
+        2,
+    )?;
+    let want =
+        "1 1 0 1 call _0|2 1 0 1 exit -|solution X=a Y=b|3 1 0 1 redo -|4 1 0 1 exit -|solution X=b Y=f(..)|stopped 14";
+    assert_eq!(rt; text.as_str(), want);
+    Ok(())
+}
+
+#[test]
+fn redo_has_the_bindings_of_the_exit(rt: HostRuntime) -> Result<(), Fail> {
+    let text = trace::<Brand>(
+        rt.alloc(),
+        Blank::new(1),
+        b"q(_). r(1). p :- q(X), r(X), fail.",
+        b"p",
+        1000,
+        1,
+    )?;
+    let want =
+        "1 1 0 1 call|2 2 1 2 call _0|3 2 1 2 exit _0|4 3 1 2 call _0|5 3 1 2 exit 1|6 3 1 2 redo 1|7 3 1 2 fail _0|8 2 1 2 redo _0|9 2 1 2 fail _0|10 1 0 1 fail|failed 18";
+    assert_eq!(rt; text.as_str(), want);
+    Ok(())
+}
+
+#[test]
+fn a_head_that_does_not_match_makes_no_variables(rt: HostRuntime) -> Result<(), Fail> {
+    let text = trace::<Brand>(
+        rt.alloc(),
+        Blank::new(1),
+        b"b(k(X),X). b(A,C) :- c(D,C). c(_,_).",
+        b"b(f(Y),Z)",
+        1000,
+        1,
+    )?;
+    let want =
+        "1 1 0 1 call -|2 2 1 2 call _4|3 2 1 2 exit _4|4 1 0 1 exit -|solution Y=_0 Z=_1|stopped 23";
+    assert_eq!(rt; text.as_str(), want);
+    Ok(())
+}
+
+#[test]
+fn no_clause_for_a_goal(rt: HostRuntime) -> Result<(), Fail> {
+    let text = trace::<Brand>(rt.alloc(), Blank::new(1), b"a(1). b :- a.", b"b", 1000, 1)?;
+    let want = "1 1 0 1 call|2 2 1 2 call|3 2 1 2 fail|4 1 0 1 fail|failed 4";
+    assert_eq!(rt; text.as_str(), want);
+    Ok(())
+}
+
+#[test]
+fn a_procedure_without_clauses(rt: HostRuntime) -> Result<(), Fail> {
+    let text = trace::<Brand>(
+        rt.alloc(),
+        Blank::new(1),
+        b":- dynamic(d/0).",
+        b"d",
+        1000,
+        1,
+    )?;
+    let want = "1 1 0 1 call|2 1 0 1 fail|failed 1";
     assert_eq!(rt; text.as_str(), want);
     Ok(())
 }
@@ -149,36 +269,6 @@ fn all_solutions(rt: HostRuntime) -> Result<(), Fail> {
 fn a_loop_is_spent(rt: HostRuntime) -> Result<(), Fail> {
     let text = trace::<Brand>(rt.alloc(), Blank::new(1), b"p :- p.", b"p", 100, 1)?;
     assert!(rt; text.as_str().ends_with("34 34 33 34 call|spent 100"));
-    Ok(())
-}
-
-// Whether a goal is read beside a program.
-fn is_read(alloc: Global, program: &[u8], goal: &[u8]) -> Result<bool, Fail> {
-    let mut store = Store::new(alloc)?;
-    store.load(program)?;
-    match store.goal(goal) {
-        Ok(_) => Ok(true),
-        Err(FormFault::Form) => Ok(false),
-        Err(FormFault::Memory) => Err(Fail::from(AllocError)),
-    }
-}
-
-#[test]
-fn goals_without_clauses(rt: HostRuntime) -> Result<(), Fail> {
-    let program = b"a. b(1). p(X,Y) :- a, b(X).";
-    let read = [
-        "a", "b(2)", "p(X,Y)", "p(a,W)", "true", "fail", "false", "p(_,_)", "  a  ",
-    ];
-    for goal in read {
-        assert!(rt; is_read(rt.alloc(), program, goal.as_bytes())?);
-    }
-    let refused = [
-        "c", "p", "p(a)", "p(a,b,c)", "a(1)", "b", "write(x)", "a, a", "a.", "X", "1", "",
-        "true(1)",
-    ];
-    for goal in refused {
-        assert!(rt; !is_read(rt.alloc(), program, goal.as_bytes())?);
-    }
     Ok(())
 }
 
@@ -211,7 +301,7 @@ fn count<L: Ledger>(
     requires most { budget ≤ 1000000000 }
 {
     let mut steps = Steps::<L>::new(blank);
-    let mut store = Store::new(alloc)?;
+    let mut store = Store::new(alloc, Locked::Program)?;
     store.load(program)?;
     let goal = store.goal(goal)?;
     let mut machine = Machine::start(alloc, store, &goal, budget, 1)?;

@@ -16,3 +16,4 @@ mod Joining
 mod Converting
 pub mod Soundness
 mod Loading
+pub mod GoalClauses

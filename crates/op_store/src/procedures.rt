@@ -1,5 +1,7 @@
-ghost use Rattle.std.specs.Prelude.{◌≡◌, [], ◌∷◌, Some, None, option_copied, IfOk, OnOk, OnErr, MatchOption};
-ghost use Rattle.op_store.specs.Rows.{row_in, with_row, extended_row, all_rules, no_rules};
+ghost use Rattle.std.specs.Prelude.{◌≡◌, [], ◌∷◌, Some, None, option_copied, IfOk, OnOk, OnErr, MatchOption, length};
+ghost use Rattle.std.specs.List.{IsDistinct};
+ghost use Rattle.std.specs.Map.{keys_of};
+ghost use Rattle.op_store.specs.Rows.{pi_eq, row_in, with_row, extended_row, all_rules, no_rules};
 
 use crate::pi::Pi;
 use crate::procedure::Procedure;
@@ -45,6 +47,14 @@ impl Procedures {
         ensures { option_copied result ≡ row_in self.now pi }
     {
         self.rows.get(&pi)
+    }
+
+    /// How many procedures there are. None of them stands there twice.
+    pub fn count(&self) -> u64
+        ensures count { result ≡ length self.now }
+        ensures distinct { IsDistinct pi_eq (keys_of self.now) }
+    {
+        self.rows.len() as u64
     }
 
     /// Adds a clause at the end of its procedure. A new procedure is static.

@@ -1,6 +1,7 @@
 ghost use Rattle.std.specs.Prelude.{◌≡◌, ◌≢◌, ◌<◌, ℕ, [], length, take, map, option_map, Some, None, Ok, Err, IfOk, IfErr, IfSome, OnOk, OnErr, is_some, All};
 ghost use Rattle.op_logic.specs.Names.{IsTable, HasNames, named};
-ghost use Rattle.op_logic.specs.Term.{IsWithin};
+ghost use Rattle.op_logic.specs.Term.{IsWithin, Term as SpecTerm};
+ghost use Rattle.op_trace.specs.World.{procedure};
 ghost use Rattle.op_store.specs.Counted.{variable_count};
 ghost use Rattle.op_store.specs.Body.{converted};
 ghost use Rattle.op_store.specs.Clauses.{with_parts};
@@ -10,7 +11,8 @@ ghost use Rattle.op_term.specs.declared.ops.OpFault.TheVariants.{Memory as want_
 ghost use Rattle.op_store.specs.World.{procedure_in, clauses_of_world, key_of};
 ghost use Rattle.op_store.specs.Load.{goal_of, command_of, load_text, load_from};
 ghost use Rattle.op_store.specs.Locked.{is_locked as the_locked};
-ghost use Rattle.op_store.specs.Rows.{row_in, key_named, clause_named, IsRule};
+ghost use Rattle.op_store.specs.Rows.{row_in, key_named, clause_named, pi_of, IsRule};
+ghost use Rattle.op_store.specs.Snapshots.{rules_in};
 
 use crate::builtins::is_locked_name;
 use crate::clause_parts::{clause_body, clause_variables, own_term, procedure_of};
@@ -63,7 +65,7 @@ impl Model for Store {
 impl Store {
     ghost use Rattle.op_store.specs.Queries.{TellsGoal, TellsCommand, TellsLoad, IsSoundGoal, IsSoundFault, IsSoundLoadFault};
     ghost use Rattle.op_store.specs.Told.{TellsTerm, with_names};
-    ghost use Rattle.op_store.specs.Stored.{Stored, world_of, new_store, with_rule, rules_of, is_dynamic_row, IsSound};
+    ghost use Rattle.op_store.specs.Stored.{Stored, world_of, first_names, new_store, with_rule, rules_of, is_dynamic_row, IsSound};
 
     /// A store without clauses, with the operators of the standard and the names of the control constructs.
     pub fn new(alloc: Global, locked: Locked) -> Result<Store, Memory>
@@ -85,7 +87,8 @@ impl Store {
 
     /// The names.
     pub fn symbols(&self) -> &Symbols
-        ensures { result.now ≡ self.now.names }
+        ensures names { result.now ≡ self.now.names }
+        ensures begins { take 8 self.now.names ≡ first_names }
     {
         &self.symbols
     }
@@ -127,8 +130,11 @@ impl Store {
         ensures world { IfOk result (λ o. option_map (map (clause_named self.now.names)) o
             ≡ option_map (λ p. p.clauses) (procedure_in (world_of self.now).procedures (key_named self.now.names pi))) }
         ensures sound { IfOk result (λ o. IfSome o (All (λ r. IsRule (length self.now.names) pi r))) }
+        ensures procedure { IfOk result (λ o. (g : SpecTerm ℕ) → pi_of g ≡ Some pi
+            → procedure (clauses_of_world (world_of self.now)) (named self.now.names g) ≡ map (clause_named self.now.names) (rules_in o)) }
     {
         let _names = self.symbols.count();
+        let _procedures = self.procedures.count();
         match self.procedures.find(pi) {
             Some(procedure) => Ok(Some(procedure.clauses.copy()?)),
             None => Ok(None),

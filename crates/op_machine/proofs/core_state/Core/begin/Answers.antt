@@ -2,7 +2,7 @@ use Rattle.std.proofs.Common.{◌≡◌, ◌+◌, ℕ, List, length, sym, ap, �
 use Rattle.op_logic.specs.Term.{IsWithin, shift}
 use Rattle.op_logic.proofs.Shifting.{shift-none}
 use Rattle.op_bind.specs.State.{State}
-use Rattle.op_machine.specs.declared.store.Goal.{Goal}
+use Rattle.op_store.specs.declared.goal.Goal.{Goal}
 use Rattle.op_machine.specs.Core.{AreValues}
 use Rattle.op_machine.proofs.Beginning.{first-begun, first-sound, first-made}
 use Rattle.op_machine.proofs.core_state.Core.begin.Goals as goal

@@ -1,16 +1,28 @@
-use Rattle.std.proofs.Common.{◌<◌, length, sym, ◌∙◌, arith}
+use Rattle.std.proofs.Common.{◌<◌, List, ◌∷◌, length, sym, ap, subst, ◌∙◌, arith}
+use Rattle.op_bind.specs.declared.places.Clause.{Clause as Rule}
+use Rattle.op_trace.specs.Visit as visit
 use Rattle.op_machine.specs.declared.core_state.Core.{Core}
-use Rattle.op_machine.specs.Core.{choices_in}
-use Rattle.op_machine.proofs.Rowing.{with_more-here, with_more-end}
+use Rattle.op_machine.specs.declared.frame.FrameKind.TheVariants as kind
+use Rattle.op_machine.specs.Core.{IsKind, level_in, choice_by, choices_in}
+use Rattle.op_machine.proofs.Choosing.{with_more-here, with_more-end}
 use Rattle.op_machine.proofs.core_state.Core.push_more.Goals as goal
 
 pub returns-in_ok-push-clause-choices : goal.returns-in_ok-push-clause-choices
 returns-in_ok-push-clause-choices c =
     let old : Core = c.args.self.now in
-    let inside : c.args.rule < length old.store.rules = omega (arith, c.if-rule-len.true, c.len.ensures) in
-    c.in_ok-push.ensures.choices ∙ sym (with_more-here old c.args.rule c.args.call c.args.goal c.args.rest (choices_in old) inside (c.requires.here inside))
+    let inside : c.args.next < length c.args.rules.now = omega arith in
+    c.in_ok-push.ensures.choices
+    ∙ (ap (λ (rs : List Rule). let x : List visit.Choice = choice_by old.store (level_in old) (kind.More rs c.args.next) c.args.call c.args.goal c.args.rest ∷ choices_in old in x) c.in_ok-rules.ensures
+    ∙ sym (with_more-here old c.args.rules.now c.args.next c.args.call c.args.goal c.args.rest (choices_in old) inside))
 
-pub returns-else-rule-len-clause-choices : goal.returns-else-rule-len-clause-choices
-returns-else-rule-len-clause-choices c =
+pub returns-else-next-len-clause-choices : goal.returns-else-next-len-clause-choices
+returns-else-next-len-clause-choices c =
     let old : Core = c.args.self.now in
-    sym (with_more-end old c.args.rule c.args.call c.args.goal c.args.rest (choices_in old) (omega (arith, c.if-rule-len.false, c.len.ensures)))
+    sym (with_more-end old c.args.rules.now c.args.next c.args.call c.args.goal c.args.rest (choices_in old) (omega arith))
+
+pub push-requires-clause-kind : goal.push-requires-clause-kind
+push-requires-clause-kind c =
+    let old : Core = c.args.self.now in
+    let inside : c.args.next < length c.args.rules.now = omega arith in
+    let P : List Rule → Type 0 = λ rs. IsKind (length old.store.names) (kind.More rs c.args.next) in
+    subst P (sym c.in_ok-rules.ensures) (inside, c.requires.known)

@@ -1,21 +1,15 @@
 ghost use Rattle.std.specs.Prelude.{◌≡◌};
 ghost use Rattle.op_logic.specs.Term.{Term};
 ghost use Rattle.op_term.specs.Head.{head};
-ghost use Rattle.op_machine.specs.Program.{key_of};
+ghost use Rattle.op_store.specs.Rows.{pi_of as the_pi};
 
-use op_term::{Node, Sym};
-
-/// A procedure, by its name and how many arguments it has (ISO/IEC 13211-1, 7.5).
-#[derive(Clone, Copy, Debug, PartialEq, Eq, Hash)]
-pub struct Pi {
-    pub name: Sym,
-    pub arity: u64,
-}
+use op_store::Pi;
+use op_term::Node;
 
 /// The procedure that a term with this outermost node is a goal of; None for a variable or an integer.
-#[tactic(auto, using(crate::proofs::Keys::key_head))]
-pub fn key_of(node: Node) -> Option<Pi>
-    ensures { (t : Term _) → head t ≡ node → result ≡ key_of t }
+#[tactic(auto, using(crate::proofs::ProcedureOf::pi_head))]
+pub(crate) fn pi_of(node: Node) -> Option<Pi>
+    ensures { (t : Term _) → head t ≡ node → result ≡ the_pi t }
 {
     match node {
         Node::Var(_) => None,

@@ -1,21 +1,23 @@
-use Rattle.std.proofs.Common.{◌≡◌, ℕ, sym, ap, ◌∙◌, subst}
+use Rattle.std.proofs.Common.{◌≡◌, ℕ, List, take, sym, ap, ◌∙◌, subst}
 use Rattle.op_logic.specs.Term.{Term, args_of}
+use Rattle.op_logic.specs.Names.{IsTable}
+use Rattle.op_store.specs.Stored.{Stored}
+use Rattle.op_trace.specs.World.{Text}
 use Rattle.op_trace.specs.Visit.{control}
 use Rattle.op_machine.specs.declared.kind.Kind.{Kind}
-use Rattle.op_machine.specs.Program.{Tables, goal_named}
+use Rattle.op_machine.specs.Program.{goal_named}
 use Rattle.op_machine.specs.Kinds.{control_of_kind}
 use Rattle.op_machine.proofs.Controls.{atom-control, struct-control, head-atom, head-struct, no-two}
-use Rattle.op_machine.proofs.store.Store.kind.Goals as goal
+use Rattle.op_machine.proofs.kind.kind_of.Goals as goal
 
 pub returns-in-Atom-clause-control : goal.returns-in-Atom-clause-control
 returns-in-Atom-clause-control c =
     λ g e.
-    let t : Tables = record { names = c.self.inside.symbols; rules = c.self.inside.clauses.items } in
+    let t : Stored = c.args.store.now in
     let k : Kind = c.atom_kind.result in
-    let known : control (goal_named t g) ≡ control_of_kind t g k =
+    let table : IsTable t.names = subst IsTable c.symbols.ensures.names c.count-names.ensures.table in
     ap (λ (x : Term ℕ). control (goal_named t x)) (head-atom g c.in-Atom.name (e ∙ c.in-Atom.is))
-    ∙ atom-control t c.self.invariant.0 g c.in-Atom.name.0 k c.atom_kind.ensures.truth c.atom_kind.ensures.failure c.atom_kind.ensures.falsity c.atom_kind.ensures.other in
-    subst (λ (x : Tables). control (goal_named x g) ≡ control_of_kind x g k) c.self.view_is known
+    ∙ atom-control t table c.symbols.ensures.begins g c.in-Atom.name.0 k c.atom_kind.ensures.truth c.atom_kind.ensures.failure c.atom_kind.ensures.falsity c.atom_kind.ensures.other
 
 pub returns-in-Atom-clause-both : goal.returns-in-Atom-clause-both
 returns-in-Atom-clause-both c =
@@ -25,13 +27,13 @@ returns-in-Atom-clause-both c =
 pub returns-in-Struct-clause-control : goal.returns-in-Struct-clause-control
 returns-in-Struct-clause-control c =
     λ g e.
-    let t : Tables = record { names = c.self.inside.symbols; rules = c.self.inside.clauses.items } in
+    let t : Stored = c.args.store.now in
     let k : Kind = c.struct_kind.result in
+    let table : IsTable t.names = subst IsTable c.symbols.ensures.names c.count-names.ensures.table in
     let h = head-struct g c.in-Struct.name c.in-Struct.arity (e ∙ c.in-Struct.is) in
-    let known : control (goal_named t g) ≡ control_of_kind t g k = subst (λ (x : Term ℕ). control (goal_named t x) ≡ control_of_kind t x k) (sym h.0)
-    (struct-control t c.self.invariant.0 c.in-Struct.name.0 (args_of g) k h.2
-    (λ a b. c.struct_kind.ensures.both a (sym h.1 ∙ b)) (λ no. c.struct_kind.ensures.other (λ a b. no a (h.1 ∙ b)))) in
-    subst (λ (x : Tables). control (goal_named x g) ≡ control_of_kind x g k) c.self.view_is known
+    subst (λ (x : Term ℕ). control (goal_named t x) ≡ control_of_kind t x k) (sym h.0)
+    (struct-control t table c.symbols.ensures.begins c.in-Struct.name.0 (args_of g) k h.2
+    (λ a b. c.struct_kind.ensures.both a (sym h.1 ∙ b)) (λ no. c.struct_kind.ensures.other (λ a b. no a (h.1 ∙ b))))
 
 pub returns-in-Struct-clause-both : goal.returns-in-Struct-clause-both
 returns-in-Struct-clause-both c =
