@@ -61,6 +61,13 @@ impl Cutter {
         self.walk.piece()
     }
 
+    /// The bytes that came since the last text was taken.
+    pub fn bytes(&self) -> &[u8]
+        ensures { result.now ≡ self.now }
+    {
+        &self.bytes
+    }
+
     /// The text that ended.
     pub fn text(&self) -> &[u8]
         requires { IsText (cut_of self.now) }

@@ -3,6 +3,9 @@ use Rattle.std.proofs.Common.{◌≡◌, ℕ, zero, suc, ◌+◌, ◌-◌, ◌<�
 use Rattle.std.specs.Prelude.{slice_index_or}
 use Rattle.std.proofs.lemmas.Bool.Decides.{nat_tests}
 use Rattle.op_term.specs.Ops.{Table}
+use Rattle.op_store.specs.Stored.{Stored}
+use Rattle.opium.specs.Traced.{Traced}
+use Rattle.opium.specs.Reader.{IsReader}
 use Rattle.op_trace.specs.World.{World, Event, loaded}
 use Rattle.op_trace.specs.Run.{Run, events_of, worlds_of, steps_at}
 use Rattle.op_trace.specs.Ending as ending
@@ -38,11 +41,11 @@ past_end [] p d h = refl
 past_end (y ∷ xs) zero d h = absurd (omega arith)
 past_end (y ∷ xs) (suc p) d h = past_end xs p d (omega arith)
 
-pub line_here : (es : List Event) (p : ℕ) (e : Event) (rest : List Event) → drop p es ≡ e ∷ rest → line_at es p ≡ event_line e
-line_here [] zero e rest h = absurd cc
-line_here [] (suc p) e rest h = absurd cc
-line_here (x ∷ es) zero e rest h = let i : x ≡ e = cc in ap event_line i
-line_here (x ∷ es) (suc p) e rest h = line_here es p e rest h
+pub line_here : (ops : Table) (es : List Event) (p : ℕ) (e : Event) (rest : List Event) → drop p es ≡ e ∷ rest → line_at ops es p ≡ event_line ops e
+line_here ops [] zero e rest h = absurd cc
+line_here ops [] (suc p) e rest h = absurd cc
+line_here ops (x ∷ es) zero e rest h = let i : x ≡ e = cc in ap (event_line ops) i
+line_here ops (x ∷ es) (suc p) e rest h = line_here ops es p e rest h
 
 pub le_true : (m n : ℕ) → m ≤ n → nat_le m n ≡ true
 le_true m n h = grind (arith, nat_tests)
@@ -78,19 +81,19 @@ next_here run p h = rw (le_true (p + 1) (event_count run) (omega arith)) refl
 pub next_past : (run : Run) (p : ℕ) → event_count run ≤ p → next_from run p ≡ end_found run.ending
 next_past run p h = rw (le_false (p + 1) (event_count run) (omega arith)) refl
 
-pub finds_event : (run : Run) (s : Stand) (t : Table) (k n : Kept) → Feeds run s (record { machine = k; ops = t; ended = None }) → ShowsEvent k n → k.steps ≤ n.steps → ArrivesAt run s (record { machine = n; ops = t; ended = None })
-finds_event run s t k n f e later =
+pub finds_event : (traced : Traced) (s : Stand) (t : Stored) (k n : Kept) → Feeds traced s (record { machine = k; ended = None; commands = t }) → ShowsEvent k n → k.steps ≤ n.steps → n.tables ≡ k.tables → ArrivesAt traced s (record { machine = n; ended = None; commands = t })
+finds_event traced s t k n f e later same =
     let here = f.events ∙ e.events in
     let worlds = f.worlds ∙ e.worlds in
-    let g = goes_on (events_of run.turns) s.place (event_now n) (events_of (to_come n).turns) here in
-    let w = goes_on (worlds_of run.turns) s.place (world_now n) (worlds_of (to_come n).turns) worlds in
-    let steps = steps_here run s.place (world_now n) (worlds_of (to_come n).turns) worlds in
+    let g = goes_on (events_of traced.run.turns) s.place (event_now n) (events_of (to_come n).turns) here in
+    let w = goes_on (worlds_of traced.run.turns) s.place (world_now n) (worlds_of (to_come n).turns) worlds in
+    let steps = steps_here traced.run s.place (world_now n) (worlds_of (to_come n).turns) worlds in
     let looked : s.furthest ≡ s.place = f.looked in
     let most : max s.furthest (s.place + 1) ≡ s.place + 1 = omega arith in
     let within = g.within in
     record {
       arrives = record {
-        found = next_here run s.place g.within;
+        found = next_here traced.run s.place g.within;
         feeds = record {
           events = g.rest;
           worlds = w.rest;
@@ -100,28 +103,29 @@ finds_event run s t k n f e later =
           steps = rw most (sym steps);
           least = omega (arith, steps);
           looked = most;
-          operators = f.operators;
+          operators = ap (λ (x : Stored). x.table) same ∙ f.operators;
+          reads = f.reads;
         };
       };
       here = e.here;
-      line = line_here (events_of run.turns) s.place (event_now n) (events_of (to_come n).turns) here;
+      line = line_here traced.table (events_of traced.run.turns) s.place (event_now n) (events_of (to_come n).turns) here;
     }
 
 -- the end is found, where nothing stands behind the place
-pub finds_end : (run : Run) (s : Stand) (t : Table) (k n : Kept) (e : Ending) → Feeds run s (record { machine = k; ops = t; ended = None }) → ShowsEnd k n e → k.steps ≤ n.steps → Arrives run s (record { machine = n; ops = t; ended = Some e }) (end_found run.ending)
-finds_end run s t k n e f h later =
-    let none : drop s.place (events_of run.turns) ≡ [] = f.events ∙ h.none in
-    let no_worlds : drop s.place (worlds_of run.turns) ≡ [] = f.worlds ∙ h.no_worlds in
-    let past = at_end_of (events_of run.turns) s.place none in
+pub finds_end : (traced : Traced) (s : Stand) (t : Stored) (k n : Kept) (e : Ending) → Feeds traced s (record { machine = k; ended = None; commands = t }) → ShowsEnd k n e → k.steps ≤ n.steps → n.tables ≡ k.tables → Arrives traced s (record { machine = n; ended = Some e; commands = t }) (end_found traced.run.ending)
+finds_end traced s t k n e f h later same =
+    let none : drop s.place (events_of traced.run.turns) ≡ [] = f.events ∙ h.none in
+    let no_worlds : drop s.place (worlds_of traced.run.turns) ≡ [] = f.worlds ∙ h.no_worlds in
+    let past = at_end_of (events_of traced.run.turns) s.place none in
     let within = f.within in
-    let place : s.place ≡ event_count run = omega arith in
-    let no_more = at_end_of (worlds_of run.turns) s.place no_worlds in
-    let steps = steps_past run s.place no_more in
-    let world : run.world.steps ≡ n.steps = ap (λ (w : World). w.steps) (f.world ∙ h.world) in
+    let place : s.place ≡ event_count traced.run = omega arith in
+    let no_more = at_end_of (worlds_of traced.run.turns) s.place no_worlds in
+    let steps = steps_past traced.run s.place no_more in
+    let world : traced.run.world.steps ≡ n.steps = ap (λ (w : World). w.steps) (f.world ∙ h.world) in
     let least = f.least in
     record {
-      found = next_past run s.place past;
-      feeds = rw (moved_end run s run.ending) (record {
+      found = next_past traced.run s.place past;
+      feeds = rw (moved_end traced.run s traced.run.ending) (record {
         events = none ∙ sym h.events;
         worlds = no_worlds ∙ sym h.worlds;
         ending = f.ending ∙ h.ending ∙ sym h.same_ending;
@@ -130,18 +134,19 @@ finds_end run s t k n e f h later =
         steps = rw (← place) (sym (steps ∙ world));
         least = omega arith;
         looked = record { furthest = refl; place = place; ending = f.ending ∙ h.ending };
-        operators = f.operators;
+        operators = ap (λ (x : Stored). x.table) same ∙ f.operators;
+          reads = f.reads;
       });
     }
 
 -- and again
-pub finds_end_again : (run : Run) (s : Stand) (t : Table) (k : Kept) (e : Ending) → Feeds run s (record { machine = k; ops = t; ended = Some e }) → Arrives run s (record { machine = k; ops = t; ended = Some e }) (end_found run.ending)
-finds_end_again run s t k e f =
-    let looked : AtEnd run s e = f.looked in
+pub finds_end_again : (traced : Traced) (s : Stand) (t : Stored) (k : Kept) (e : Ending) → Feeds traced s (record { machine = k; ended = Some e; commands = t }) → Arrives traced s (record { machine = k; ended = Some e; commands = t }) (end_found traced.run.ending)
+finds_end_again traced s t k e f =
+    let looked : AtEnd traced.run s e = f.looked in
     let place = looked.place in
     record {
-      found = next_past run s.place (omega arith);
-      feeds = rw (moved_end run s run.ending) (record {
+      found = next_past traced.run s.place (omega arith);
+      feeds = rw (moved_end traced.run s traced.run.ending) (record {
         events = f.events;
         worlds = f.worlds;
         ending = f.ending;
@@ -151,24 +156,25 @@ finds_end_again run s t k e f =
         least = f.least;
         looked = record { furthest = refl; place = looked.place; ending = looked.ending };
         operators = f.operators;
+        reads = f.reads;
       });
     }
 
-pub finds_by : (run : Run) (s : Stand) (feed : Feed) (e : Ending) → run.ending ≡ ending_for e → Arrives run s feed (end_found run.ending) → Finds run s feed (next_of (Some e))
-finds_by run s feed outcome.Stopped h a = subst (λ x. Arrives run s feed (end_found x)) h a
-finds_by run s feed outcome.Failed h a = subst (λ x. Arrives run s feed (end_found x)) h a
-finds_by run s feed outcome.Spent h a = subst (λ x. Arrives run s feed (end_found x)) h a
+pub finds_by : (traced : Traced) (s : Stand) (feed : Feed) (e : Ending) → traced.run.ending ≡ ending_for e → Arrives traced s feed (end_found traced.run.ending) → Finds traced s feed (next_of (Some e))
+finds_by traced s feed outcome.Stopped h a = subst (λ x. Arrives traced s feed (end_found x)) h a
+finds_by traced s feed outcome.Failed h a = subst (λ x. Arrives traced s feed (end_found x)) h a
+finds_by traced s feed outcome.Spent h a = subst (λ x. Arrives traced s feed (end_found x)) h a
 
 -- after the machine was asked
-pub finds_asked : (run : Run) (s : Stand) (t : Table) (k n : Kept) (was o : Option Ending) → is_some was ≡ false → Feeds run s (record { machine = k; ops = t; ended = was }) → Shows k n o → k.steps ≤ n.steps → Finds run s (record { machine = n; ops = t; ended = o }) (next_of o)
-finds_asked run s t k n (Some e) o none f h later = absurd cc
-finds_asked run s t k n None None none f h later = finds_event run s t k n f h later
-finds_asked run s t k n None (Some e) none f h later = finds_by run s _ e (f.ending ∙ h.ending) (finds_end run s t k n e f h later)
+pub finds_asked : (traced : Traced) (s : Stand) (t : Stored) (k n : Kept) (was o : Option Ending) → is_some was ≡ false → Feeds traced s (record { machine = k; ended = was; commands = t }) → Shows k n o → k.steps ≤ n.steps → n.tables ≡ k.tables → Finds traced s (record { machine = n; ended = o; commands = t }) (next_of o)
+finds_asked traced s t k n (Some e) o none f h later same = absurd cc
+finds_asked traced s t k n None None none f h later same = finds_event traced s t k n f h later same
+finds_asked traced s t k n None (Some e) none f h later same = finds_by traced s _ e (f.ending ∙ h.ending) (finds_end traced s t k n e f h later same)
 
 -- after it was not
-pub finds_known : (run : Run) (s : Stand) (t : Table) (k : Kept) (o : Option Ending) → is_some o ≡ true → Feeds run s (record { machine = k; ops = t; ended = o }) → Finds run s (record { machine = k; ops = t; ended = o }) (next_of o)
-finds_known run s t k None some f = absurd cc
-finds_known run s t k (Some e) some f = let l : AtEnd run s e = f.looked in finds_by run s _ e l.ending (finds_end_again run s t k e f)
+pub finds_known : (traced : Traced) (s : Stand) (t : Stored) (k : Kept) (o : Option Ending) → is_some o ≡ true → Feeds traced s (record { machine = k; ended = o; commands = t }) → Finds traced s (record { machine = k; ended = o; commands = t }) (next_of o)
+finds_known traced s t k None some f = absurd cc
+finds_known traced s t k (Some e) some f = let l : AtEnd traced.run s e = f.looked in finds_by traced s _ e l.ending (finds_end_again traced s t k e f)
 
 pub here_asked : (k n : Kept) (o : Option Ending) → Shows k n o → IsHere (next_of o) n
 here_asked k n None h = h.here
@@ -181,3 +187,18 @@ here_known k None some = absurd cc
 here_known k (Some outcome.Stopped) some = tt
 here_known k (Some outcome.Failed) some = tt
 here_known k (Some outcome.Spent) some = tt
+
+-- commands that were read leave the feed where it stands
+pub feeds_reader : (traced : Traced) (s : Stand) (t u : Stored) (k : Kept) (o : Option Ending) → IsReader u → Feeds traced s (record { machine = k; ended = o; commands = t }) → Feeds traced s (record { machine = k; ended = o; commands = u })
+feeds_reader traced s t u k o reads f = record {
+  events = f.events;
+  worlds = f.worlds;
+  ending = f.ending;
+  world = f.world;
+  within = f.within;
+  steps = f.steps;
+  least = f.least;
+  looked = f.looked;
+  operators = f.operators;
+  reads = reads;
+}

@@ -3,7 +3,7 @@ use Rattle.std.proofs.Common.{◌≡◌, ℕ, suc, ◌-◌, ◌≤◌, List, [],
 use Rattle.std.proofs.lemmas.List.{append-nil, get_or_default}
 use Rattle.std.specs.Io.KnownBytes.{Appends, Consumes}
 use Rattle.op_desk.specs.Contents.{Known}
-use Rattle.op_trace.specs.Run.{Run}
+use Rattle.opium.specs.Traced.{Traced}
 use Rattle.op_token.specs.Cut.{cut_of, text_in, rest_in, IsOpen, IsFollowed}
 use Rattle.op_token.proofs.Cutting as cutting
 use Rattle.opium.specs.declared.feed.Feed.{Feed}
@@ -66,8 +66,8 @@ fault_more s a b c p q = record {
 pub memory_fault : (a : Sight) → Fault status.Memory a a
 memory_fault a = record { broken = tt; quiet = (calm_start a).quiet; counts = (refl, refl); faultless = λ t. tt }
 
-pub holds_start : (run : Run) (a : Sight) (before : ℕ) (feed : Feed) → Feeds run at_start feed → feed.machine.steps ≡ 0 → Holds run a a 0 before before [] feed
-holds_start run a before feed f none = record {
+pub holds_start : (traced : Traced) (a : Sight) (before : ℕ) (feed : Feed) → Feeds traced at_start feed → feed.machine.steps ≡ 0 → Holds traced a a 0 before before [] feed
+holds_start traced a before feed f none = record {
   taken = [];
   passed = [];
   count = refl;
@@ -81,25 +81,25 @@ holds_start run a before feed f none = record {
 }
 
 -- a byte that ended no text
-pub holds_byte : (run : Run) (a b c : Sight) (n before after byte : ℕ) (p : List ℕ) (feed : Feed) → Holds run a b n before after p feed → TakesByte b c byte → IsOpen (p ++ byte ∷ []) → Holds run a c (suc n) before after (p ++ byte ∷ []) feed
-holds_byte run a b c n before after byte p feed h t o = record {
+pub holds_byte : (traced : Traced) (a b c : Sight) (n before after byte : ℕ) (p : List ℕ) (feed : Feed) → Holds traced a b n before after p feed → TakesByte b c byte → IsOpen (p ++ byte ∷ []) → Holds traced a c (suc n) before after (p ++ byte ∷ []) feed
+holds_byte traced a b c n before after byte p feed h t o = record {
   taken = h.taken ++ byte ∷ [];
   passed = h.passed;
   count = let count = h.count in omega (arith, length-append h.taken (byte ∷ []));
   cuts = cuts_byte h.passed h.taken p byte h.cuts;
   unended = o;
   commands = consumes_more a.commands b.commands c.commands h.taken (byte ∷ []) h.commands t.front;
-  talk = subst (λ k. Appends a.talk k (said_to run h.passed)) (sym t.talk) h.talk;
+  talk = subst (λ k. Appends a.talk k (said_to traced h.passed)) (sym t.talk) h.talk;
   feeds = h.feeds;
   cost = h.cost;
   calm = calm_more a b c h.calm t.calm;
 }
 
 -- a byte that ended a text, and the answer to it
-pub holds_text : (run : Run) (a b c d : Sight) (n before after paid byte : ℕ) (p : List ℕ) (feed new : Feed) (h : Holds run a b n before after p feed) → TakesByte b c byte → IsFollowed (p ++ byte ∷ []) → IsOpen (rest_in (cut_of (p ++ byte ∷ [])) (p ++ byte ∷ []))
-    → GivesAll run (stand_at run h.passed) (text_in (cut_of (p ++ byte ∷ [])) (p ++ byte ∷ [])) feed new after paid c d
-    → Holds run a d (suc n) before paid (rest_in (cut_of (p ++ byte ∷ [])) (p ++ byte ∷ [])) new
-holds_text run a b c d n before after paid byte p feed new h t f o g =
+pub holds_text : (traced : Traced) (a b c d : Sight) (n before after paid byte : ℕ) (p : List ℕ) (feed new : Feed) (h : Holds traced a b n before after p feed) → TakesByte b c byte → IsFollowed (p ++ byte ∷ []) → IsOpen (rest_in (cut_of (p ++ byte ∷ [])) (p ++ byte ∷ []))
+    → GivesAll traced (stand_at traced h.passed) (text_in (cut_of (p ++ byte ∷ [])) (p ++ byte ∷ [])) feed new after paid c d
+    → Holds traced a d (suc n) before paid (rest_in (cut_of (p ++ byte ∷ [])) (p ++ byte ∷ [])) new
+holds_text traced a b c d n before after paid byte p feed new h t f o g =
     let q = p ++ byte ∷ [] in
     let text = text_in (cut_of q) q in
     record {
@@ -109,31 +109,31 @@ holds_text run a b c d n before after paid byte p feed new h t f o g =
       cuts = cuts_text h.passed (h.taken ++ byte ∷ []) q (cuts_byte h.passed h.taken p byte h.cuts) f;
       unended = o;
       commands = subst (λ k. Consumes a.commands k (h.taken ++ byte ∷ [])) (sym g.says.commands) (consumes_more a.commands b.commands c.commands h.taken (byte ∷ []) h.commands t.front);
-      talk = subst (Appends a.talk d.talk) (sym (said_one run h.passed text))
-          (appends_more a.talk c.talk d.talk (said_to run h.passed) (answer_to run (stand_at run h.passed) text).text (subst (λ k. Appends a.talk k (said_to run h.passed)) (sym t.talk) h.talk) g.says.talk);
-      feeds = subst (λ s. Feeds run s new) (sym (stand_more run at_start h.passed (text ∷ []))) g.feeds;
+      talk = subst (Appends a.talk d.talk) (sym (said_one traced h.passed text))
+          (appends_more a.talk c.talk d.talk (said_to traced h.passed) (answer_to traced (stand_at traced h.passed) text).text (subst (λ k. Appends a.talk k (said_to traced h.passed)) (sym t.talk) h.talk) g.says.talk);
+      feeds = subst (λ s. Feeds traced s new) (sym (stand_more traced at_start h.passed (text ∷ []))) g.feeds;
       cost = let cost = h.cost in let pays = g.pays.cost in let later = g.pays.later in omega arith;
       calm = calm_more a c d (calm_more a b c h.calm t.calm) g.says.calm;
     }
 
 -- what a session that was broken off leaves, where the commands are told
-pub left_broken : (run : Run) (commands left talk said : Known) (taken w : List ℕ) → Consumes commands left taken → Appends talk said w
-    → ((rest : List ℕ) → IsPrefix w (session_text run (taken ++ rest))) → IsPrefix (answered_text run taken) w
-    → WhenTold commands (λ bytes. BrokenAs (Session run) bytes talk said left)
-left_broken run None left talk said taken w c t front enough = tt
-left_broken run (Some bytes) None talk said taken w c t front enough = absurd c
-left_broken run (Some bytes) (Some rest) talk said taken w c t front enough =
-    (taken, rest, w, [], record { taken_is = c; front = subst (λ bytes. IsPrefix w (session_text run bytes)) (sym c) (front rest); enough = enough }, (limit_line taken, refl), subst (Appends talk said) (sym (append-nil w)) t, refl)
+pub left_broken : (traced : Traced) (commands left talk said : Known) (taken w : List ℕ) → Consumes commands left taken → Appends talk said w
+    → ((rest : List ℕ) → IsPrefix w (session_text traced (taken ++ rest))) → IsPrefix (answered_text traced taken) w
+    → WhenTold commands (λ bytes. BrokenAs (Session traced) bytes talk said left)
+left_broken traced None left talk said taken w c t front enough = tt
+left_broken traced (Some bytes) None talk said taken w c t front enough = absurd c
+left_broken traced (Some bytes) (Some rest) talk said taken w c t front enough =
+    (taken, rest, w, [], record { taken_is = c; front = subst (λ bytes. IsPrefix w (session_text traced bytes)) (sym c) (front rest); enough = enough }, (limit_line taken, refl), subst (Appends talk said) (sym (append-nil w)) t, refl)
 
 -- a byte could not be taken
-pub breaks_take : (run : Run) (s : Status) (a b c : Sight) (n before after : ℕ) (p : List ℕ) (feed : Feed) → Holds run a b n before after p feed → TakesNothing s b c → BreaksOff run s a c
-breaks_take run s a b c n before after p feed h t = record {
+pub breaks_take : (traced : Traced) (s : Status) (a b c : Sight) (n before after : ℕ) (p : List ℕ) (feed : Feed) → Holds traced a b n before after p feed → TakesNothing s b c → BreaksOff traced s a c
+breaks_take traced s a b c n before after p feed h t = record {
   fault = fault_more s a b c h.calm t.fault;
-  left = left_broken run a.commands c.commands a.talk c.talk h.taken (said_to run h.passed)
+  left = left_broken traced a.commands c.commands a.talk c.talk h.taken (said_to traced h.passed)
       (subst (λ k. Consumes a.commands k h.taken) (sym t.commands) h.commands)
-      (subst (λ k. Appends a.talk k (said_to run h.passed)) (sym t.talk) h.talk)
-      (λ rest. front_so_far run h.passed h.taken p rest h.cuts)
-      (enough_open run h.passed h.taken p h.cuts h.unended);
+      (subst (λ k. Appends a.talk k (said_to traced h.passed)) (sym t.talk) h.talk)
+      (λ rest. front_so_far traced h.passed h.taken p rest h.cuts)
+      (enough_open traced h.passed h.taken p h.cuts h.unended);
 }
 
 -- behind a text that ended no other has
@@ -150,20 +150,20 @@ rest_open q f = by (last_of q (followed_length q f))
         subst IsOpen (sym e) (cutting.gap_open l.0 (cutting.rest_gap q l.0 f e))
 
 -- a byte could not be kept
-pub breaks_push : (run : Run) (a b c : Sight) (n before after byte : ℕ) (p : List ℕ) (feed : Feed) → Holds run a b n before after p feed → TakesByte b c byte → BreaksOff run status.Memory a c
-breaks_push run a b c n before after byte p feed h t =
+pub breaks_push : (traced : Traced) (a b c : Sight) (n before after byte : ℕ) (p : List ℕ) (feed : Feed) → Holds traced a b n before after p feed → TakesByte b c byte → BreaksOff traced status.Memory a c
+breaks_push traced a b c n before after byte p feed h t =
     let q = p ++ byte ∷ [] in
     let taken = h.taken ++ byte ∷ [] in
     let cuts = cuts_byte h.passed h.taken p byte h.cuts in
-    let ended : IsFollowed q → IsPrefix (answered_text run taken) (said_to run h.passed) =
-    λ f. enough_followed run h.passed taken q cuts f (rest_open q f) (followed_length q f) in
+    let ended : IsFollowed q → IsPrefix (answered_text traced taken) (said_to traced h.passed) =
+    λ f. enough_followed traced h.passed taken q cuts f (rest_open q f) (followed_length q f) in
     record {
       fault = fault_more status.Memory a c c (calm_more a b c h.calm t.calm) (memory_fault c);
-      left = left_broken run a.commands c.commands a.talk c.talk taken (said_to run h.passed)
+      left = left_broken traced a.commands c.commands a.talk c.talk taken (said_to traced h.passed)
           (consumes_more a.commands b.commands c.commands h.taken (byte ∷ []) h.commands t.front)
-          (subst (λ k. Appends a.talk k (said_to run h.passed)) (sym t.talk) h.talk)
-          (λ rest. front_so_far run h.passed taken q rest cuts)
-          (either (one_more p byte h.unended) (λ o. enough_open run h.passed taken q cuts o) ended);
+          (subst (λ k. Appends a.talk k (said_to traced h.passed)) (sym t.talk) h.talk)
+          (λ rest. front_so_far traced h.passed taken q rest cuts)
+          (either (one_more p byte h.unended) (λ o. enough_open traced h.passed taken q cuts o) ended);
     }
   where
     either : {A B C : Type 0} → A ⊎ B → (A → C) → (B → C) → C
@@ -171,43 +171,43 @@ breaks_push run a b c n before after byte p feed h t =
     either (inr b) f g = g b
 
 -- an answer could not be written
-pub breaks_say : (run : Run) (s : Status) (a b c d : Sight) (n before after byte : ℕ) (p : List ℕ) (feed : Feed) (h : Holds run a b n before after p feed) → TakesByte b c byte → IsFollowed (p ++ byte ∷ [])
-    → SaysFront s c d (answer_to run (stand_at run h.passed) (text_in (cut_of (p ++ byte ∷ [])) (p ++ byte ∷ []))).text
-    → BreaksOff run s a d
-breaks_say run s a b c d n before after byte p feed h t f g =
+pub breaks_say : (traced : Traced) (s : Status) (a b c d : Sight) (n before after byte : ℕ) (p : List ℕ) (feed : Feed) (h : Holds traced a b n before after p feed) → TakesByte b c byte → IsFollowed (p ++ byte ∷ [])
+    → SaysFront s c d (answer_to traced (stand_at traced h.passed) (text_in (cut_of (p ++ byte ∷ [])) (p ++ byte ∷ []))).text
+    → BreaksOff traced s a d
+breaks_say traced s a b c d n before after byte p feed h t f g =
     let q = p ++ byte ∷ [] in
     let taken = h.taken ++ byte ∷ [] in
     let cuts = cuts_byte h.passed h.taken p byte h.cuts in
-    let text = (answer_to run (stand_at run h.passed) (text_in (cut_of q) q)).text in
-    let w = said_to run h.passed ++ take g.talk.count text in
+    let text = (answer_to traced (stand_at traced h.passed) (text_in (cut_of q) q)).text in
+    let w = said_to traced h.passed ++ take g.talk.count text in
     record {
       fault = fault_more s a c d (calm_more a b c h.calm t.calm) g.fault;
-      left = left_broken run a.commands d.commands a.talk d.talk taken w
+      left = left_broken traced a.commands d.commands a.talk d.talk taken w
           (subst (λ k. Consumes a.commands k taken) (sym g.commands) (consumes_more a.commands b.commands c.commands h.taken (byte ∷ []) h.commands t.front))
-          (appends_more a.talk c.talk d.talk (said_to run h.passed) (take g.talk.count text) (subst (λ k. Appends a.talk k (said_to run h.passed)) (sym t.talk) h.talk) g.talk.front)
-          (λ rest. front_of_answer run h.passed taken q rest g.talk.count cuts f (followed_length q f))
-          (prefix_longer (answered_text run taken) (said_to run h.passed) (take g.talk.count text) (enough_followed run h.passed taken q cuts f (rest_open q f) (followed_length q f)));
+          (appends_more a.talk c.talk d.talk (said_to traced h.passed) (take g.talk.count text) (subst (λ k. Appends a.talk k (said_to traced h.passed)) (sym t.talk) h.talk) g.talk.front)
+          (λ rest. front_of_answer traced h.passed taken q rest g.talk.count cuts f (followed_length q f))
+          (prefix_longer (answered_text traced taken) (said_to traced h.passed) (take g.talk.count text) (enough_followed traced h.passed taken q cuts f (rest_open q f) (followed_length q f)));
     }
 
 -- the same, as a session meets it
-pub goes_open : (run : Run) (a b c : Sight) (n before after byte : ℕ) (p q : List ℕ) (feed : Feed) → Holds run a b n before after p feed → TakesByte b c byte → q ≡ p ++ byte ∷ [] → IsOpen q → Holds run a c (suc n) before after q feed
-goes_open run a b c n before after byte p q feed h t e o =
-    subst (λ q. Holds run a c (suc n) before after q feed) (sym e) (holds_byte run a b c n before after byte p feed h t (subst IsOpen e o))
+pub goes_open : (traced : Traced) (a b c : Sight) (n before after byte : ℕ) (p q : List ℕ) (feed : Feed) → Holds traced a b n before after p feed → TakesByte b c byte → q ≡ p ++ byte ∷ [] → IsOpen q → Holds traced a c (suc n) before after q feed
+goes_open traced a b c n before after byte p q feed h t e o =
+    subst (λ q. Holds traced a c (suc n) before after q feed) (sym e) (holds_byte traced a b c n before after byte p feed h t (subst IsOpen e o))
 
-pub goes_text : (run : Run) (a b c d : Sight) (n before after paid byte : ℕ) (p q text rest : List ℕ) (feed new : Feed) (h : Holds run a b n before after p feed) → TakesByte b c byte
+pub goes_text : (traced : Traced) (a b c d : Sight) (n before after paid byte : ℕ) (p q text rest : List ℕ) (feed new : Feed) (h : Holds traced a b n before after p feed) → TakesByte b c byte
     → q ≡ p ++ byte ∷ [] → IsFollowed q → text ≡ text_in (cut_of q) q → rest ≡ rest_in (cut_of q) q → IsOpen rest
-    → GivesAll run (stand_at run h.passed) text feed new after paid c d
-    → Holds run a d (suc n) before paid rest new
-goes_text run a b c d n before after paid byte p q text rest feed new h t e f et er o g =
+    → GivesAll traced (stand_at traced h.passed) text feed new after paid c d
+    → Holds traced a d (suc n) before paid rest new
+goes_text traced a b c d n before after paid byte p q text rest feed new h t e f et er o g =
     let z = er ∙ ap (λ q. rest_in (cut_of q) q) e in
-    subst (λ r. Holds run a d (suc n) before paid r new) (sym z)
-    (holds_text run a b c d n before after paid byte p feed new h t (subst IsFollowed e f) (subst IsOpen z o)
-    (subst (λ t. GivesAll run (stand_at run h.passed) t feed new after paid c d) (et ∙ ap (λ q. text_in (cut_of q) q) e) g))
+    subst (λ r. Holds traced a d (suc n) before paid r new) (sym z)
+    (holds_text traced a b c d n before after paid byte p feed new h t (subst IsFollowed e f) (subst IsOpen z o)
+    (subst (λ t. GivesAll traced (stand_at traced h.passed) t feed new after paid c d) (et ∙ ap (λ q. text_in (cut_of q) q) e) g))
 
-pub stops_text : (run : Run) (s : Status) (a b c d : Sight) (n before after byte : ℕ) (p q text : List ℕ) (feed : Feed) (h : Holds run a b n before after p feed) → TakesByte b c byte
+pub stops_text : (traced : Traced) (s : Status) (a b c d : Sight) (n before after byte : ℕ) (p q text : List ℕ) (feed : Feed) (h : Holds traced a b n before after p feed) → TakesByte b c byte
     → q ≡ p ++ byte ∷ [] → IsFollowed q → text ≡ text_in (cut_of q) q
-    → SaysFront s c d (answer_to run (stand_at run h.passed) text).text
-    → BreaksOff run s a d
-stops_text run s a b c d n before after byte p q text feed h t e f et g =
-    breaks_say run s a b c d n before after byte p feed h t (subst IsFollowed e f)
-    (subst (λ t. SaysFront s c d (answer_to run (stand_at run h.passed) t).text) (et ∙ ap (λ q. text_in (cut_of q) q) e) g)
+    → SaysFront s c d (answer_to traced (stand_at traced h.passed) text).text
+    → BreaksOff traced s a d
+stops_text traced s a b c d n before after byte p q text feed h t e f et g =
+    breaks_say traced s a b c d n before after byte p feed h t (subst IsFollowed e f)
+    (subst (λ t. SaysFront s c d (answer_to traced (stand_at traced h.passed) t).text) (et ∙ ap (λ q. text_in (cut_of q) q) e) g)

@@ -15,8 +15,8 @@ use Rattle.opium.proofs.Saying.{prefix_take}
 nothing_said : (o : Outcome) (bytes : List ℕ) (talk : Known) → BrokenAs o bytes talk talk (Some bytes)
 nothing_said (Line s text) bytes talk = ([], appends_none talk, (text, refl), refl)
 nothing_said Missing bytes talk = (refl, refl)
-nothing_said (Session run) bytes talk =
-    ([], bytes, [], [], record { taken_is = refl; front = (session_text run bytes, refl); enough = ([], refl) }, (limit_line [], refl), appends_none talk, refl)
+nothing_said (Session traced) bytes talk =
+    ([], bytes, [], [], record { taken_is = refl; front = (session_text traced bytes, refl); enough = ([], refl) }, (limit_line [], refl), appends_none talk, refl)
 
 left_alone : (o : Option Outcome) (commands talk : Known) → WhenTold o (λ x. WhenTold commands (λ bytes. BrokenAs x bytes talk talk commands))
 left_alone None commands talk = tt

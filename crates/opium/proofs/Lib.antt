@@ -1,10 +1,8 @@
-pub mod Stopping
 pub mod Feeds
 pub mod Texts
 pub mod Saying
 pub mod Lines
 pub mod Holding
-pub mod NoEnd
 pub mod Finishing
 pub mod Leaving
 pub mod Outcomes

@@ -1,16 +1,36 @@
 -- The outcome of a call, step by step.
-use Rattle.std.proofs.Common.{◌≡◌, ◌||◌, ℕ, suc, ◌<◌, ◌≤◌, true, false, cond, List, [], ◌∷◌, length, codes, Option, Some, None, option_map, Result, Ok, Err, IsTrue, refl, sym, ap, ◌∙◌, subst, arith, IsSomeAnd}
+use Rattle.std.proofs.Common.{◌≡◌, ◌||◌, ℕ, suc, ◌<◌, ◌≤◌, true, false, Bool, cond, drop, List, [], ◌∷◌, length, codes, Option, Some, None, option_map, Result, Ok, Err, IsTrue, refl, sym, ap, ◌∙◌, subst, arith, IsSomeAnd}
 use Rattle.std.specs.Prelude.{nat_lt, option_and_then, bytes_eq}
 use Rattle.std.specs.List.{list_any}
 use Rattle.std.proofs.lemmas.Bool.Decides.{nat_tests}
 use Rattle.op_desk.specs.Contents.{Known, Files, bytes_of, IsFile, IsLonger, IsMissing}
-use Rattle.op_reader.specs.Form.{Rule, Query, goal_of, program_of}
-use Rattle.op_trace.specs.World.{Text, Clause, loaded}
-use Rattle.op_trace.specs.Run.{run}
-use Rattle.op_machine.specs.Loaded.{program_clauses}
+use Rattle.op_store.specs.declared.locked.Locked.TheVariants.{Program}
+use Rattle.op_store.specs.World.{World}
+use Rattle.op_store.specs.Fault.{Fault}
+use Rattle.op_store.specs.Load.{Query, Found, Loaded, loaded, stopped, load_text, goal_of, goal_in, goal_bytes, goal_outcome, goal_converted, line_at, fault_line, first_token, is_rest}
+use Rattle.op_store.specs.Fault as fault
+use Rattle.op_store.specs.Fault.{locked}
+use Rattle.op_store.specs.Body.{converted}
+use Rattle.op_store.specs.Queries.{fault_named, IsKnownFault, IsSoundLoadFault, TellsGoal, TellsLoad}
+use Rattle.op_store.specs.Stored.{Stored, world_of}
+use Rattle.op_store.specs.declared.load_fault.LoadFault.{LoadFault}
+use Rattle.op_store.specs.declared.load_fault.LoadFault.TheVariants as load_faults
+use Rattle.opium.specs.Refusing.{Refuses}
+use Rattle.op_store.specs.declared.load_fault.LoadFaultKind.{LoadFaultKind}
+use Rattle.op_store.specs.declared.load_fault.LoadFaultKind.TheVariants as kinds
+use Rattle.op_logic.specs.Term.{Term}
+use Rattle.op_term.specs.Ops.{Table}
+use Rattle.op_trace.specs.World.{Text}
+use Rattle.op_reader.specs.declared.quotes.DoubleQuotes.{DoubleQuotes}
+use Rattle.op_reader.specs.declared.fault.ReadFaultKind.TheVariants.{NoEnd}
+use Rattle.op_reader.specs.Reading as reading
+use Rattle.op_reader.specs.Reading.{reading_of}
 use Rattle.opium.specs.declared.status.Status.{Status}
 use Rattle.opium.specs.declared.status.Status.TheVariants as status
-use Rattle.opium.specs.Call.{Outcome, Line, Session, file_limit, with_bytes, with_rules, with_goal, outcome_of, load_line, long_line}
+use Rattle.opium.specs.Words.{fault_words, load_line}
+use Rattle.opium.specs.Runnable.{is_runnable, are_runnable}
+use Rattle.opium.specs.Traced.{Traced}
+use Rattle.opium.specs.Call.{Outcome, Line, Session, file_limit, first_world, traced_of, refused, unrunnable, goal_name, with_bytes, with_loaded, with_world, with_goal, with_query, outcome_of, long_line}
 use Rattle.opium.specs.Promise.{WhenTold, IsBroken, IsRefused, IsFaultless, IsWordsRefusal, HasFile, DoneAs, CostsAs, RefusedAs, TooLongAs, BrokenAs}
 use Rattle.opium.proofs.Leaving.{retell, leaves_usage}
 use Rattle.opium.specs.Progress.{Leaves, IsOutcome, IsUsage}
@@ -25,12 +45,12 @@ lt_false m n h = grind (arith, nat_tests)
 lt_true : (m n : ℕ) → m < n → nat_lt m n ≡ true
 lt_true m n h = grind (arith, nat_tests)
 
-by_file : (name goal bytes : List ℕ) (o : Known) → o ≡ Some bytes → length bytes ≤ file_limit → with_bytes name goal o ≡ with_rules name goal (program_of bytes)
+by_file : (name goal bytes : List ℕ) (o : Known) → o ≡ Some bytes → length bytes ≤ file_limit → with_bytes name goal o ≡ with_loaded name goal (load_text Program first_world bytes)
 by_file name goal bytes o e h =
-    ap (with_bytes name goal) e ∙ ap (λ b. cond b (Line status.TooLong (long_line name)) (with_rules name goal (program_of bytes))) (lt_false file_limit (length bytes) h)
+    ap (with_bytes name goal) e ∙ ap (λ b. cond b (Line status.TooLong (long_line name)) (with_loaded name goal (load_text Program first_world bytes))) (lt_false file_limit (length bytes) h)
 
 -- a whole file was read
-pub outcome_file : (shelf : Option Files) (name goal bytes : List ℕ) → IsFile shelf name bytes → length bytes ≤ file_limit → IsOutcome (told_outcome shelf name goal) (with_rules name goal (program_of bytes))
+pub outcome_file : (shelf : Option Files) (name goal bytes : List ℕ) → IsFile shelf name bytes → length bytes ≤ file_limit → IsOutcome (told_outcome shelf name goal) (with_loaded name goal (load_text Program first_world bytes))
 outcome_file None name goal bytes f h = tt
 outcome_file (Some files) name goal bytes f h = by_file name goal bytes (bytes_of files name) f h
 
@@ -41,28 +61,41 @@ outcome_long (Some files) name goal h = by (bytes_of files name) h
   where
     by : (o : Known) → IsSomeAnd o (λ bytes. file_limit < length bytes) → with_bytes name goal o ≡ Line status.TooLong (long_line name)
     by None h = absurd h
-    by (Some bytes) h = ap (λ b. cond b (Line status.TooLong (long_line name)) (with_rules name goal (program_of bytes))) (lt_true file_limit (length bytes) h)
+    by (Some bytes) h = ap (λ b. cond b (Line status.TooLong (long_line name)) (with_loaded name goal (load_text Program first_world bytes))) (lt_true file_limit (length bytes) h)
 
 -- or is missing
 pub outcome_missing : (shelf : Option Files) (name goal : List ℕ) → IsMissing shelf name → WhenTold (told_outcome shelf name goal) (λ x. HasFile x → ⊥)
 outcome_missing None name goal h = absurd h
 outcome_missing (Some files) name goal h = subst (λ o. HasFile (with_bytes name goal o) → ⊥) (sym h) (λ f. f)
 
--- the program was read, or refused
-pub outcome_loaded : (name goal : List ℕ) (o : Option (List (Rule Text))) (rs : List (Rule Text)) → o ≡ Some rs → with_goal rs (goal_of rs goal) ≡ with_rules name goal o
-outcome_loaded name goal o rs e = sym (ap (with_rules name goal) e)
+-- the program was loaded, or refused
+pub outcome_loaded : (name goal : List ℕ) (l : Loaded) (w : World) → l ≡ loaded w → with_world name goal w ≡ with_loaded name goal l
+outcome_loaded name goal l w e = sym (ap (with_loaded name goal) e)
 
-pub outcome_refused : (name goal : List ℕ) (o : Option (List (Rule Text))) → o ≡ None → Line status.Load (load_line name) ≡ with_rules name goal o
-outcome_refused name goal o e = sym (ap (with_rules name goal) e)
+pub outcome_refused : (name goal : List ℕ) (l : Loaded) (w : World) (line : ℕ) (f : Fault) → l ≡ stopped w line f
+    → Line status.Load (load_line name line (fault_words f)) ≡ with_loaded name goal l
+outcome_refused name goal l w line f e = sym (ap (with_loaded name goal) e)
 
--- a program that was read is no fault of the words
-no_usage_goal : (rs : List (Rule Text)) (o : Option (Query Text)) → IsUsage (with_goal rs o) → ⊥
-no_usage_goal rs None h = h
-no_usage_goal rs (Some g) h = h
+-- it can be run, or not
+pub outcome_runnable : (name goal : List ℕ) (w : World) → true ≡ are_runnable w → with_goal w (goal_of w.table w.flags.quotes goal) ≡ with_world name goal w
+outcome_runnable name goal w e = ap (λ b. cond b (with_goal w (goal_of w.table w.flags.quotes goal)) (unrunnable name)) e
 
-pub no_usage : (name goal : List ℕ) (o : Option (List (Rule Text))) → IsUsage (with_rules name goal o) → ⊥
-no_usage name goal None h = h
-no_usage name goal (Some rs) h = no_usage_goal rs (goal_of rs goal) h
+pub outcome_unrunnable : (name goal : List ℕ) (w : World) → false ≡ are_runnable w → unrunnable name ≡ with_world name goal w
+outcome_unrunnable name goal w e = ap (λ b. cond b (with_goal w (goal_of w.table w.flags.quotes goal)) (unrunnable name)) e
+
+-- the goal was read, or refused
+pub outcome_goal : (w : World) (r : Result Query Found) (q : Query) → r ≡ Ok q → with_query w q ≡ with_goal w r
+outcome_goal w r q e = sym (ap (with_goal w) e)
+
+pub outcome_no_goal : (w : World) (r : Result Query Found) (f : Found) → r ≡ Err f → Line status.Load (load_line goal_name f.line (fault_words f.fault)) ≡ with_goal w r
+outcome_no_goal w r f e = sym (ap (with_goal w) e)
+
+-- it can be run, or not
+pub outcome_session : (w : World) (q : Query) → true ≡ is_runnable w q.body → Session (traced_of 10000000 w q) ≡ with_query w q
+outcome_session w q e = ap (λ b. cond b (Session (traced_of 10000000 w q)) (unrunnable goal_name)) e
+
+pub outcome_no_session : (w : World) (q : Query) → false ≡ is_runnable w q.body → unrunnable goal_name ≡ with_query w q
+outcome_no_session w q e = ap (λ b. cond b (Session (traced_of 10000000 w q)) (unrunnable goal_name)) e
 
 pub no_usage_long : (a b : Sight) (line : List ℕ) (r : Result (Unit {0}) Status) → Says a b line r → ended_as status.TooLong r ≡ status.Usage → ⊥
 no_usage_long a b line (Ok x) g h = cc
@@ -85,16 +118,6 @@ words_unwritten a b line (Err s) g = absurd g.unwritten
 pub by_shelf : (shelf : Option Files) (f : Files → Outcome) (P : Outcome → Type 0) → WhenTold (option_map f shelf) P → WhenTold shelf (λ files. P (f files))
 by_shelf None f P h = tt
 by_shelf (Some files) f P h = h
-
--- the goal was read, or refused
-abbrev pub session_of : Query Text → List Clause → Outcome
-session_of q cs = Session (run (record { budget = 10000000; wanted = 1 }) q.goal q.variables (loaded cs))
-
-pub outcome_session : (rs : List (Rule Text)) (o : Option (Query Text)) (q : Query Text) (cs : List Clause) → o ≡ Some q → cs ≡ program_clauses rs → session_of q cs ≡ with_goal rs o
-outcome_session rs o q cs e h = ap (session_of q) h ∙ sym (ap (with_goal rs) e)
-
-pub outcome_no_goal : (rs : List (Rule Text)) (o : Option (Query Text)) → o ≡ None → Line status.Load (load_line (codes "(goal)")) ≡ with_goal rs o
-outcome_no_goal rs o e = sym (ap (with_goal rs) e)
 
 pub renamed : (x y : Outcome) (s : Status) (a b : Sight) (before after : ℕ) → x ≡ y → Leaves (Some x) s a b before after → Leaves (Some y) s a b before after
 renamed x y s a b before after e l = subst (λ x. Leaves (Some x) s a b before after) e l
@@ -141,3 +164,54 @@ told_broken (Some files) ws s a b n m l h = l.broken h
 pub told_steady : (shelf : Option Files) (ws : List (List ℕ)) (s : Status) (a b : Sight) (n m : ℕ) → Leaves (outcome_by shelf ws) s a b n m → IsTrue a.steady → WhenTold shelf (λ files. HasFile (outcome_of files ws) → IsFaultless s)
 told_steady None ws s a b n m l h = tt
 told_steady (Some files) ws s a b n m l h = l.faultless h
+
+-- what was said, by an equal line
+pub says_as : (a b : Sight) (x y : List ℕ) (r : Result (Unit {0}) Status) → x ≡ y → Says a b x r → Says a b y r
+says_as a b x y r e s = subst (λ (z : List ℕ). Says a b z r) e s
+
+-- a goal is refused for no name
+abbrev IsNoLock : Fault → Type 0
+IsNoLock (locked k) = ⊥
+IsNoLock f = Unit {0}
+
+converted-fault : (line : ℕ) (t : Term Text) (names : List (Text × ℕ)) (o : Option (Term Text)) (f : Found) → goal_converted line t names o ≡ Err f → IsNoLock f.fault
+converted-fault line t names None f e = let q : record { line = line; fault = fault.body } ≡ f = cc in subst (λ (x : Found). IsNoLock x.fault) q tt
+converted-fault line t names (Some b) f e = absurd cc
+
+read-fault : (b : Bool) (line : ℕ) (r : Result Query Found) (f : Found) → ((f : Found) → r ≡ Err f → IsNoLock f.fault) → cond b r (Err (record { line = line; fault = fault.trailing })) ≡ Err f → IsNoLock f.fault
+read-fault true line r f h e = h f e
+read-fault false line r f h e = let q : record { line = line; fault = fault.trailing } ≡ f = cc in subst (λ (x : Found). IsNoLock x.fault) q tt
+
+outcome-fault : (bytes : List ℕ) (o : reading.Outcome) (f : Found) → goal_outcome bytes o ≡ Err f → IsNoLock f.fault
+outcome-fault bytes reading.end f e = let q : record { line = line_at 1 bytes 0; fault = fault.syntax NoEnd } ≡ f = cc in subst (λ (x : Found). IsNoLock x.fault) q tt
+outcome-fault bytes (reading.refused place kind) f e = let q : record { line = fault_line 1 bytes place; fault = fault.syntax kind } ≡ f = cc in subst (λ (x : Found). IsNoLock x.fault) q tt
+outcome-fault bytes (reading.term t names used) f e =
+    let line = line_at 1 bytes (first_token bytes) in
+    read-fault (is_rest (drop used bytes)) line (goal_converted line t names (converted t).body) f (λ f h. converted-fault line t names (converted t).body f h) e
+
+goal-no-lock : (table : Table) (quotes : DoubleQuotes) (text : List ℕ) (f : Found) → goal_of table quotes text ≡ Err f → IsNoLock f.fault
+unfolding goal_of goal_in
+goal-no-lock table quotes text f e = outcome-fault (goal_bytes text) (reading_of table quotes (goal_bytes text)) f e
+
+pub goal-fault : (table : Table) (quotes : DoubleQuotes) (text : List ℕ) (names : List Text) (n line : ℕ) (kind : LoadFaultKind)
+    → goal_of table quotes text ≡ Err (record { line = line; fault = fault_named names kind }) → IsKnownFault n kind
+goal-fault table quotes text names n line (kinds.Syntax k) e = tt
+goal-fault table quotes text names n line kinds.Trailing e = tt
+goal-fault table quotes text names n line kinds.Head e = tt
+goal-fault table quotes text names n line kinds.Body e = tt
+goal-fault table quotes text names n line (kinds.Locked k) e = absurd (goal-no-lock table quotes text _ e)
+goal-fault table quotes text names n line kinds.Directive e = tt
+
+-- the fault of a goal's text has a name that is known
+pub goal-sound : (table : Table) (quotes : DoubleQuotes) (text : List ℕ) (names : List Text) (n : ℕ) (e : LoadFault) → TellsGoal names (Err e) (goal_of table quotes text) → IsSoundLoadFault n e
+goal-sound table quotes text names n load_faults.Memory h = tt
+goal-sound table quotes text names n (load_faults.At line kind) h = goal-fault table quotes text names n line kind h
+
+-- a goal or a program that was refused
+pub goal-refused : (w : World) (names : List Text) (r : Result Query Found) (e : LoadFault) (s : Status) (a b : Sight) (n : ℕ) → TellsGoal names (Err e) r → Refuses names goal_name e s a b → Leaves (Some (with_goal w r)) s a b n n
+goal-refused w names r load_faults.Memory s a b n h l = l (Some (with_goal w r)) n
+goal-refused w names r (load_faults.At line kind) s a b n h l = renamed _ _ s a b n n (outcome_no_goal w r (record { line = line; fault = fault_named names kind }) h) (l n)
+
+pub load-refused : (name goal : List ℕ) (new : Stored) (l : Loaded) (e : LoadFault) (s : Status) (a b : Sight) (n : ℕ) → TellsLoad {U = Unit {0}} new (Err e) l → Refuses new.names name e s a b → Leaves (Some (with_loaded name goal l)) s a b n n
+load-refused name goal new l load_faults.Memory s a b n h k = k (Some (with_loaded name goal l)) n
+load-refused name goal new l (load_faults.At line kind) s a b n h k = renamed _ _ s a b n n (outcome_refused name goal l (world_of new) line (fault_named new.names kind) h) (k n)

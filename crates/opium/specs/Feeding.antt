@@ -1,6 +1,6 @@
 -- What the feed of a run's events keeps.
 use Rattle.std.specs.Prelude.{◌≡◌, ◌+◌, ◌≤◌, true, [], ◌∷◌, drop, Option, Some, None}
-use Rattle.op_term.specs.Ops.{iso_table}
+use Rattle.opium.specs.Reader.{IsReader}
 use Rattle.op_trace.specs.World.{loaded}
 use Rattle.op_trace.specs.Run.{Run, events_of, worlds_of, steps_at}
 use Rattle.op_machine.specs.declared.core_state.Ending.{Ending}
@@ -9,6 +9,7 @@ use Rattle.op_machine.specs.Machine.{Kept, to_come, ending_for, event_now, world
 use Rattle.opium.specs.declared.feed.Feed.{Feed}
 use Rattle.opium.specs.declared.feed.Next.{Next}
 use Rattle.opium.specs.declared.feed.Next.TheVariants as found
+use Rattle.opium.specs.Traced.{Traced}
 use Rattle.opium.specs.Line.{event_line}
 use Rattle.opium.specs.Moves.{Stand, Found, At, No_event, Past_budget, next_from, moved, event_count}
 use Rattle.opium.specs.Session.{line_at}
@@ -23,17 +24,22 @@ abbrev pub Looked : Run → Stand → Option Ending → Type 0
 Looked run s None = s.furthest ≡ s.place
 Looked run s (Some e) = AtEnd run s e
 
+-- what a machine still has to show, and the operators in which it is written
+abbrev pub traced_by : Kept → Traced
+traced_by k = record { run = to_come k; table = k.tables.table }
+
 -- the feed stands where the user stands: the events behind the place are those that the machine still has to show
-pub record Feeds (run : Run) (s : Stand) (feed : Feed) : Type 0 where
-  pub events : drop s.place (events_of run.turns) ≡ events_of (to_come feed.machine).turns
-  pub worlds : drop s.place (worlds_of run.turns) ≡ worlds_of (to_come feed.machine).turns
-  pub ending : run.ending ≡ (to_come feed.machine).ending
-  pub world : run.world ≡ (to_come feed.machine).world
-  pub within : s.place ≤ event_count run
-  pub steps : feed.machine.steps ≡ steps_at (loaded []) run s.furthest
-  pub least : steps_at (loaded []) run s.place ≤ feed.machine.steps
-  pub looked : Looked run s feed.ended
-  pub operators : feed.ops ≡ iso_table
+pub record Feeds (traced : Traced) (s : Stand) (feed : Feed) : Type 0 where
+  pub events : drop s.place (events_of traced.run.turns) ≡ events_of (to_come feed.machine).turns
+  pub worlds : drop s.place (worlds_of traced.run.turns) ≡ worlds_of (to_come feed.machine).turns
+  pub ending : traced.run.ending ≡ (to_come feed.machine).ending
+  pub world : traced.run.world ≡ (to_come feed.machine).world
+  pub within : s.place ≤ event_count traced.run
+  pub steps : feed.machine.steps ≡ steps_at (loaded []) traced.run s.furthest
+  pub least : steps_at (loaded []) traced.run s.place ≤ feed.machine.steps
+  pub looked : Looked traced.run s feed.ended
+  pub operators : feed.machine.tables.table ≡ traced.table
+  pub reads : IsReader feed.commands
 
 -- a machine went on to its next event
 pub record ShowsEvent (old new : Kept) : Type 0 where
@@ -59,19 +65,19 @@ Shows old new None = ShowsEvent old new
 Shows old new (Some e) = ShowsEnd old new e
 
 -- what a move to the next place found, and where the feed stands then
-pub record Arrives (run : Run) (s : Stand) (feed : Feed) (f : Found) : Type 0 where
-  pub found : next_from run s.place ≡ f
-  pub feeds : Feeds run (moved run s f) feed
+pub record Arrives (traced : Traced) (s : Stand) (feed : Feed) (f : Found) : Type 0 where
+  pub found : next_from traced.run s.place ≡ f
+  pub feeds : Feeds traced (moved traced.run s f) feed
 
-pub record ArrivesAt (run : Run) (s : Stand) (feed : Feed) : Type 0 where
-  pub arrives : Arrives run s feed (At (s.place + 1))
+pub record ArrivesAt (traced : Traced) (s : Stand) (feed : Feed) : Type 0 where
+  pub arrives : Arrives traced s feed (At (s.place + 1))
   pub here : has_event feed.machine ≡ true
-  pub line : line_at (events_of run.turns) s.place ≡ event_line (event_now feed.machine)
+  pub line : line_at traced.table (events_of traced.run.turns) s.place ≡ event_line traced.table (event_now feed.machine)
 
-abbrev pub Finds : Run → Stand → Feed → Next → Type 0
-Finds run s feed found.Event = ArrivesAt run s feed
-Finds run s feed found.NoEvent = Arrives run s feed No_event
-Finds run s feed found.PastBudget = Arrives run s feed Past_budget
+abbrev pub Finds : Traced → Stand → Feed → Next → Type 0
+Finds traced s feed found.Event = ArrivesAt traced s feed
+Finds traced s feed found.NoEvent = Arrives traced s feed No_event
+Finds traced s feed found.PastBudget = Arrives traced s feed Past_budget
 
 -- what is told of an ending
 abbrev pub next_of : Option Ending → Next

@@ -1,7 +1,8 @@
 -- One command's answer: what is said, and where the feed stands then.
 use Rattle.std.specs.Prelude.{◌≡◌, ℕ, ◌+◌, ◌-◌, ◌≤◌, List, ◌++◌, codes, Result, Ok, Err}
+use Rattle.op_term.specs.Ops.{Table}
 use Rattle.op_trace.specs.World.{Event}
-use Rattle.op_trace.specs.Run.{Run}
+use Rattle.opium.specs.Traced.{Traced}
 use Rattle.opium.specs.declared.feed.Feed.{Feed}
 use Rattle.opium.specs.declared.feed.Next.{Next}
 use Rattle.opium.specs.declared.feed.Next.TheVariants as found
@@ -12,19 +13,16 @@ use Rattle.opium.specs.Session.{answer_to}
 use Rattle.opium.specs.Sight.{Sight, SaysAll, SaysFront}
 use Rattle.opium.specs.Feeding.{Feeds}
 
-abbrev pub unreadable : List ℕ
-unreadable = codes "unreadable form 0\n"
-
 -- the answer to `next`
-abbrev pub text_of : Next → Event → List ℕ
-text_of found.Event e = event_line e ++ codes "\nyes\n"
-text_of found.NoEvent e = codes "no\n"
-text_of found.PastBudget e = codes "thrown trace_budget\n"
+abbrev pub text_of : Table → Next → Event → List ℕ
+text_of ops found.Event e = event_line ops e ++ codes "\nyes\n"
+text_of ops found.NoEvent e = codes "no\n"
+text_of ops found.PastBudget e = codes "thrown trace_budget\n"
 
 -- these bytes are the answer to a text
-pub record Told (run : Run) (s : Stand) (text answer : List ℕ) (feed : Feed) : Type 0 where
-  pub told : answer ≡ (answer_to run s text).text
-  pub feeds : Feeds run (answer_to run s text).stand feed
+pub record Told (traced : Traced) (s : Stand) (text answer : List ℕ) (feed : Feed) : Type 0 where
+  pub told : answer ≡ (answer_to traced s text).text
+  pub feeds : Feeds traced (answer_to traced s text).stand feed
 
 -- the steps that were made beside those of the run's machine
 pub record Pays (old new : Feed) (before after : ℕ) : Type 0 where
@@ -32,11 +30,11 @@ pub record Pays (old new : Feed) (before after : ℕ) : Type 0 where
   pub later : old.machine.steps ≤ new.machine.steps
 
 -- the answer was said
-pub record GivesAll (run : Run) (s : Stand) (text : List ℕ) (old new : Feed) (before after : ℕ) (a b : Sight) : Type 0 where
-  pub says : SaysAll a b (answer_to run s text).text
-  pub feeds : Feeds run (answer_to run s text).stand new
+pub record GivesAll (traced : Traced) (s : Stand) (text : List ℕ) (old new : Feed) (before after : ℕ) (a b : Sight) : Type 0 where
+  pub says : SaysAll a b (answer_to traced s text).text
+  pub feeds : Feeds traced (answer_to traced s text).stand new
   pub pays : Pays old new before after
 
-abbrev pub Gives : Run → Stand → List ℕ → Feed → Feed → ℕ → ℕ → Sight → Sight → Result (Unit {0}) Status → Type 0
-Gives run s text old new before after a b (Ok x) = GivesAll run s text old new before after a b
-Gives run s text old new before after a b (Err st) = SaysFront st a b (answer_to run s text).text
+abbrev pub Gives : Traced → Stand → List ℕ → Feed → Feed → ℕ → ℕ → Sight → Sight → Result (Unit {0}) Status → Type 0
+Gives traced s text old new before after a b (Ok x) = GivesAll traced s text old new before after a b
+Gives traced s text old new before after a b (Err st) = SaysFront st a b (answer_to traced s text).text

@@ -9,3 +9,7 @@ pub mod Promise
 pub mod Runnable
 pub mod Session
 pub mod Sight
+pub mod Traced
+pub mod Words
+pub mod Reader
+pub mod Refusing

@@ -1,6 +1,6 @@
--- The line of an event: its number, its box's call number and depth, the port and the goal, quoted, cut, with the operators of the standard.
+-- The line of an event: its number, its box's call number and depth, the port and the goal, quoted, cut, with the operators that loading left.
 use Rattle.std.specs.Prelude.{ℕ, false, List, ◌++◌, codes, decimal}
-use Rattle.op_term.specs.Ops.{iso_table}
+use Rattle.op_term.specs.Ops.{Table}
 use Rattle.op_writer.specs.Cut.{short}
 use Rattle.op_trace.specs.declared.port.Port.{Port}
 use Rattle.op_trace.specs.declared.port.Port.TheVariants.{Call, Exit, Redo, Fail}
@@ -16,6 +16,6 @@ abbrev pub space : List ℕ
 space = codes " "
 
 -- without a newline
-abbrev pub event_line : Event → List ℕ
-event_line e =
-    decimal e.chrono ++ space ++ decimal e.call ++ space ++ decimal e.depth ++ space ++ port_word e.port ++ space ++ short iso_table e.goal 1200 false
+abbrev pub event_line : Table → Event → List ℕ
+event_line ops e =
+    decimal e.chrono ++ space ++ decimal e.call ++ space ++ decimal e.depth ++ space ++ port_word e.port ++ space ++ short ops e.goal 1200 false

@@ -1,7 +1,7 @@
 -- What holds of a session between two bytes of its commands, and what it leaves behind.
 use Rattle.std.specs.Prelude.{◌≡◌, ℕ, ◌+◌, ◌≤◌, suc, List, ◌++◌, length, Option, Some, IsTrue, Result, Ok, Err, Bool, true, false}
 use Rattle.std.specs.Io.KnownBytes.{Appends, Consumes, IsAtEnd}
-use Rattle.op_trace.specs.Run.{Run}
+use Rattle.opium.specs.Traced.{Traced}
 use Rattle.op_token.specs.Cut.{texts, behind_texts, IsOpen}
 use Rattle.opium.specs.declared.feed.Feed.{Feed}
 use Rattle.opium.specs.declared.status.Status.{Status}
@@ -21,20 +21,20 @@ pub record Cuts (passed : List (List ℕ)) (taken p : List ℕ) : Type 0 where
   pub short : length passed + length p ≤ length taken
 
 -- what was said so far: the answers to these texts
-abbrev pub said_to : Run → List (List ℕ) → List ℕ
-said_to run passed = joined (answers_from run at_start passed)
+abbrev pub said_to : Traced → List (List ℕ) → List ℕ
+said_to traced passed = joined (answers_from traced at_start passed)
 
 -- n bytes were taken, and the texts among them were answered; since the start the desk has come from a to b, and the steps from
 -- before to after
-pub record Holds (run : Run) (a b : Sight) (n before after : ℕ) (p : List ℕ) (feed : Feed) : Type 0 where
+pub record Holds (traced : Traced) (a b : Sight) (n before after : ℕ) (p : List ℕ) (feed : Feed) : Type 0 where
   pub taken : List ℕ
   pub passed : List (List ℕ)
   pub count : length taken ≡ n
   pub cuts : Cuts passed taken p
   pub unended : IsOpen p
   pub commands : Consumes a.commands b.commands taken
-  pub talk : Appends a.talk b.talk (said_to run passed)
-  pub feeds : Feeds run (stand_after run at_start passed) feed
+  pub talk : Appends a.talk b.talk (said_to traced passed)
+  pub feeds : Feeds traced (stand_after traced at_start passed) feed
   pub cost : after ≡ before + feed.machine.steps
   pub calm : Calm a b
 
@@ -63,17 +63,17 @@ abbrev pub IsOutcome : Option Outcome → Outcome → Type 0
 IsOutcome o x = WhenTold o (λ y. y ≡ x)
 
 -- a session that was broken off by this status
-pub record BreaksOff (run : Run) (s : Status) (a b : Sight) : Type 0 where
+pub record BreaksOff (traced : Traced) (s : Status) (a b : Sight) : Type 0 where
   pub fault : Fault s a b
-  pub left : WhenTold a.commands (λ bytes. BrokenAs (Session run) bytes a.talk b.talk b.commands)
+  pub left : WhenTold a.commands (λ bytes. BrokenAs (Session traced) bytes a.talk b.talk b.commands)
 
 -- a byte was taken and answered, or no more is there, or the session was broken off
-abbrev pub Goes : Run → Sight → ℕ → ℕ → Sight → ℕ → List ℕ → Feed → Result Bool Status → Type 0
-Goes run a n before b after p feed (Ok true) = Holds run a b (suc n) before after p feed
-Goes run a n before b after p feed (Ok false) = Holds run a b n before after p feed × IsAtEnd b.commands
-Goes run a n before b after p feed (Err s) = BreaksOff run s a b
+abbrev pub Goes : Traced → Sight → ℕ → ℕ → Sight → ℕ → List ℕ → Feed → Result Bool Status → Type 0
+Goes traced a n before b after p feed (Ok true) = Holds traced a b (suc n) before after p feed
+Goes traced a n before b after p feed (Ok false) = Holds traced a b n before after p feed × IsAtEnd b.commands
+Goes traced a n before b after p feed (Err s) = BreaksOff traced s a b
 
 -- the last text was answered, or the session was broken off
-abbrev pub Ends : Run → Sight → ℕ → Sight → ℕ → Result (Unit {0}) Status → Type 0
-Ends run a before b after (Ok x) = Leaves (Some (Session run)) status.Done a b before after
-Ends run a before b after (Err s) = BreaksOff run s a b
+abbrev pub Ends : Traced → Sight → ℕ → Sight → ℕ → Result (Unit {0}) Status → Type 0
+Ends traced a before b after (Ok x) = Leaves (Some (Session traced)) status.Done a b before after
+Ends traced a before b after (Err s) = BreaksOff traced s a b

@@ -3,7 +3,8 @@ use Rattle.std.specs.Prelude.{◌≡◌, ℕ, zero, suc, ◌+◌, ◌-◌, ◌<�
 use Rattle.op_base.specs.Rising.{Rose}
 use Rattle.op_desk.specs.Contents.{Known}
 use Rattle.op_trace.specs.World.{loaded}
-use Rattle.op_trace.specs.Run.{Run, steps_at}
+use Rattle.op_trace.specs.Run.{steps_at}
+use Rattle.opium.specs.Traced.{Traced}
 use Rattle.op_token.specs.declared.piece.Piece.{Piece}
 use Rattle.op_token.specs.declared.piece.Piece.TheVariants.{Text}
 use Rattle.op_token.specs.Cut.{cut_of, text_in, rest_in}
@@ -20,25 +21,25 @@ WhenTold None P = Unit {0}
 WhenTold (Some x) P = P x
 
 -- the steps of the traced run that a session has made, from before to after
-pub record Costs (run : Run) (bytes : List ℕ) (before after : ℕ) : Type 0 where
-  pub most : after ≤ before + steps_at (loaded []) run (session_furthest run bytes)
-  pub least : before + steps_at (loaded []) run (min (session_furthest run bytes) (event_count run)) ≤ after
+pub record Costs (traced : Traced) (bytes : List ℕ) (before after : ℕ) : Type 0 where
+  pub most : after ≤ before + steps_at (loaded []) traced.run (session_furthest traced bytes)
+  pub least : before + steps_at (loaded []) traced.run (min (session_furthest traced bytes) (event_count traced.run)) ≤ after
 
 -- all commands were read and answered: what Talk held, what it holds, what Commands has left
-pub record Finished (run : Run) (bytes : List ℕ) (talk talk_after left_after : Known) : Type 0 where
+pub record Finished (traced : Traced) (bytes : List ℕ) (talk talk_after left_after : Known) : Type 0 where
   pub short : length bytes < channel_limit
-  pub answers : Appends talk talk_after (session_text run bytes)
+  pub answers : Appends talk talk_after (session_text traced bytes)
   pub read : left_after ≡ Some []
 
 abbrev pub DoneAs : Outcome → List ℕ → Known → Known → Known → Type 0
 DoneAs (Line s text) bytes talk talk_after left_after = ⊥
 DoneAs Missing bytes talk talk_after left_after = ⊥
-DoneAs (Session run) bytes talk talk_after left_after = Finished run bytes talk talk_after left_after
+DoneAs (Session traced) bytes talk talk_after left_after = Finished traced bytes talk talk_after left_after
 
 abbrev pub CostsAs : Outcome → List ℕ → ℕ → ℕ → Type 0
 CostsAs (Line s text) bytes before after = after ≡ before
 CostsAs Missing bytes before after = after ≡ before
-CostsAs (Session run) bytes before after = Costs run bytes before after
+CostsAs (Session traced) bytes before after = Costs traced bytes before after
 
 -- the texts of these bytes that have a byte behind them, at most n of them
 abbrev pub has_behind : Piece → ℕ → Bool
@@ -56,17 +57,17 @@ front xs = take (length xs - 1) xs
 
 -- the answers that are written at least once these bytes were taken: to all commands that were taken whole with the byte behind
 -- them, but the last
-abbrev pub answered_text : Run → List ℕ → List ℕ
-answered_text run taken = joined (answers_from run at_start (front (followed_texts (length taken) taken)))
+abbrev pub answered_text : Traced → List ℕ → List ℕ
+answered_text traced taken = joined (answers_from traced at_start (front (followed_texts (length taken) taken)))
 
 abbrev pub IsPrefix : List ℕ → List ℕ → Type 0
 IsPrefix xs ys = (zs : List ℕ) × (ys ≡ xs ++ zs)
 
 -- a session that was broken off: what was taken is a front of the commands, and what was written a front of the answers
-pub record Broken (run : Run) (bytes taken rest written : List ℕ) : Type 0 where
+pub record Broken (traced : Traced) (bytes taken rest written : List ℕ) : Type 0 where
   pub taken_is : bytes ≡ taken ++ rest
-  pub front : IsPrefix written (session_text run bytes)
-  pub enough : IsPrefix (answered_text run taken) written
+  pub front : IsPrefix written (session_text traced bytes)
+  pub enough : IsPrefix (answered_text traced taken) written
 
 abbrev pub too_long_line : List ℕ
 too_long_line = codes "opium: too long commands\n"
@@ -79,8 +80,8 @@ limit_line taken = if nat_le channel_limit (length taken) then too_long_line els
 abbrev pub BrokenAs : Outcome → List ℕ → Known → Known → Known → Type 0
 BrokenAs (Line s text) bytes talk talk_after left_after = (w : List ℕ) × Appends talk talk_after w × IsPrefix w text × (left_after ≡ Some bytes)
 BrokenAs Missing bytes talk talk_after left_after = (talk_after ≡ talk) × (left_after ≡ Some bytes)
-BrokenAs (Session run) bytes talk talk_after left_after =
-    (taken : List ℕ) × (rest : List ℕ) × (w : List ℕ) × (v : List ℕ) × Broken run bytes taken rest w × IsPrefix v (limit_line taken)
+BrokenAs (Session traced) bytes talk talk_after left_after =
+    (taken : List ℕ) × (rest : List ℕ) × (w : List ℕ) × (v : List ℕ) × Broken traced bytes taken rest w × IsPrefix v (limit_line taken)
     × Appends talk talk_after (w ++ v) × (left_after ≡ Some rest)
 
 -- where a limit of bytes was passed
@@ -88,8 +89,8 @@ abbrev pub TooLongAs : Outcome → List ℕ → Known → Known → Known → Ty
 TooLongAs (Line status.TooLong text) bytes talk talk_after left_after = Appends talk talk_after text × (left_after ≡ Some bytes)
 TooLongAs (Line s text) bytes talk talk_after left_after = ⊥
 TooLongAs Missing bytes talk talk_after left_after = ⊥
-TooLongAs (Session run) bytes talk talk_after left_after =
-    (channel_limit ≤ length bytes) × ((w : List ℕ) × Broken run bytes (take channel_limit bytes) (drop channel_limit bytes) w
+TooLongAs (Session traced) bytes talk talk_after left_after =
+    (channel_limit ≤ length bytes) × ((w : List ℕ) × Broken traced bytes (take channel_limit bytes) (drop channel_limit bytes) w
     × Appends talk talk_after (w ++ too_long_line) × (left_after ≡ Some (drop channel_limit bytes)))
 
 -- a refusal of the words, the program or the goal writes its line and takes nothing

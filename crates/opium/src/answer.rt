@@ -1,24 +1,24 @@
-ghost use Rattle.std.specs.Prelude.{◌≡◌, ℕ, OnOk, IfOk};
-ghost use Rattle.op_term.specs.Ops.{iso_table};
-ghost use Rattle.op_trace.specs.Run.{Run};
+ghost use Rattle.std.specs.Prelude.{◌≡◌, ℕ, ◌+◌, ◌++◌, OnOk, IfOk};
 ghost use Rattle.op_machine.specs.Machine.{event_now};
 ghost use Rattle.opium.specs.Moves.{Stand};
+ghost use Rattle.opium.specs.Traced.{Traced};
+ghost use Rattle.opium.specs.Reader.{IsReader};
+ghost use Rattle.opium.specs.Session.{other_text, unreadable_text};
 ghost use Rattle.opium.specs.Feeding.{Feeds, IsHere};
-ghost use Rattle.opium.specs.Giving.{Told, Pays, Gives, text_of, unreadable};
+ghost use Rattle.opium.specs.Giving.{Told, Pays, Gives, text_of};
 ghost use Rattle.opium.specs.Sight.{sight};
 
-use crate::command::is_next;
+use crate::command::Meaning;
 use crate::feed::{Feed, Next};
-use crate::line::add_line;
+use crate::line::{add_decimal, add_line};
 use crate::status::Status;
 use crate::talk::say;
+use crate::words::kind_word;
 use op_base::{Memory, Steps};
 use op_desk::{Bytes, Desk};
+use op_reader::ReadFaultKind;
 use std::alloc::Global;
 use std::sync::ledger::Ledger;
-
-/// The answer to a text that is no command.
-pub const UNREADABLE: &[u8] = b"unreadable form 0\n";
 
 /// Answers a command with one write to Talk.
 pub fn give_answer<D: Desk, L: Ledger>(
@@ -28,8 +28,8 @@ pub fn give_answer<D: Desk, L: Ledger>(
     desk: &mut D,
     steps: &mut Steps<L>,
 ) -> Result<(), Status>
-    requires { feed.old.ops ≡ iso_table }
-    ensures { (run : Run) (s : Stand) → Feeds run s feed.old → Gives run s text.now feed.old feed.new steps.old steps.new
+    requires { IsReader feed.old.commands }
+    ensures { (traced : Traced) (s : Stand) → Feeds traced s feed.old → Gives traced s text.now feed.old feed.new steps.old steps.new
         (sight (D.left desk.old) (D.written desk.old) (D.shelf desk.old) (D.steady desk.old) (D.read_faults desk.old) (D.write_faults desk.old))
         (sight (D.left desk.new) (D.written desk.new) (D.shelf desk.new) (D.steady desk.new) (D.read_faults desk.new) (D.write_faults desk.new)) result }
 {
@@ -43,32 +43,52 @@ fn answer<L: Ledger>(
     text: &[u8],
     steps: &mut Steps<L>,
 ) -> Result<Bytes, Memory>
-    requires { feed.old.ops ≡ iso_table }
-    ensures told { (run : Run) (s : Stand) → Feeds run s feed.old → IfOk result (λ answer. Told run s text.now answer feed.new) }
+    requires { IsReader feed.old.commands }
+    ensures told { (traced : Traced) (s : Stand) → Feeds traced s feed.old → IfOk result (λ answer. Told traced s text.now answer feed.new) }
     ensures pays { OnOk result (Pays feed.old feed.new steps.old steps.new) }
 {
-    if !is_next(text) {
-        let mut answer = Bytes::new(alloc);
-        answer.append(UNREADABLE)?;
-        return Ok(answer);
+    match feed.read(text)? {
+        Meaning::Next => {
+            let next = feed.next(steps)?;
+            next_text(alloc, feed, next)
+        }
+        Meaning::Other => other(alloc),
+        Meaning::Unreadable(place, kind) => unreadable(alloc, place, kind),
     }
-    let next = feed.next(steps)?;
-    next_text(alloc, feed, next)
 }
 
 fn next_text(alloc: Global, feed: &Feed, next: Next) -> Result<Bytes, Memory>
-    requires here { IsHere next feed.now.machine }
-    requires operators { feed.now.ops ≡ iso_table }
-    ensures { IfOk result (λ answer. answer ≡ text_of next (event_now feed.now.machine)) }
+    requires { IsHere next feed.now.machine }
+    ensures { IfOk result (λ answer. answer ≡ text_of feed.now.machine.tables.table next (event_now feed.now.machine)) }
 {
     let mut answer = Bytes::new(alloc);
     match next {
         Next::Event => {
-            add_line(alloc, &mut answer, &feed.event(), &feed.ops)?;
+            add_line(alloc, &mut answer, &feed.event(), feed.ops())?;
             answer.append(b"\nyes\n")?;
         }
         Next::NoEvent => answer.append(b"no\n")?,
         Next::PastBudget => answer.append(b"thrown trace_budget\n")?,
     }
+    Ok(answer)
+}
+
+fn other(alloc: Global) -> Result<Bytes, Memory>
+    ensures { IfOk result (λ answer. answer ≡ other_text) }
+{
+    let mut answer = Bytes::new(alloc);
+    answer.append(b"unreadable form 0\n")?;
+    Ok(answer)
+}
+
+fn unreadable(alloc: Global, place: u64, kind: ReadFaultKind) -> Result<Bytes, Memory>
+    ensures { IfOk result (λ answer. answer ≡ unreadable_text place kind) }
+{
+    let mut answer = Bytes::new(alloc);
+    answer.append(b"unreadable ")?;
+    answer.append(kind_word(kind))?;
+    answer.append(b" ")?;
+    add_decimal(&mut answer, place)?;
+    answer.append(b"\n")?;
     Ok(answer)
 }

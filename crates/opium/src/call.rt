@@ -1,27 +1,31 @@
 ghost use Rattle.std.specs.Prelude.{◌≡◌, ◌≢◌, ℕ, ◌+◌, ◌≤◌, ◌∷◌, [], Some, None, option_map, IfOk, IsErrOf, true, map, string_bytes, IsTrue, length};
 ghost use Rattle.op_desk.specs.Frame.{Each};
 ghost use Rattle.op_desk.specs.declared.chan.Chan.{Chan};
-ghost use Rattle.op_reader.specs.Form.{program_of, goal_of};
-ghost use Rattle.op_trace.specs.World.{loaded};
-ghost use Rattle.op_machine.specs.Program.{clauses};
-ghost use Rattle.op_machine.specs.Loaded.{text_rules, program_clauses};
-ghost use Rattle.opium.specs.Call.{outcome_of, with_rules, with_goal};
+ghost use Rattle.op_store.specs.Stored.{world_of};
+ghost use Rattle.op_store.specs.Load.{load_text, goal_of};
+ghost use Rattle.op_store.specs.Queries.{query_named, IsSoundGoal, IsSoundLoadFault};
+ghost use Rattle.opium.specs.Refusing.{Refuses};
+ghost use Rattle.op_store.specs.declared.locked.Locked.{Locked};
+ghost use Rattle.opium.specs.Call.{outcome_of, first_world, with_loaded, with_world, with_goal, with_query};
 ghost use Rattle.opium.specs.Progress.{Leaves};
 ghost use Rattle.opium.specs.Promise.{WhenTold, DoneAs, CostsAs, BrokenAs, TooLongAs, RefusedAs, IsBroken, IsRefused, IsWordsRefusal, CountsAs, IsFaultless, HasFile};
 ghost use Rattle.opium.specs.Sight.{sight};
 
+use crate::runnable::{are_runnable, is_runnable_goal};
 use crate::session::session;
 use crate::status::Status;
-use crate::talk::{ended_as, read_file, say, say_name};
-use op_base::Steps;
+use crate::talk::{ended_as, read_file, say, say_load, say_name, say_refused};
+use op_base::{Memory, Steps};
 use op_desk::Desk;
-use op_machine::Store;
-use op_reader::FormFault;
+use op_store::{Goal, LoadFault, Locked, Store};
 use std::alloc::Global;
 use std::sync::ledger::Ledger;
 
 // How many steps the traced run may take.
 const BUDGET: u64 = 10_000_000;
+
+// The name of the goal in a line of a refusal.
+const GOAL: &str = "(goal)";
 
 /// One call of the program: `words` are those behind its name, the program's file and the goal. The commands are taken
 /// from the desk's Commands a byte at a time, and each answer is written to its Talk at once. A refusal writes one line.
@@ -94,32 +98,79 @@ fn answer_text<D: Desk, L: Ledger>(
     desk: &mut D,
     steps: &mut Steps<L>,
 ) -> Status
-    ensures { Leaves (Some (with_rules program.now goal.now (program_of text.now))) result
+    ensures { Leaves (Some (with_loaded program.now goal.now (load_text Locked.Program first_world text.now))) result
         (sight (D.left desk.old) (D.written desk.old) (D.shelf desk.old) (D.steady desk.old) (D.read_faults desk.old) (D.write_faults desk.old))
         (sight (D.left desk.new) (D.written desk.new) (D.shelf desk.new) (D.steady desk.new) (D.read_faults desk.new) (D.write_faults desk.new)) steps.old steps.new }
 {
-    match store_of(alloc, text) {
-        Ok(store) => answer_goal(alloc, store, goal, desk, steps),
-        Err(FormFault::Form) => ended_as(
-            Status::Load,
-            say_name(alloc, desk, b"opium: load ", program, b":1 form\n"),
-        ),
-        Err(FormFault::Memory) => Status::Memory,
+    match Store::new(alloc, Locked::Program) {
+        Ok(store) => answer_new(alloc, store, program, goal, text, desk, steps),
+        Err(Memory) => Status::Memory,
     }
 }
 
-// A store with the clauses of a text.
-fn store_of(alloc: Global, text: &[u8]) -> Result<Store, FormFault>
-    ensures ok { IfOk result (λ s. program_of text.now ≡ Some (text_rules s)) }
-    ensures numbered { IfOk result (λ s. clauses s ≡ program_clauses (text_rules s)) }
-    ensures form { IsErrOf result FormFault.Form → program_of text.now ≡ None }
+// The call by the program's text, which is loaded into a store.
+fn answer_new<D: Desk, L: Ledger>(
+    alloc: Global,
+    mut store: Store,
+    program: &str,
+    goal: &str,
+    text: &[u8],
+    desk: &mut D,
+    steps: &mut Steps<L>,
+) -> Status
+    ensures { Leaves (Some (with_loaded program.now goal.now (load_text store.locked (world_of store) text.now))) result
+        (sight (D.left desk.old) (D.written desk.old) (D.shelf desk.old) (D.steady desk.old) (D.read_faults desk.old) (D.write_faults desk.old))
+        (sight (D.left desk.new) (D.written desk.new) (D.shelf desk.new) (D.steady desk.new) (D.read_faults desk.new) (D.write_faults desk.new)) steps.old steps.new }
 {
-    let mut store = Store::new(alloc)?;
-    store.load(text)?;
-    Ok(store)
+    match store.load(text) {
+        Ok(()) => answer_program(alloc, store, program, goal, desk, steps),
+        Err(fault) => end_refused(alloc, desk, &store, program, fault),
+    }
 }
 
-// The call by the goal, over the clauses of a store.
+// The end of a call whose program or goal is refused, with the line of the refusal.
+fn end_refused<D: Desk>(
+    alloc: Global,
+    desk: &mut D,
+    store: &Store,
+    name: &str,
+    fault: LoadFault,
+) -> Status
+    requires { IsSoundLoadFault (length store.now.names) fault }
+    ensures { Refuses store.now.names name.now fault result
+        (sight (D.left desk.old) (D.written desk.old) (D.shelf desk.old) (D.steady desk.old) (D.read_faults desk.old) (D.write_faults desk.old))
+        (sight (D.left desk.new) (D.written desk.new) (D.shelf desk.new) (D.steady desk.new) (D.read_faults desk.new) (D.write_faults desk.new)) }
+{
+    match fault {
+        LoadFault::Memory => Status::Memory,
+        LoadFault::At { line, kind } => ended_as(
+            Status::Load,
+            say_refused(alloc, desk, store, name, line, kind),
+        ),
+    }
+}
+
+// The call over the program that a store has loaded.
+fn answer_program<D: Desk, L: Ledger>(
+    alloc: Global,
+    store: Store,
+    program: &str,
+    goal: &str,
+    desk: &mut D,
+    steps: &mut Steps<L>,
+) -> Status
+    ensures { Leaves (Some (with_world program.now goal.now (world_of store))) result
+        (sight (D.left desk.old) (D.written desk.old) (D.shelf desk.old) (D.steady desk.old) (D.read_faults desk.old) (D.write_faults desk.old))
+        (sight (D.left desk.new) (D.written desk.new) (D.shelf desk.new) (D.steady desk.new) (D.read_faults desk.new) (D.write_faults desk.new)) steps.old steps.new }
+{
+    match are_runnable(alloc, &store) {
+        Ok(true) => answer_goal(alloc, store, goal, desk, steps),
+        Ok(false) => ended_as(Status::Load, say_load(alloc, desk, program, 1, b"form")),
+        Err(Memory) => Status::Memory,
+    }
+}
+
+// The call by the goal.
 fn answer_goal<D: Desk, L: Ledger>(
     alloc: Global,
     mut store: Store,
@@ -127,14 +178,32 @@ fn answer_goal<D: Desk, L: Ledger>(
     desk: &mut D,
     steps: &mut Steps<L>,
 ) -> Status
-    requires { clauses store ≡ program_clauses (text_rules store) }
-    ensures { Leaves (Some (with_goal (text_rules store) (goal_of (text_rules store) goal.now))) result
+    ensures { Leaves (Some (with_goal (world_of store) (goal_of store.table store.flags.quotes goal.now))) result
         (sight (D.left desk.old) (D.written desk.old) (D.shelf desk.old) (D.steady desk.old) (D.read_faults desk.old) (D.write_faults desk.old))
         (sight (D.left desk.new) (D.written desk.new) (D.shelf desk.new) (D.steady desk.new) (D.read_faults desk.new) (D.write_faults desk.new)) steps.old steps.new }
 {
     match store.goal(goal.as_bytes()) {
-        Ok(goal) => session(alloc, store, goal, BUDGET, desk, steps),
-        Err(FormFault::Form) => ended_as(Status::Load, say(desk, b"opium: load (goal):1 form\n")),
-        Err(FormFault::Memory) => Status::Memory,
+        Ok(goal) => answer_query(alloc, store, goal, desk, steps),
+        Err(fault) => end_refused(alloc, desk, &store, GOAL, fault),
+    }
+}
+
+// The call by a goal that was read.
+fn answer_query<D: Desk, L: Ledger>(
+    alloc: Global,
+    store: Store,
+    goal: Goal,
+    desk: &mut D,
+    steps: &mut Steps<L>,
+) -> Status
+    requires { IsSoundGoal (length store.names) goal }
+    ensures { Leaves (Some (with_query (world_of store) (query_named store.names goal))) result
+        (sight (D.left desk.old) (D.written desk.old) (D.shelf desk.old) (D.steady desk.old) (D.read_faults desk.old) (D.write_faults desk.old))
+        (sight (D.left desk.new) (D.written desk.new) (D.shelf desk.new) (D.steady desk.new) (D.read_faults desk.new) (D.write_faults desk.new)) steps.old steps.new }
+{
+    match is_runnable_goal(alloc, &store, &goal) {
+        Ok(true) => session(alloc, store, goal, BUDGET, desk, steps),
+        Ok(false) => ended_as(Status::Load, say_load(alloc, desk, GOAL, 1, b"form")),
+        Err(Memory) => Status::Memory,
     }
 }

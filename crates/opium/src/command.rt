@@ -1,33 +1,68 @@
-ghost use Rattle.std.specs.Prelude.{◌≡◌, ◌==◌, ◌||◌};
-ghost use Rattle.std.specs.Int.{is_in_range};
-ghost use Rattle.opium.specs.Session.{is_next as the_next, is_stopped as the_stopped};
+ghost use Rattle.std.specs.Prelude.{◌≡◌, length, codes, IfOk, OnOk};
+ghost use Rattle.op_logic.specs.Names.{named};
+ghost use Rattle.op_trace.specs.World.{text_eq};
+ghost use Rattle.op_store.specs.Queries.{IsSoundGoal};
 
-/// Whether a text is the command `next`: the name, and layout or none before the full stop.
-pub fn is_next(text: &[u8]) -> bool
-    ensures { result ≡ the_next text.now }
-{
-    match text.strip_prefix(b"next".as_slice()) {
-        Some(rest) => is_stopped(rest),
-        None => false,
+use op_base::Memory;
+use op_reader::ReadFaultKind;
+use op_store::{CommandFault, Goal, Store};
+use op_term::{Node, Tree, Whole};
+
+/// What a text means as a command.
+#[derive(Clone, Copy, Debug, PartialEq, Eq)]
+pub enum Meaning {
+    /// `next`.
+    Next,
+    /// A term that is no command by now.
+    Other,
+    /// It can't be read, for this cause at this place.
+    Unreadable(u64, ReadFaultKind),
+}
+
+impl Meaning {
+    ghost use Rattle.opium.specs.Session.{is_next as the_next, goal_meaning, meaning};
+    ghost use Rattle.opium.specs.Reader.{IsReader};
+
+    /// Reads a text as a command, with a store that was made for it.
+    pub fn of(store: &mut Store, text: &[u8]) -> Result<Meaning, Memory>
+        requires { IsReader store.old }
+        ensures meaning { IfOk result (λ m. m ≡ meaning text.now) }
+        ensures reader { OnOk result (IsReader store.new) }
+    {
+        match store.command(text) {
+            Ok(goal) => Ok(Meaning::of_goal(store, &goal)),
+            Err(CommandFault::Bad { place, kind }) => Ok(Meaning::Unreadable(place, kind)),
+            Err(CommandFault::NotBody(_)) => Ok(Meaning::Other),
+            Err(CommandFault::Memory) => Err(Memory),
+        }
+    }
+
+    fn of_goal(store: &Store, goal: &Goal) -> Meaning
+        requires { IsSoundGoal (length store.now.names) goal.now }
+        ensures { result ≡ goal_meaning (named store.now.names goal.now.body) }
+    {
+        if Meaning::is_next(store, goal) {
+            Meaning::Next
+        } else {
+            Meaning::Other
+        }
+    }
+
+    // Whether a goal is the atom `next`.
+    fn is_next(store: &Store, goal: &Goal) -> bool
+        requires { IsSoundGoal (length store.now.names) goal.now }
+        ensures { result ≡ the_next (named store.now.names goal.now.body) }
+    {
+        let whole = Whole::new(&goal.body);
+        match whole.node(&whole.root()) {
+            Node::Atom(name) => is_next_name(store.symbols().name_of(name)),
+            _ => false,
+        }
     }
 }
 
-fn is_stopped(rest: &[u8]) -> bool
-    ensures { result ≡ the_stopped rest.now }
+fn is_next_name(name: &str) -> bool
+    ensures { result ≡ text_eq name.now (codes "next") }
 {
-    for (i, byte) in rest.iter().enumerate() {
-        if i + 1 == rest.len() {
-            return *byte == b'.';
-        }
-        if !is_layout(*byte) {
-            return false;
-        }
-    }
-    false
-}
-
-fn is_layout(byte: u8) -> bool
-    ensures { result ≡ (byte == 32 || is_in_range 9 13 byte) }
-{
-    byte == b' ' || (9..=13).contains(&byte)
+    name == "next"
 }

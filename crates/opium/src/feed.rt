@@ -1,23 +1,24 @@
 ghost use Rattle.std.specs.Prelude.{◌≡◌, ℕ, ◌+◌, ◌-◌, ◌≤◌, true, IfOk, OnOk, IsTrue};
-ghost use Rattle.op_term.specs.Ops.{iso_table};
-ghost use Rattle.op_trace.specs.Run.{Run};
-ghost use Rattle.op_machine.specs.Machine.{to_come, has_event, event_now};
+ghost use Rattle.op_machine.specs.Machine.{has_event, event_now};
 ghost use Rattle.op_machine.specs.View.{event_in};
 ghost use Rattle.opium.specs.Moves.{Stand, at_start};
-ghost use Rattle.opium.specs.Feeding.{Feeds, Finds, Shows, IsHere, next_of};
+ghost use Rattle.opium.specs.Traced.{Traced};
+ghost use Rattle.opium.specs.Feeding.{Finds, Shows, next_of};
 
+use crate::command::Meaning;
 use op_base::{Memory, Steps};
 use op_machine::{Ending, EventView, Host, Machine, Turn};
+use op_store::Store;
 use op_term::Ops;
 use std::sync::ledger::Ledger;
 
-/// The events of a run in order, one at a time. The machine is asked for a turn only where an event is asked for, and no
-/// event is kept but the last.
+/// The events of a run in order, one at a time, and the store that reads the commands over them. The machine is asked for a turn only
+/// where an event is asked for, and no event is kept but the last.
 #[derive(Drop)]
 pub struct Feed {
     pub machine: Machine,
-    pub ops: Ops,
     pub ended: Option<Ending>,
+    pub commands: Store,
 }
 
 /// What stands behind the present place.
@@ -32,25 +33,38 @@ pub enum Next {
 }
 
 impl Feed {
-    /// A feed before the first event of a machine that made no step. Events are written with these operators.
-    pub fn new(machine: Machine, ops: Ops) -> Feed
+    ghost use Rattle.opium.specs.Session.{meaning};
+    ghost use Rattle.opium.specs.Reader.{IsReader};
+    ghost use Rattle.opium.specs.Feeding.{Feeds, IsHere, traced_by};
+
+    /// A feed before the first event of a machine that made no step, with a store that reads commands.
+    pub fn new(machine: Machine, commands: Store) -> Feed
         requires steps { machine.steps ≡ 0 }
-        requires operators { ops ≡ iso_table }
-        ensures feeds { Feeds (to_come machine) at_start result }
+        requires reads { IsReader commands }
+        ensures feeds { Feeds (traced_by machine) at_start result }
         ensures steps { result.machine.steps ≡ 0 }
     {
         Feed {
             machine,
-            ops,
             ended: None,
+            commands,
         }
+    }
+
+    /// What a text means as a command. Only the names that commands have used change.
+    pub fn read(&mut self, text: &[u8]) -> Result<Meaning, Memory>
+        requires { IsReader self.old.commands }
+        ensures meaning { IfOk result (λ m. m ≡ meaning text.now) }
+        ensures feeds { OnOk result ((traced : Traced) (s : Stand) → Feeds traced s self.old → Feeds traced s self.new) }
+        ensures machine { self.new.machine ≡ self.old.machine }
+    {
+        Meaning::of(&mut self.commands, text)
     }
 
     /// Goes to the next event, if there is one. A machine that has ended is not asked again.
     pub fn next<L: Ledger>(&mut self, steps: &mut Steps<L>) -> Result<Next, Memory>
-        ensures finds { (run : Run) (s : Stand) → Feeds run s self.old → IfOk result (λ next. Finds run s self.new next) }
+        ensures finds { (traced : Traced) (s : Stand) → Feeds traced s self.old → IfOk result (λ next. Finds traced s self.new next) }
         ensures here { IfOk result (λ next. IsHere next self.new.machine) }
-        ensures operators { self.new.ops ≡ self.old.ops }
         ensures cost { OnOk result (steps.new ≡ steps.old + (self.new.machine.steps - self.old.machine.steps)) }
         ensures later { OnOk result (self.old.machine.steps ≤ self.new.machine.steps) }
     {
@@ -66,6 +80,13 @@ impl Feed {
         ensures { event_in result ≡ event_now self.now.machine }
     {
         self.machine.event().unwrap()
+    }
+
+    /// The operators that loading left, in which events are written.
+    pub fn ops(&self) -> &Ops
+        ensures { result.now ≡ self.now.machine.tables.table }
+    {
+        self.machine.store().ops()
     }
 }
 
@@ -93,6 +114,7 @@ fn next_event<L: Ledger>(
     ensures shows { IfOk result (λ ended. Shows machine.old machine.new ended) }
     ensures cost { OnOk result (steps.new ≡ steps.old + (machine.new.steps - machine.old.steps)) }
     ensures later { OnOk result (machine.old.steps ≤ machine.new.steps) }
+    ensures tables { machine.new.tables ≡ machine.old.tables }
 {
     let mut host = Nothing;
     loop {

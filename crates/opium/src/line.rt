@@ -1,5 +1,4 @@
 ghost use Rattle.std.specs.Prelude.{◌≡◌, ◌++◌, decimal, OnOk};
-ghost use Rattle.op_term.specs.Ops.{iso_table};
 ghost use Rattle.op_machine.specs.View.{event_in};
 ghost use Rattle.opium.specs.Line.{event_line, port_word as the_word, space};
 
@@ -12,15 +11,15 @@ use op_trace::Port;
 use op_writer::write_cut;
 use std::alloc::Global;
 
-/// Adds the line of an event: its number, its box's call number and depth, the port and the goal, without a newline.
+/// Adds the line of an event: its number, its box's call number and depth, the port and the goal, written with these operators, without a
+/// newline.
 pub fn add_line(
     alloc: Global,
     line: &mut Bytes,
     event: &EventView<'_>,
     ops: &Ops,
 ) -> Result<(), Memory>
-    requires { ops.now ≡ iso_table }
-    ensures { OnOk result (line.new ≡ line.old ++ event_line (event_in event.now)) }
+    ensures { OnOk result (line.new ≡ line.old ++ event_line ops.now (event_in event.now)) }
 {
     add_number(line, event.chrono())?;
     add_number(line, event.call())?;
@@ -43,9 +42,16 @@ pub fn add_line(
 fn add_number(line: &mut Bytes, number: u64) -> Result<(), Memory>
     ensures { OnOk result (line.new ≡ line.old ++ (decimal number ++ space)) }
 {
-    let mut buffer = Buffer::new();
-    line.append(buffer.format(number).as_bytes())?;
+    add_decimal(line, number)?;
     line.append(b" ")
+}
+
+/// Adds a number.
+pub fn add_decimal(line: &mut Bytes, number: u64) -> Result<(), Memory>
+    ensures { OnOk result (line.new ≡ line.old ++ decimal number) }
+{
+    let mut buffer = Buffer::new();
+    line.append(buffer.format(number).as_bytes())
 }
 
 fn port_word(port: Port) -> &'static [u8]

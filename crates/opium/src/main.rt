@@ -13,6 +13,7 @@ mod runnable;
 mod session;
 mod status;
 mod talk;
+mod words;
 #[cfg(test)]
 mod tests;
 
@@ -37,7 +38,7 @@ fn run<L: Ledger>(rt: HostRuntime, blank: Blank) -> Status
 {
     let mut steps: Steps<L> = Steps::new(blank);
     let mut desk = FileDesk::new(rt, rt.alloc());
-    match words(rt) {
+    match arguments(rt) {
         Ok(words) => opium(rt.alloc(), &words, &mut desk, &mut steps),
         Err(Status::Memory) => Status::Memory,
         // Words that are no text are not of the form, as no words are.
@@ -46,7 +47,7 @@ fn run<L: Ledger>(rt: HostRuntime, blank: Blank) -> Status
 }
 
 // The words behind the program's name.
-fn words(rt: HostRuntime) -> Result<Vec<String>, Status> {
+fn arguments(rt: HostRuntime) -> Result<Vec<String>, Status> {
     match env::args(&rt) {
         Ok(all) => match all.skip(1).collect(rt.alloc()) {
             Ok(words) => Ok(words),

@@ -1,25 +1,27 @@
 ghost use Rattle.std.specs.Prelude.{◌≡◌, ℕ, ◌<◌, ◌≤◌, Some, length, IfOk};
 ghost use Rattle.std.specs.Io.KnownBytes.{IsAtEnd};
 ghost use Rattle.op_desk.specs.declared.chan.Chan.{Chan};
-ghost use Rattle.op_term.specs.Ops.{iso_table};
-ghost use Rattle.op_trace.specs.Run.{Run, run};
-ghost use Rattle.op_trace.specs.World.{loaded};
-ghost use Rattle.op_machine.specs.Machine.{to_come};
-ghost use Rattle.op_machine.specs.Program.{clauses, goal_named, IsQuery};
+ghost use Rattle.op_store.specs.Stored.{world_of};
+ghost use Rattle.op_store.specs.Queries.{query_named, IsSoundGoal};
+ghost use Rattle.opium.specs.Traced.{Traced};
+ghost use Rattle.opium.specs.Reader.{IsReader};
+ghost use Rattle.opium.specs.Feeding.{traced_by};
 ghost use Rattle.op_token.specs.Cut.{IsOpen};
-ghost use Rattle.opium.specs.Call.{Session, channel_limit};
+ghost use Rattle.opium.specs.Call.{Session, traced_of, channel_limit};
 ghost use Rattle.opium.specs.Promise.{too_long_line};
 ghost use Rattle.opium.specs.Progress.{Holds, Goes, Leaves, Ends};
+ghost use Rattle.opium.specs.Session.{is_gap, from_first as the_first};
+ghost use Rattle.op_token.specs.Kind.{kind_of};
 ghost use Rattle.opium.specs.Sight.{Sight, sight, Says};
 
-use crate::answer::{UNREADABLE, give_answer};
+use crate::answer::give_answer;
 use crate::feed::Feed;
 use crate::status::Status;
 use crate::talk::{ended_as, say, take_byte};
 use op_base::{Memory, Steps};
 use op_desk::Desk;
-use op_machine::{Goal, Machine, Store};
-use op_term::Ops;
+use op_machine::Machine;
+use op_store::{Goal, Locked, Store};
 use op_token::{Cutter, Piece};
 use std::alloc::Global;
 use std::sync::ledger::Ledger;
@@ -36,10 +38,10 @@ fn answer_byte<D: Desk, L: Ledger>(
     steps: &mut Steps<L>,
 ) -> Result<bool, Status>
     requires open { IsOpen cutter.old }
-    requires operators { feed.old.ops ≡ iso_table }
-    ensures { (run : Run) (a : Sight) (n before : ℕ)
-        → Holds run a (sight (D.left desk.old) (D.written desk.old) (D.shelf desk.old) (D.steady desk.old) (D.read_faults desk.old) (D.write_faults desk.old)) n before steps.old cutter.old feed.old
-        → Goes run a n before (sight (D.left desk.new) (D.written desk.new) (D.shelf desk.new) (D.steady desk.new) (D.read_faults desk.new) (D.write_faults desk.new)) steps.new cutter.new feed.new result }
+    requires reads { IsReader feed.old.commands }
+    ensures { (traced : Traced) (a : Sight) (n before : ℕ)
+        → Holds traced a (sight (D.left desk.old) (D.written desk.old) (D.shelf desk.old) (D.steady desk.old) (D.read_faults desk.old) (D.write_faults desk.old)) n before steps.old cutter.old feed.old
+        → Goes traced a n before (sight (D.left desk.new) (D.written desk.new) (D.shelf desk.new) (D.steady desk.new) (D.read_faults desk.new) (D.write_faults desk.new)) steps.new cutter.new feed.new result }
 {
     let Some(byte) = take_byte(desk)? else {
         return Ok(false);
@@ -59,14 +61,14 @@ fn answer_rest<D: Desk, L: Ledger>(
     desk: &mut D,
     steps: &mut Steps<L>,
 ) -> Result<(), Status>
-    requires { feed.old.ops ≡ iso_table }
-    ensures { (run : Run) (a : Sight) (n before : ℕ) → n < channel_limit → IsAtEnd (D.left desk.old Chan.Commands)
-        → Holds run a (sight (D.left desk.old) (D.written desk.old) (D.shelf desk.old) (D.steady desk.old) (D.read_faults desk.old) (D.write_faults desk.old)) n before steps.old cutter.now feed.old
-        → Ends run a before (sight (D.left desk.new) (D.written desk.new) (D.shelf desk.new) (D.steady desk.new) (D.read_faults desk.new) (D.write_faults desk.new)) steps.new result }
+    requires { IsReader feed.old.commands }
+    ensures { (traced : Traced) (a : Sight) (n before : ℕ) → n < channel_limit → IsAtEnd (D.left desk.old Chan.Commands)
+        → Holds traced a (sight (D.left desk.old) (D.written desk.old) (D.shelf desk.old) (D.steady desk.old) (D.read_faults desk.old) (D.write_faults desk.old)) n before steps.old cutter.now feed.old
+        → Ends traced a before (sight (D.left desk.new) (D.written desk.new) (D.shelf desk.new) (D.steady desk.new) (D.read_faults desk.new) (D.write_faults desk.new)) steps.new result }
 {
     match cutter.piece() {
         Piece::Text(_, _) => give_answer(alloc, feed, cutter.text(), desk, steps),
-        Piece::NoEnd => say(desk, UNREADABLE),
+        Piece::NoEnd => give_answer(alloc, feed, from_first(cutter.bytes()), desk, steps),
         Piece::Empty => Ok(()),
     }
 }
@@ -83,17 +85,17 @@ fn refuse_more<D: Desk>(desk: &mut D) -> Result<(), Status>
 fn answer_all<D: Desk, L: Ledger>(
     alloc: Global,
     machine: Machine,
-    ops: Ops,
+    commands: Store,
     desk: &mut D,
     steps: &mut Steps<L>,
 ) -> Status
     requires steps { machine.steps ≡ 0 }
-    requires operators { ops ≡ iso_table }
-    ensures { Leaves (Some (Session (to_come machine))) result
+    requires reads { IsReader commands }
+    ensures { Leaves (Some (Session (traced_by machine))) result
         (sight (D.left desk.old) (D.written desk.old) (D.shelf desk.old) (D.steady desk.old) (D.read_faults desk.old) (D.write_faults desk.old))
         (sight (D.left desk.new) (D.written desk.new) (D.shelf desk.new) (D.steady desk.new) (D.read_faults desk.new) (D.write_faults desk.new)) steps.old steps.new }
 {
-    let mut feed = Feed::new(machine, ops);
+    let mut feed = Feed::new(machine, commands);
     let mut cutter = Cutter::new(alloc);
     for _ in 0..CHANNEL_LIMIT {
         match answer_byte(alloc, &mut feed, &mut cutter, desk, steps) {
@@ -110,19 +112,41 @@ fn answer_all<D: Desk, L: Ledger>(
     ended_as(Status::TooLong, refuse_more(desk))
 }
 
-// A machine that has made no step, and the operators that events are written with.
-fn begin(alloc: Global, store: Store, goal: Goal, budget: u64) -> Result<(Machine, Ops), Memory>
-    requires goal { IsQuery (length store.names) goal }
+// The bytes from the first one that isn't layout.
+fn from_first(bytes: &[u8]) -> &[u8]
+    ensures { result.now ≡ the_first bytes.now }
+{
+    for (i, byte) in bytes.iter().enumerate() {
+        if !is_layout(*byte) {
+            return &bytes[i..];
+        }
+    }
+    &[]
+}
+
+fn is_layout(byte: u8) -> bool
+    ensures { result ≡ is_gap (kind_of byte) }
+{
+    byte == b' ' || (9..=13).contains(&byte)
+}
+
+// A machine before the first turn of a goal's run, which may take `budget` steps, and a store that reads commands.
+fn begin(
+    alloc: Global,
+    store: Store,
+    goal: Goal,
+    budget: u64,
+) -> Result<(Machine, Store), Memory>
+    requires goal { IsSoundGoal (length store.names) goal }
     requires some { 1 ≤ budget }
     requires limit { budget ≤ 1000000000 }
-    ensures run { IfOk result (λ p. to_come p.0
-        ≡ run (record { budget = budget; wanted = 1 }) (goal_named store goal.body) goal.vars (loaded (clauses store))) }
+    ensures traced { IfOk result (λ p. traced_by p.0 ≡ traced_of budget (world_of store) (query_named store.names goal)) }
     ensures steps { IfOk result (λ p. p.0.steps ≡ 0) }
-    ensures operators { IfOk result (λ p. p.1 ≡ iso_table) }
+    ensures reads { IfOk result (λ p. IsReader p.1) }
 {
     let machine = Machine::start(alloc, store, &goal, budget, 1)?;
-    let ops = Ops::iso(alloc)?;
-    Ok((machine, ops))
+    let commands = Store::new(alloc, Locked::Analysis)?;
+    Ok((machine, commands))
 }
 
 /// A session over the run of a goal, which may take `budget` steps.
@@ -134,15 +158,15 @@ pub fn session<D: Desk, L: Ledger>(
     desk: &mut D,
     steps: &mut Steps<L>,
 ) -> Status
-    requires goal { IsQuery (length store.names) goal }
+    requires goal { IsSoundGoal (length store.names) goal }
     requires some { 1 ≤ budget }
     requires limit { budget ≤ 1000000000 }
-    ensures { Leaves (Some (Session (run (record { budget = budget; wanted = 1 }) (goal_named store goal.body) goal.vars (loaded (clauses store))))) result
+    ensures { Leaves (Some (Session (traced_of budget (world_of store) (query_named store.names goal)))) result
         (sight (D.left desk.old) (D.written desk.old) (D.shelf desk.old) (D.steady desk.old) (D.read_faults desk.old) (D.write_faults desk.old))
         (sight (D.left desk.new) (D.written desk.new) (D.shelf desk.new) (D.steady desk.new) (D.read_faults desk.new) (D.write_faults desk.new)) steps.old steps.new }
 {
     match begin(alloc, store, goal, budget) {
-        Ok((machine, ops)) => answer_all(alloc, machine, ops, desk, steps),
+        Ok((machine, commands)) => answer_all(alloc, machine, commands, desk, steps),
         Err(Memory) => Status::Memory,
     }
 }

@@ -1,9 +1,13 @@
-ghost use Rattle.std.specs.Prelude.{◌≡◌, ◌++◌, IfOk};
+ghost use Rattle.std.specs.Prelude.{◌≡◌, ◌++◌, length, IfOk};
+ghost use Rattle.op_store.specs.Queries.{fault_named, IsKnownFault};
+ghost use Rattle.opium.specs.Words.{fault_words as the_words, load_line as the_line};
 ghost use Rattle.opium.specs.Sight.{sight, Takes, Says, Reads, ended_as as ended_of};
 
 use crate::status::Status;
+use crate::words::{fault_words, load_line};
 use op_base::Memory;
 use op_desk::{Bytes, Chan, Desk, DeskFault, TakeFault, put_all, take_all};
+use op_store::{LoadFaultKind, Store};
 use std::alloc::Global;
 
 // How many bytes a file may have.
@@ -58,6 +62,39 @@ fn named_line(alloc: Global, before: &[u8], name: &str, behind: &[u8]) -> Result
     line.append(name.as_bytes())?;
     line.append(behind)?;
     Ok(line)
+}
+
+/// Writes the line of a refusal.
+pub fn say_load<D: Desk>(
+    alloc: Global,
+    desk: &mut D,
+    name: &str,
+    line: u64,
+    words: &[u8],
+) -> Result<(), Status>
+    ensures { Says (sight (D.left desk.old) (D.written desk.old) (D.shelf desk.old) (D.steady desk.old) (D.read_faults desk.old) (D.write_faults desk.old))
+        (sight (D.left desk.new) (D.written desk.new) (D.shelf desk.new) (D.steady desk.new) (D.read_faults desk.new) (D.write_faults desk.new)) (the_line name.now line words.now) result }
+{
+    let bytes = load_line(alloc, name, line, words)?;
+    say(desk, bytes.as_slice())
+}
+
+/// Writes the line of a term of a program or a goal that is refused.
+pub fn say_refused<D: Desk>(
+    alloc: Global,
+    desk: &mut D,
+    store: &Store,
+    name: &str,
+    line: u64,
+    kind: LoadFaultKind,
+) -> Result<(), Status>
+    requires { IsKnownFault (length store.now.names) kind }
+    ensures { Says (sight (D.left desk.old) (D.written desk.old) (D.shelf desk.old) (D.steady desk.old) (D.read_faults desk.old) (D.write_faults desk.old))
+        (sight (D.left desk.new) (D.written desk.new) (D.shelf desk.new) (D.steady desk.new) (D.read_faults desk.new) (D.write_faults desk.new))
+        (the_line name.now line (the_words (fault_named store.now.names kind))) result }
+{
+    let words = fault_words(alloc, store, kind)?;
+    say_load(alloc, desk, name, line, words.as_slice())
 }
 
 /// Takes a whole file, or None where it has more bytes than a file may have.

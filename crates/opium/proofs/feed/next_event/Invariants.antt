@@ -11,6 +11,7 @@ invariant-loop-ending g l = record {
   world : (to_come l.fn.machine).world ≡ (to_come l.machine).world;
   cost : l.steps ≡ l.fn.steps + (l.machine.steps - l.fn.machine.steps);
   later : l.fn.machine.steps ≤ l.machine.steps;
+  tables : l.machine.tables ≡ l.fn.machine.tables;
 }
 
 abbrev pub decreases-loop-ending : goal.decreases-loop-ending

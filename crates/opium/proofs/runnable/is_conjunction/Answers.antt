@@ -8,7 +8,7 @@ use Rattle.opium.proofs.runnable.is_conjunction.Goals as goal
 pub returns-then-arity-eq2 : goal.returns-then-arity-eq2
 returns-then-arity-eq2 g c =
     c.is_comma.ensures ∙ ap (λ (x : List ℕ). text_eq x (codes ",")) c.name_of.ensures
-    ∙ ap (λ (ns : List (List ℕ)). text_eq (name_at ns c.in-Struct.name.0) (codes ",")) c.symbols.ensures
+    ∙ ap (λ (ns : List (List ℕ)). text_eq (name_at ns c.in-Struct.name.0) (codes ",")) c.symbols.ensures.names
     ∙ conjunction-pair c.args.store.now.names (g.T.Tree.term c.args.tree.now c.args.at.now) c.in-Struct.name c.in-Struct.arity c.in-Struct.ensures c.if-arity-eq2.true
 
 pub returns-else-arity-eq2 : goal.returns-else-arity-eq2

@@ -28,4 +28,4 @@ loop-preserved g c =
 pub answer_rest-requires : goal.answer_rest-requires
 answer_rest-requires g c =
     let e = rw c.in-Ok-false.field-0-test at (c.in-Ok-false.ensures _ _ _ _ c.loop.invariant) in
-    e.0.feeds.operators
+    e.0.feeds.reads
