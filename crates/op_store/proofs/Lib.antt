@@ -16,3 +16,7 @@ mod Joining
 mod Converting
 pub mod Soundness
 mod Loading
+mod Shapes
+mod Listing
+mod Declaring
+mod Telling

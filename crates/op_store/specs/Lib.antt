@@ -17,3 +17,4 @@ pub mod Counted
 pub mod Converted
 pub mod Copied
 pub mod Stored
+pub mod Shapes

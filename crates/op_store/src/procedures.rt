@@ -1,4 +1,4 @@
-ghost use Rattle.std.specs.Prelude.{◌≡◌, [], ◌∷◌, Some, None, option_copied, IfOk, OnOk, OnErr, MatchOption};
+ghost use Rattle.std.specs.Prelude.{◌≡◌, [], ◌∷◌, length, take, Some, None, option_copied, option_map, IfOk, OnOk, OnErr, MatchOption};
 ghost use Rattle.op_store.specs.Rows.{row_in, with_row, extended_row, all_rules, no_rules};
 
 use crate::pi::Pi;
@@ -47,6 +47,16 @@ impl Procedures {
         self.rows.get(&pi)
     }
 
+    /// Whether a procedure is dynamic; None where there is no such procedure.
+    pub fn dynamic(&self, pi: Pi) -> Option<bool>
+        ensures { result ≡ option_map (λ p. p.dynamic) (row_in self.now pi) }
+    {
+        match self.find(pi) {
+            Some(procedure) => Some(procedure.dynamic),
+            None => None,
+        }
+    }
+
     /// Adds a clause at the end of its procedure. A new procedure is static.
     pub fn add(&mut self, pi: Pi, clause: Clause) -> Result<(), Memory>
         ensures ok { OnOk result (self.new ≡ with_row self.old pi (extended_row (row_in self.old pi) clause)) }
@@ -82,6 +92,21 @@ impl Procedures {
             },
         )?;
         Ok(())
+    }
+
+    /// How many procedures there are.
+    pub fn len(&self) -> u64
+        ensures { result ≡ length self.now }
+    {
+        self.rows.len() as u64
+    }
+
+    /// Drops the procedures that were seen last, but for so many.
+    pub fn truncate(&mut self, count: u64)
+        ensures { self.new ≡ take count self.old }
+    {
+        let count = count.min(self.rows.len() as u64);
+        self.rows.truncate(count as usize);
     }
 
     /// The clauses of all procedures, in time linear in their number.
