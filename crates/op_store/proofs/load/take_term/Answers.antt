@@ -25,5 +25,5 @@ returns-in-Clause-clause-tells c =
     let known : All (λ p. (p < length w.terms) × HasNames (length syms) (tree p)) (sentence_places (Clause c.in-Clause.head c.in-Clause.body)) = c.in-Clause.ensures.places in
     subst (λ (r : Result World Fault). TellsTerm c.add_clause.new.self c.add_clause.result r)
     (clause-read tree (λ p. p < length w.terms) old.locked (world_of old) old.names c.add_clause.new.self.names syms c.args.term.now c.root.result c.in-Clause.head c.in-Clause.body
-    c.symbols.ensures root c.add_clause.ensures.names c.requires known said)
+    c.symbols.ensures.names root c.add_clause.ensures.names c.requires known said)
     c.add_clause.ensures.tells
