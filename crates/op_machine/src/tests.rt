@@ -94,6 +94,57 @@ fn add_solution(text: &mut String, view: SolutionView<'_>) -> Result<(), AllocEr
     text.push_str("|")
 }
 
+// A store with a program's clauses.
+fn loaded(alloc: Global, program: &[u8]) -> Result<Store, Fail> {
+    let mut store = Store::new(alloc, Locked::Program)?;
+    store.load(program)?;
+    Ok(store)
+}
+
+// A machine before the first turn.
+fn begun(
+    alloc: Global,
+    program: &[u8],
+    goal: &[u8],
+    budget: u64,
+    wanted: u64,
+) -> Result<Machine, Fail>
+    requires least { 1 ≤ budget }
+    requires most { budget ≤ 1000000000 }
+{
+    let mut store = loaded(alloc, program)?;
+    let goal = store.goal(goal)?;
+    Ok(Machine::start(alloc, store, &goal, budget, wanted)?)
+}
+
+// Adds the machine's next turn, or its ending with the steps; whether the run goes on.
+fn add_turn<L: Ledger>(
+    text: &mut String,
+    machine: &mut Machine,
+    steps: &mut Steps<L>,
+) -> Result<bool, Fail> {
+    match machine.next(&mut Nothing, steps)? {
+        Turn::Event => {
+            if let Some(view) = machine.event() {
+                add_event(text, view)?;
+            }
+            Ok(true)
+        }
+        Turn::Solution => {
+            if let Some(view) = machine.solution() {
+                add_solution(text, view)?;
+            }
+            Ok(true)
+        }
+        Turn::Ended(ending) => {
+            let word = ending_word(ending);
+            let used = machine.used_steps();
+            write!(text, "{word} {used}")?;
+            Ok(false)
+        }
+    }
+}
+
 // The turns of a run, up to fifty, the ending and the steps.
 fn trace<L: Ledger>(
     alloc: Global,
@@ -110,29 +161,11 @@ fn trace<L: Ledger>(
     requires most { budget ≤ 1000000000 }
 {
     let mut steps = Steps::<L>::new(blank);
-    let mut store = Store::new(alloc, Locked::Program)?;
-    store.load(program)?;
-    let goal = store.goal(goal)?;
-    let mut machine = Machine::start(alloc, store, &goal, budget, wanted)?;
+    let mut machine = begun(alloc, program, goal, budget, wanted)?;
     let mut text = String::new(alloc);
     for _ in 0..50 {
-        match machine.next(&mut Nothing, &mut steps)? {
-            Turn::Event => {
-                if let Some(view) = machine.event() {
-                    add_event(&mut text, view)?;
-                }
-            }
-            Turn::Solution => {
-                if let Some(view) = machine.solution() {
-                    add_solution(&mut text, view)?;
-                }
-            }
-            Turn::Ended(ending) => {
-                let word = ending_word(ending);
-                let used = machine.used_steps();
-                write!(text, "{word} {used}")?;
-                return Ok(text);
-            }
+        if !add_turn(&mut text, &mut machine, &mut steps)? {
+            break;
         }
     }
     Ok(text)
@@ -301,10 +334,7 @@ fn count<L: Ledger>(
     requires most { budget ≤ 1000000000 }
 {
     let mut steps = Steps::<L>::new(blank);
-    let mut store = Store::new(alloc, Locked::Program)?;
-    store.load(program)?;
-    let goal = store.goal(goal)?;
-    let mut machine = Machine::start(alloc, store, &goal, budget, 1)?;
+    let mut machine = begun(alloc, program, goal, budget, 1)?;
     let mut text = String::new(alloc);
     let mut events: u64 = 0;
     for _ in 0..1000000 {

@@ -16,4 +16,8 @@ mod Joining
 mod Converting
 pub mod Soundness
 mod Loading
+mod Shapes
+mod Listing
+mod Declaring
+mod Telling
 pub mod GoalClauses

@@ -1,19 +1,21 @@
 -- What the calls of a store keep.
-use Rattle.std.proofs.Common.{◌≡◌, ℕ, zero, suc, ◌<◌, ◌≤◌, ◌==◌, ◌&&◌, max, Bool, true, false, List, [], ◌∷◌, ◌++◌, length, take, Option, Some, None, All, refl, sym, ap, ◌∙◌, subst, arith}
+use Rattle.std.proofs.Common.{◌≡◌, ℕ, zero, map, suc, ◌<◌, ◌≤◌, ◌==◌, ◌&&◌, max, Bool, true, false, List, [], ◌∷◌, ◌++◌, length, take, Option, Some, None, All, refl, sym, ap, ◌∙◌, subst, arith}
 use Rattle.std.specs.Prelude.{IfSome}
 use Rattle.std.proofs.lemmas.Bool.Decides.{Decides-eqb}
 use Rattle.std.proofs.lemmas.List.{length-take}
-use Rattle.std.proofs.lemmas.List.Elements.{All-push}
+use Rattle.std.proofs.lemmas.List.Elements.{All-push, All-head, All-tail}
 use Rattle.op_logic.proofs.Tests.{by_test, if_true, if_false}
-use Rattle.op_logic.specs.Term.{Term, var, int, node, IsWithin}
+use Rattle.op_logic.specs.Term.{Term, var, int, node, no_args, IsWithin}
 use Rattle.op_store.specs.Counted.{variable_count}
-use Rattle.op_logic.specs.Names.{IsTable, HasNames}
-use Rattle.op_trace.specs.World.{Text}
+use Rattle.op_logic.specs.Names.{IsTable, HasNames, named, name_at}
+use Rattle.op_logic.proofs.Naming.{named-more}
+use Rattle.op_trace.specs.World.{Text, Clause}
 use Rattle.op_bind.specs.declared.places.Clause.{Clause as Rule}
 use Rattle.op_store.specs.declared.pi.Pi.{Pi}
 use Rattle.op_store.specs.declared.procedure.Procedure.{Procedure as Row}
-use Rattle.op_store.specs.Rows.{Rows, pi_eq, row_in, with_row, extended_row, pi_of, IsRule, IsRow, AreRows}
-use Rattle.op_store.specs.Stored.{Stored, IsSound, with_rule, first_names}
+use Rattle.op_store.specs.Rows.{clause_named, row_named, key_named, rows_named, Rows, pi_eq, row_in, with_row, extended_row, pi_of, IsRule, IsRow, AreRows}
+use Rattle.op_store.specs.Stored.{Stored, IsSound, world_of, with_rule, first_names}
+use Rattle.op_store.specs.World.{World, Key, key, Procedure}
 use Rattle.op_store.specs.Parts.{body_variables}
 use Rattle.op_store.specs.Told.{with_names}
 use Rattle.op_store.proofs.Bodies.{has-more, kept-has, names-more}
@@ -65,7 +67,7 @@ same-pi a b h =
     rw name (rw arity refl)
 
 -- the name of a procedure with a clause is in the table
-key-below : (n : ℕ) (t : Term ℕ) (k : Pi) → pi_of t ≡ Some k → HasNames n t → k.name.0 < n
+pub key-below : (n : ℕ) (t : Term ℕ) (k : Pi) → pi_of t ≡ Some k → HasNames n t → k.name.0 < n
 key-below n (var v) k e h = absurd cc
 key-below n (int i) k e h = absurd cc
 key-below n (node f ts) k e h = subst (λ (o : Option Pi). IfSome o (λ k. k.name.0 < n)) e h.0
@@ -134,3 +136,34 @@ row-at n k (x ∷ xs) p h e =
     (λ y. let same : x.1 ≡ p = cc (sym (if_true (pi_eq k x.0) (Some x.1) (row_in xs k) y) ∙ e) in
     subst (λ (q : Row). IsRow n k q) same (subst (λ (i : Pi). IsRow n i x.1) (sym (same-pi k x.0 y)) h.0))
     (λ y. row-at n k xs p h.1 (sym (if_false (pi_eq k x.0) (Some x.1) (row_in xs k) y) ∙ e))
+
+-- names that grow name the clauses as before
+
+module _ (old new : List Text) (kept : take (length old) new ≡ old) where
+  name-kept : (f : ℕ) → f < length old → name_at new f ≡ name_at old f
+  name-kept f l = let e : named new (node f no_args) ≡ named old (node f no_args) = named-more old new kept (node f no_args) (l, tt) in cc
+
+  clause-kept : (k : Pi) (r : Rule) → IsRule (length old) k r → clause_named new r ≡ clause_named old r
+  clause-kept k r h =
+      ap (λ (t : Term Text). let c : Clause = record { id = r.id; head = t; body = named new r.body; variables = r.vars } in c) (named-more old new kept r.head h.head_names)
+      ∙ ap (λ (t : Term Text). let c : Clause = record { id = r.id; head = named old r.head; body = t; variables = r.vars } in c) (named-more old new kept r.body h.body_names)
+
+  clauses-kept : (k : Pi) (rs : List Rule) → All (λ r. IsRule (length old) k r) rs → map (clause_named new) rs ≡ map (clause_named old) rs
+  clauses-kept k [] h = refl
+  clauses-kept k (r ∷ rs) h =
+      ap (λ (c : Clause). c ∷ map (clause_named new) rs) (clause-kept k r (All-head (λ (r : Rule). IsRule (length old) k r) r rs h))
+      ∙ ap (λ (cs : List Clause). clause_named old r ∷ cs) (clauses-kept k rs (All-tail (λ (r : Rule). IsRule (length old) k r) r rs h))
+
+  row-kept : (k : Pi) (p : Row) → IsRow (length old) k p → row_named new p ≡ row_named old p
+  row-kept k p h = ap (λ (cs : List Clause). let q : Procedure = record { dynamic = p.dynamic; clauses = cs } in q) (clauses-kept k p.clauses h.rules)
+
+  rows-kept : (rows : Rows) → AreRows (length old) rows → rows_named new rows ≡ rows_named old rows
+  rows-kept [] h = refl
+  rows-kept (e ∷ es) h =
+      ap (λ (f : Text). (key f e.0.arity, row_named new e.1) ∷ rows_named new es) (name-kept e.0.name.0 h.0.name)
+      ∙ (ap (λ (p : Procedure). (key_named old e.0, p) ∷ rows_named new es) (row-kept e.0 e.1 h.0)
+      ∙ ap (λ (ps : List (Key × Procedure)). (key_named old e.0, row_named old e.1) ∷ ps) (rows-kept es h.1))
+
+pub world-kept : (s : Stored) (names : List Text) → take (length s.names) names ≡ s.names → IsSound s → world_of (with_names s names) ≡ world_of s
+world-kept s names kept h =
+    ap (λ (ps : List (Key × Procedure)). let w : World = record { procedures = ps; next = s.next; table = s.table; flags = s.flags } in w) (rows-kept s.names names kept s.rows h.rows)

@@ -1,5 +1,5 @@
 -- Directives (ISO/IEC 13211-1, 7.4.2): what they make of a world.
-use Rattle.std.specs.Prelude.{ℕ, pos, ℤ, Bool, true, false, List, [], ◌∷◌, ◌++◌, Option, Some, None, option_map, option_and_then, Result, Ok, Err, bytes_eq, codes, if◌then◌else◌}
+use Rattle.std.specs.Prelude.{ℕ, pos, negsuc, ℤ, nat_le, Bool, true, false, List, [], ◌∷◌, ◌++◌, Option, Some, None, option_map, option_and_then, Result, Ok, Err, bytes_eq, codes, if◌then◌else◌}
 use Rattle.op_logic.specs.Term.{Term, var, int, node, Args, no_args, arg}
 use Rattle.op_trace.specs.World.{Text}
 use Rattle.op_term.specs.Ops.{Table, set_in}
@@ -125,8 +125,14 @@ abbrev pub ops_set : ℤ → OpKind → Table → List Text → Result Table Fau
 ops_set p kind table [] = Ok table
 ops_set p kind table (f ∷ fs) = elim (set_in table p kind f) [ Ok t ↦ ops_set p kind t fs | Err e ↦ Err directive ]
 
+-- a priority, or 0, which stands for no operator
+abbrev pub is_priority : ℤ → Bool
+is_priority (pos n) = nat_le n 1200
+is_priority (negsuc n) = false
+
 abbrev pub with_ops : World → Option ℤ → Option OpKind → Option (List Text) → Result World Fault
-with_ops w (Some p) (Some kind) (Some names) = and_then (ops_set p kind w.table names) (λ table. Ok (record w { table = table }))
+with_ops w (Some p) (Some kind) (Some names) =
+    if is_priority p then and_then (ops_set p kind w.table names) (λ table. Ok (record w { table = table })) else Err directive
 with_ops w p kind names = Err directive
 
 -- flags

@@ -17,4 +17,5 @@ pub mod Counted
 pub mod Converted
 pub mod Copied
 pub mod Stored
+pub mod Shapes
 pub mod Snapshots

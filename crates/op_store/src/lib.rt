@@ -1,6 +1,7 @@
 //! The clauses of a program: what a text of a program loads, bodies of clauses and goals, and procedures by their names.
 #![tactic(auto)]
 
+mod atoms;
 mod body;
 mod body_fault;
 mod body_node;
@@ -14,17 +15,26 @@ mod connectives;
 mod convert;
 mod converted;
 mod copy;
+mod directive;
+mod entries;
 mod first_names;
+mod flag_words;
 mod flags;
 mod goal;
 mod goal_text;
+mod indicator;
 mod line;
 mod link;
+mod load;
 mod load_fault;
 mod locked;
+mod operators;
+mod pair;
 mod pi;
 mod procedure;
 mod procedures;
+mod sentence;
+mod shape;
 mod snapshot;
 mod store;
 mod term_fault;
@@ -42,5 +52,7 @@ pub use pi::Pi;
 pub use snapshot::Snapshot;
 pub use store::Store;
 
+#[cfg(test)]
+mod load_tests;
 #[cfg(test)]
 mod tests;

@@ -1,7 +1,7 @@
-ghost use Rattle.std.specs.Prelude.{◌≡◌, [], ◌∷◌, Some, None, option_copied, IfOk, OnOk, OnErr, MatchOption, length};
+ghost use Rattle.std.specs.Prelude.{◌≡◌, [], ◌∷◌, length, take, Some, None, option_copied, option_map, IfOk, OnOk, OnErr, MatchOption};
+ghost use Rattle.op_store.specs.Rows.{pi_eq, row_in, with_row, extended_row, all_rules, no_rules};
 ghost use Rattle.std.specs.List.{IsDistinct};
 ghost use Rattle.std.specs.Map.{keys_of};
-ghost use Rattle.op_store.specs.Rows.{pi_eq, row_in, with_row, extended_row, all_rules, no_rules};
 
 use crate::pi::Pi;
 use crate::procedure::Procedure;
@@ -49,12 +49,14 @@ impl Procedures {
         self.rows.get(&pi)
     }
 
-    /// How many procedures there are. None of them stands there twice.
-    pub fn count(&self) -> u64
-        ensures count { result ≡ length self.now }
-        ensures distinct { IsDistinct pi_eq (keys_of self.now) }
+    /// Whether a procedure is dynamic; None where there is no such procedure.
+    pub fn dynamic(&self, pi: Pi) -> Option<bool>
+        ensures { result ≡ option_map (λ p. p.dynamic) (row_in self.now pi) }
     {
-        self.rows.len() as u64
+        match self.find(pi) {
+            Some(procedure) => Some(procedure.dynamic),
+            None => None,
+        }
     }
 
     /// Adds a clause at the end of its procedure. A new procedure is static.
@@ -92,6 +94,22 @@ impl Procedures {
             },
         )?;
         Ok(())
+    }
+
+    /// How many procedures there are. None of them stands there twice.
+    pub fn len(&self) -> u64
+        ensures count { result ≡ length self.now }
+        ensures distinct { IsDistinct pi_eq (keys_of self.now) }
+    {
+        self.rows.len() as u64
+    }
+
+    /// Drops the procedures that were seen last, but for so many.
+    pub fn truncate(&mut self, count: u64)
+        ensures { self.new ≡ take count self.old }
+    {
+        let count = count.min(self.rows.len() as u64);
+        self.rows.truncate(count as usize);
     }
 
     /// The clauses of all procedures, in time linear in their number.

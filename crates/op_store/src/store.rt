@@ -1,5 +1,8 @@
 ghost use Rattle.std.specs.Prelude.{◌≡◌, ◌≢◌, ◌<◌, ℕ, [], length, take, map, option_map, Some, None, Ok, Err, IfOk, IfErr, IfSome, OnOk, OnErr, is_some, All};
-ghost use Rattle.op_logic.specs.Names.{IsTable, HasNames, named};
+ghost use Rattle.op_logic.specs.Names.{IsTable, HasNames, name_at, named};
+ghost use Rattle.op_reader.specs.Reading.{reading_of};
+ghost use Rattle.op_reader.specs.Passes.{Tells, HasKnownNames};
+ghost use Rattle.op_store.specs.Directives.{made_dynamic};
 ghost use Rattle.op_logic.specs.Term.{IsWithin, Term as SpecTerm};
 ghost use Rattle.op_trace.specs.World.{procedure};
 ghost use Rattle.op_store.specs.Counted.{variable_count};
@@ -22,6 +25,7 @@ use crate::first_names::first_symbols;
 use crate::flags::Flags;
 use crate::goal::Goal;
 use crate::goal_text::read_goal;
+use crate::load::load_all;
 use crate::load_fault::{LoadFault, LoadFaultKind};
 use crate::locked::Locked;
 use crate::pi::Pi;
@@ -30,8 +34,8 @@ use crate::snapshot::Snapshot;
 use crate::term_fault::TermFault;
 use op_base::Memory;
 use op_bind::Clause;
-use op_reader::DoubleQuotes;
-use op_term::{OpFault, OpKind, Ops, Symbols, Term, Tree};
+use op_reader::{DoubleQuotes, ReadFault, Reading, read_term};
+use op_term::{OpFault, OpKind, Ops, Sym, Symbols, Term, Tree};
 use std::alloc::Global;
 use std::marker::Model;
 
@@ -134,7 +138,7 @@ impl Store {
             → procedure (clauses_of_world (world_of self.now)) (named self.now.names g) ≡ map (clause_named self.now.names) (rules_in o)) }
     {
         let _names = self.symbols.count();
-        let _procedures = self.procedures.count();
+        let _procedures = self.procedures.len();
         match self.procedures.find(pi) {
             Some(procedure) => Ok(Some(procedure.clauses.copy()?)),
             None => Ok(None),
@@ -186,8 +190,7 @@ impl Store {
         ensures names { take (length self.old.names) self.new.names ≡ self.old.names }
         ensures locked { self.new.locked ≡ self.old.locked }
     {
-        let _text = text;
-        Err(LoadFault::Memory)
+        load_all(self.alloc, self, text)
     }
 
     /// Reads a goal, with a full stop of its own on a line behind it, and converts it. It is refused for syntax, for what stands behind
@@ -244,10 +247,81 @@ impl Store {
         ensures within { IfOk result (λ o. (n : ℕ) → IfSome body (λ b. IsWithin n (T.term tree.now b)) → IfSome o (IsWithin n)) }
         ensures kept { self.new ≡ with_names self.old self.new.names }
         ensures names { take (length self.old.names) self.new.names ≡ self.old.names }
+        ensures world { world_of self.new ≡ world_of self.old }
     {
         let made = clause_body(self.alloc, &mut self.symbols, tree, body);
         let _count = self.symbols.count();
         made
+    }
+
+    /// Reads the first term of some bytes. Names that were new stay.
+    pub(crate) fn read(&mut self, bytes: &[u8]) -> Result<Reading, ReadFault>
+        ensures tells { Tells self.new.names result (reading_of self.old.table self.old.flags.quotes bytes.now) }
+        ensures known { IfOk result (HasKnownNames (length self.new.names)) }
+        ensures kept { self.new ≡ with_names self.old self.new.names }
+        ensures names { take (length self.old.names) self.new.names ≡ self.old.names }
+        ensures world { world_of self.new ≡ world_of self.old }
+    {
+        let quotes = self.flags.quotes;
+        let reading = read_term(self.alloc, &self.ops, quotes, &mut self.symbols, bytes);
+        let _count = self.symbols.count();
+        reading
+    }
+
+    /// How many procedures there are.
+    pub(crate) fn procedure_count(&self) -> u64
+        ensures { result ≡ length self.now.rows }
+    {
+        self.procedures.len()
+    }
+
+    /// Forgets the procedures that were seen last, but for so many.
+    pub(crate) fn forget_procedures(&mut self, count: u64)
+        ensures { self.new ≡ record self.old { rows = take count self.old.rows } }
+    {
+        self.procedures.truncate(count);
+    }
+
+    /// Makes a procedure dynamic, which it stays.
+    pub(crate) fn make_dynamic(&mut self, pi: Pi) -> Result<(), TermFault>
+        requires { pi.name.0 < length self.old.names }
+        ensures tells { TellsTerm self.new result (made_dynamic self.old.locked (world_of self.old) (key_named self.old.names pi)) }
+        ensures kept { self.new ≡ record self.old { rows = self.new.rows } }
+        ensures front { take (length self.old.rows) self.new.rows ≡ self.old.rows }
+        ensures err { OnErr result (self.new ≡ self.old) }
+    {
+        if self.is_locked(pi) {
+            return Err(TermFault::Refused(LoadFaultKind::Locked(pi)));
+        }
+        match self.procedures.dynamic(pi) {
+            Some(true) => Ok(()),
+            Some(false) => Err(TermFault::Refused(LoadFaultKind::Directive)),
+            None => Ok(self.procedures.make_dynamic(pi)?),
+        }
+    }
+
+    /// Sets an operator, as `set_op` does.
+    pub(crate) fn set_operator(
+        &mut self,
+        priority: i64,
+        kind: OpKind,
+        name: Sym,
+    ) -> Result<(), OpFault>
+        requires { name.0 < length self.old.names }
+        ensures ok { OnOk result (set_in self.old.table priority kind (name_at self.old.names name.0) ≡ Ok self.new.table) }
+        ensures kept { self.new ≡ record self.old { table = self.new.table } }
+        ensures refused { IfErr result (λ e. e ≢ want_of_memory → set_in self.old.table priority kind (name_at self.old.names name.0) ≡ Err e) }
+        ensures err { OnErr result (self.new ≡ self.old) }
+    {
+        self.ops.set(priority, kind, self.symbols.name_of(name))
+    }
+
+    /// Puts another table of operators in place.
+    pub(crate) fn put_ops(&mut self, ops: Ops)
+        ensures { self.new ≡ record self.old { table = ops } }
+    {
+        let _ = ops.prefix("");
+        self.ops = ops;
     }
 
     /// Adds the clause of a head and a body, which a fact hasn't. It is refused for its head, then its body, then its name.
@@ -261,11 +335,14 @@ impl Store {
         requires head_names { HasNames (length self.old.names) (T.term tree.now head.now) }
         requires body { IfSome body (λ b. T.IsPlace tree.now b) }
         requires body_names { IfSome body (λ b. HasNames (length self.old.names) (T.term tree.now b)) }
-        ensures tells { TellsTerm (with_names self.old self.new.names) self.new result
-            (with_parts self.old.locked (world_of (with_names self.old self.new.names)) (named self.new.names (T.term tree.now head.now))
+        ensures tells { TellsTerm self.new result
+            (with_parts self.old.locked (world_of self.old) (named self.new.names (T.term tree.now head.now))
             (body_variables (λ p. variable_count (T.term tree.now p)) head.now body) (key_of (named self.new.names (T.term tree.now head.now)))
             (converted (body_text (λ p. named self.new.names (T.term tree.now p)) body)).body) }
         ensures names { take (length self.old.names) self.new.names ≡ self.old.names }
+        ensures locked { self.new.locked ≡ self.old.locked }
+        ensures err { OnErr result (self.new ≡ with_names self.old self.new.names) }
+        ensures world { OnErr result (world_of self.new ≡ world_of self.old) }
     {
         let Some(pi) = procedure_of(tree, head) else {
             return Err(TermFault::Refused(LoadFaultKind::Head));

@@ -55,7 +55,7 @@ returns-in_ok-copy-in-Some-clause-procedure c =
     let o : Option (List Rule) = Some c.in_ok-copy-in-Some.field-0 in
     let is : option_map (λ (p : Row). p.clauses) (row_in s.rows c.args.pi) ≡ o =
     ap (option_map (λ (p : Row). p.clauses)) (sym c.in-Some.ensures) ∙ ap Some (sym c.in_ok-copy-in-Some.ensures) in
-    let h : Gives s c.args.pi o = λ g e. procedure-found s c.self.invariant c.count-procedures.ensures.distinct g c.args.pi e ∙ ap (λ (x : Option (List Rule)). map (clause_named s.names) (rules_in x)) is in
+    let h : Gives s c.args.pi o = λ g e. procedure-found s c.self.invariant c.len-procedures.ensures.distinct g c.args.pi e ∙ ap (λ (x : Option (List Rule)). map (clause_named s.names) (rules_in x)) is in
     subst (λ (x : Stored). Gives x c.args.pi o) c.self.view_is h
 
 pub returns-in-None-clause-procedure : goal.returns-in-None-clause-procedure
@@ -63,5 +63,5 @@ returns-in-None-clause-procedure c =
     let i = c.self.inside in
     let s : Stored = record { locked = i.locked; names = i.symbols; table = i.ops; flags = i.flags; rows = i.procedures; next = i.next } in
     let is : option_map (λ (p : Row). p.clauses) (row_in s.rows c.args.pi) ≡ None = ap (option_map (λ (p : Row). p.clauses)) (sym c.in-None.ensures) in
-    let h : Gives s c.args.pi None = λ g e. procedure-found s c.self.invariant c.count-procedures.ensures.distinct g c.args.pi e ∙ ap (λ (x : Option (List Rule)). map (clause_named s.names) (rules_in x)) is in
+    let h : Gives s c.args.pi None = λ g e. procedure-found s c.self.invariant c.len-procedures.ensures.distinct g c.args.pi e ∙ ap (λ (x : Option (List Rule)). map (clause_named s.names) (rules_in x)) is in
     subst (λ (x : Stored). Gives x c.args.pi None) c.self.view_is h
