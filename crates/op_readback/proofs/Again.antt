@@ -21,6 +21,7 @@ use Rattle.op_writer.specs.Text.{within, text_of}
 use Rattle.op_readback.proofs.Marks.{Mark, marks_of, IsWritten, AreWritten}
 use Rattle.op_readback.specs.Rows.{row_of}
 use Rattle.op_readback.specs.ReadBack.{IsClosed, AreClosed, HasNoLetter, HaveNoLetter, IsReadBack}
+use Rattle.op_readback.proofs.Letters.{no-letter-of}
 use Rattle.op_readback.proofs.Lexed.{Known, tokens}
 use Rattle.op_readback.proofs.Worded.{firsts, k_words}
 use Rattle.op_readback.proofs.Outcomes.{known_outcome, quoted-reads, canonical-reads}
@@ -64,7 +65,7 @@ mutual
   quoted-written : (t : Term Text) → IsClosed t → HasNoLetter t → IsWritten Quoted t
   quoted-written (var v) h g = h
   quoted-written (int i) h g = h
-  quoted-written (node f ts) h g = (h.0, g.0, all-quoted ts h.1 g.1)
+  quoted-written (node f ts) h g = (h.0, no-letter-of f ts g.0, all-quoted ts h.1 g.1)
 
   all-quoted : (ts : Args Text) → AreClosed ts → HaveNoLetter ts → AreWritten Quoted ts
   all-quoted no_args h g = tt

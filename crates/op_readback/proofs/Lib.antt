@@ -6,6 +6,7 @@ mod Marked
 mod Spelled
 mod Numbers
 mod Heads
+mod Letters
 mod Lexed
 mod Worded
 mod Knowing

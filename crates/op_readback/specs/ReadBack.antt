@@ -1,13 +1,12 @@
 -- A term's text, a space and a full stop are read as that term (ISO/IEC 13211-1, 7.10.5 and 6.2).
-use Rattle.std.specs.Prelude.{◌≡◌, ◌<◌, ◌^◌, ℕ, ℤ, pos, negsuc, List, [], ◌++◌, length, None, codes}
+use Rattle.std.specs.Prelude.{◌≡◌, ◌<◌, ◌^◌, ℕ, ℤ, pos, negsuc, List, [], ◌++◌, length, codes}
 use Rattle.std.specs.Str.{IsUtf8}
 use Rattle.op_logic.specs.Term.{Term, var, int, node, Args, no_args, arg}
 use Rattle.op_term.specs.Ops.{Table}
 use Rattle.op_reader.specs.declared.quotes.DoubleQuotes.{DoubleQuotes}
 use Rattle.op_reader.specs.Reading.{term, reading_of}
 use Rattle.op_writer.specs.declared.style.Style.{Style}
-use Rattle.op_writer.specs.declared.style.Style.TheVariants.{Quoted}
-use Rattle.op_writer.specs.Text.{text_of, letter_of}
+use Rattle.op_writer.specs.Text.{text_of}
 
 -- an integer of 64 bits
 abbrev pub IsSmall : ℤ → Type 0
@@ -25,12 +24,19 @@ abbrev mutual
   AreClosed no_args = Unit {0}
   AreClosed (arg t ts) = IsClosed t × AreClosed ts
 
--- no '$VAR'(N) with N of 0 or more, which the quoted style writes as a variable's name
+-- the compound '$VAR'(N), with N of 0 or more
+abbrev pub letter_term : ℕ → Term (List ℕ)
+letter_term n = node (codes "$VAR") (arg (int (pos n)) no_args)
+
+abbrev pub IsNoLetter : Term (List ℕ) → Type 0
+IsNoLetter t = (n : ℕ) → t ≡ letter_term n → ⊥
+
+-- no part is such a compound, which the quoted style writes as a variable's name
 abbrev mutual
   pub HasNoLetter : Term (List ℕ) → Type 0
   HasNoLetter (var v) = Unit {0}
   HasNoLetter (int i) = Unit {0}
-  HasNoLetter (node f ts) = (letter_of Quoted f ts ≡ None) × HaveNoLetter ts
+  HasNoLetter (node f ts) = IsNoLetter (node f ts) × HaveNoLetter ts
 
   pub HaveNoLetter : Args (List ℕ) → Type 0
   HaveNoLetter no_args = Unit {0}

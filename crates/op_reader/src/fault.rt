@@ -2,10 +2,12 @@ use op_base::Memory;
 use op_token::TokenFaultKind;
 use std::alloc::{AllocError, AllocFailed};
 
-/// Why a clause's text was refused. Of several causes the first of this list is told.
+/// Why a clause's text was refused. Of several causes the first of this list is told, but for one: an integer that only a `-` could have
+/// made one, and none did, comes last of all, behind Priority.
 #[derive(Clone, Copy, Debug, PartialEq, Eq)]
 pub enum ReadFaultKind {
-    /// No token begins at the place; for NumberRange, also an integer that only a `-` could have made one.
+    /// No token begins at the place; for NumberRange, also, in a term without another fault, the first integer of magnitude
+    /// 9223372036854775808 that no `-` made negative.
     Token(TokenFaultKind),
     /// No end token; the place is the length of the bytes.
     NoEnd,

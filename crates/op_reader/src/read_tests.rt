@@ -20,6 +20,44 @@ fn name_of(symbols: &Symbols, sym: Sym) -> &str {
     }
 }
 
+fn is_symbol(byte: u8) -> bool {
+    b"+-*/\\^<>=~:.?@#&$".as_slice().contains(&byte)
+}
+
+fn is_word(byte: u8) -> bool {
+    byte.is_ascii_alphanumeric() || byte == b'_'
+}
+
+// A name that no other name, number or variable is shown as.
+fn is_bare(name: &str) -> bool {
+    let bytes = name.as_bytes();
+    if bytes.is_empty() {
+        return false;
+    }
+    name == "[]"
+        || name == "{}"
+        || name == "!"
+        || name == ";"
+        || name == ","
+        || (bytes[0].is_ascii_lowercase() && bytes.iter().all(|b| is_word(*b)))
+        || bytes.iter().all(|b| is_symbol(*b))
+}
+
+// A name, in quotes unless it is bare; a quote in it is doubled.
+fn show_name(name: &str, out: &mut String) -> Result<(), AllocError> {
+    if is_bare(name) {
+        return out.push_str(name);
+    }
+    out.push_str("'")?;
+    for c in name.chars() {
+        if c == '\'' {
+            out.push_str("'")?;
+        }
+        out.push(c)?;
+    }
+    out.push_str("'")
+}
+
 fn show_parts(nodes: &Builder, at: u64, stack: &mut Vec<ToShow>) -> Result<(), AllocError> {
     if at >= nodes.len() {
         return Ok(());
@@ -50,9 +88,9 @@ fn show_node(
     match nodes.node(at) {
         Node::Var(n) => out.push_str(format!(in alloc; "_{n}")?.as_str()),
         Node::Int(i) => out.push_str(format!(in alloc; "{i}")?.as_str()),
-        Node::Atom(name) => out.push_str(name_of(symbols, name)),
+        Node::Atom(name) => show_name(name_of(symbols, name), out),
         Node::Struct(name, _) => {
-            out.push_str(name_of(symbols, name))?;
+            show_name(name_of(symbols, name), out)?;
             out.push_str("(")?;
             show_parts(nodes, at, stack)
         }
@@ -236,8 +274,8 @@ fn part_4(rt: &impl Abort, alloc: Global) -> Result<(), Fail> {
         (b"f(a=b,c).", "f(=(a,b),c) 9"),
         (b"f((a,b)).", "f(,(a,b)) 9"),
         (b"f(g(h(a))).", "f(g(h(a))) 11"),
-        (b"'hello world'('A').", "hello world(A) 19"),
-        (b"'a''b\\x41\\c'.", "a'bAc 13"),
+        (b"'hello world'('A').", "'hello world'('A') 19"),
+        (b"'a''b\\x41\\c'.", "'a''bAc' 13"),
         (b"[].", "[] 3"),
         (b"[ ].", "[] 4"),
         (b"[ /* c */ ].", "[] 12"),
@@ -496,6 +534,52 @@ fn part_15(rt: &impl Abort, alloc: Global) -> Result<(), Fail> {
     Ok(())
 }
 
+fn part_16(rt: &impl Abort, alloc: Global) -> Result<(), Fail> {
+    let ops = Ops::iso(alloc)?;
+    let table: [(&[u8], &str); 12] = [
+        (b"a=b=c d.", "no_operand 6"),
+        (b"a \xff .", "token BadChar 2"),
+        (b"'\xff'.", "token BadChar 1"),
+        (b"a=b=c \xff .", "token BadChar 6"),
+        (b"-0x8000000000000000.", "-9223372036854775808 20"),
+        (b"0x8000000000000000.", "token NumberRange 0"),
+        (b"-09223372036854775808.", "-9223372036854775808 22"),
+        (b"'f(a)'.", "'f(a)' 7"),
+        (b"'_0'.", "'_0' 5"),
+        (b"'-1'.", "'-1' 5"),
+        (b"''.", "'' 3"),
+        (b"f('','').", "f('','') 9"),
+    ];
+    for (text, expected) in table {
+        agrees(rt, alloc, &ops, DoubleQuotes::Codes, text, expected)?;
+    }
+    Ok(())
+}
+
+// Where `-` is no prefix operator.
+fn part_17(rt: &impl Abort, alloc: Global) -> Result<(), Fail> {
+    let mut ops = Ops::iso(alloc)?;
+    set(&mut ops, 0, OpKind::Fy, "-")?;
+    let table: [(&[u8], &str); 12] = [
+        (b"a - 1.", "-(a,1) 6"),
+        (b"a -1.", "-(a,1) 5"),
+        (b"-1.", "-1 3"),
+        (b"- 1.", "no_operand 2"),
+        (b"-(1).", "-(1) 5"),
+        (b"- a.", "no_operand 2"),
+        (b"a = - .", "=(a,-) 7"),
+        (b"- = a.", "=(-,a) 6"),
+        (b"\\+ - a.", "-(\\+,a) 7"),
+        (b"\\+ -1.", "\\+(-1) 6"),
+        (b"\\+ -(1).", "\\+(-(1)) 8"),
+        (b"a - -1.", "-(a,-1) 7"),
+    ];
+    for (text, expected) in table {
+        agrees(rt, alloc, &ops, DoubleQuotes::Codes, text, expected)?;
+    }
+    Ok(())
+}
+
 // A piece so many times, a middle, and another piece so many times.
 fn repeated(
     alloc: Global,
@@ -590,6 +674,8 @@ fn clauses(rt: HostRuntime) -> Result<(), Fail> {
     part_13(&rt, alloc)?;
     part_14(&rt, alloc)?;
     part_15(&rt, alloc)?;
+    part_16(&rt, alloc)?;
+    part_17(&rt, alloc)?;
     Ok(())
 }
 
@@ -605,6 +691,14 @@ fn text_by_the_flag(rt: HostRuntime) -> Result<(), Fail> {
         b"\"ab\".",
         ".(a,.(b,[])) 5",
     )?;
-    agrees(&rt, alloc, &ops, DoubleQuotes::Atom, b"\"a b\".", "a b 6")?;
+    agrees(
+        &rt,
+        alloc,
+        &ops,
+        DoubleQuotes::Chars,
+        b"\"a\xc3\xa9\".",
+        ".(a,.('é',[])) 6",
+    )?;
+    agrees(&rt, alloc, &ops, DoubleQuotes::Atom, b"\"a b\".", "'a b' 6")?;
     Ok(())
 }

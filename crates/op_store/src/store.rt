@@ -200,6 +200,7 @@ impl Store {
         ensures sound { IfOk result (IsSoundGoal (length self.new.names)) }
         ensures kept { self.new ≡ record self.old { names = self.new.names } }
         ensures names { take (length self.old.names) self.new.names ≡ self.old.names }
+        ensures world { world_of self.new ≡ world_of self.old }
     {
         let goal = read_goal(self.alloc, &self.ops, self.flags, &mut self.symbols, text);
         let _count = self.symbols.count();
@@ -213,6 +214,7 @@ impl Store {
         ensures refused { IfErr result (IsSoundFault (length self.new.names)) }
         ensures kept { self.new ≡ record self.old { names = self.new.names } }
         ensures names { take (length self.old.names) self.new.names ≡ self.old.names }
+        ensures world { world_of self.new ≡ world_of self.old }
     {
         let goal = read_command(self.alloc, &self.ops, self.flags, &mut self.symbols, text);
         let _count = self.symbols.count();

@@ -1,11 +1,11 @@
--- A part of a text that is longer than a line is cut as the text.
-use Rattle.std.proofs.Common.{◌≡◌, ◌<◌, ◌≤◌, ◌-◌, ℕ, zero, suc, Bool, true, false, cond, ◌&&◌, List, ◌++◌, length, take, get_or, leb, ltb, refl, sym, ◌∙◌, ap, arith, length-append}
+-- The front of a text is cut as the text.
+use Rattle.std.proofs.Common.{◌≡◌, ◌<◌, ◌≤◌, ◌+◌, ◌-◌, ℕ, zero, suc, Bool, true, false, cond, ◌&&◌, List, ◌++◌, length, take, drop, get_or, leb, ltb, refl, sym, ◌∙◌, ap, arith}
 use Rattle.std.specs.Prelude.{codes}
-use Rattle.std.proofs.lemmas.List.{get_or_append_left, take-append-le, append-nil}
+use Rattle.std.proofs.lemmas.List.{get_or_append_left, take-append-le, take-append-drop}
 use Rattle.std.proofs.lemmas.Bool.{lt-leb}
 use Rattle.op_logic.proofs.Tests.{by_test, by_order, if_true, if_false}
-use Rattle.op_writer.specs.Cut.{boundary, cut}
-use Rattle.op_writer.specs.Stack.{IsFront}
+use Rattle.op_writer.specs.Cut.{boundary, cut, front_of}
+use Rattle.op_writer.proofs.Fronts.{front-whole, front-longer}
 
 abbrev continues : List ℕ → ℕ → Bool
 continues t n = leb 128 (get_or t n 0) && ltb (get_or t n 0) 192
@@ -44,26 +44,20 @@ boundary-front b more (suc n) l =
     ∙ (ap (λ (x : ℕ). cond (leb 128 x && ltb x 192) (boundary (b ++ more) n) (suc n)) same
     ∙ (ap (λ (x : ℕ). cond (continues b (suc n)) x (suc n)) h ∙ sym (boundary-suc b n)))
 
--- a part within the limit is the whole
-pub front-whole : (limit : ℕ) (b t : List ℕ) → IsFront limit b t → length b ≤ limit → t ≡ b
-front-whole limit b t f l = f.1.0 ∙ (ap (λ (m : List ℕ). b ++ m) (f.1.1 l) ∙ append-nil b)
+cut-whole : (b t : List ℕ) → b ≡ front_of 4096 t → length b ≤ 4096 → cut t ≡ cut b
+cut-whole b t e l = ap cut (sym (front-whole 4096 b t e l))
 
--- and one that is longer says that the whole is longer
-pub front-longer : (limit : ℕ) (b t : List ℕ) → IsFront limit b t → limit < length b → limit < length t
-front-longer limit b t f l = omega (arith, l, ap length f.1.0, length-append b f.0)
-
-cut-whole : (b t : List ℕ) → IsFront 4096 b t → length b ≤ 4096 → cut t ≡ cut b
-cut-whole b t f l = ap cut (front-whole 4096 b t f l)
-
-cut-longer : (b t : List ℕ) → IsFront 4096 b t → 4096 < length b → cut t ≡ cut b
-cut-longer b t f l =
-    let longer = front-longer 4096 b t f l in
-    let same : boundary t 4096 ≡ boundary b 4096 = ap (λ (x : List ℕ). boundary x 4096) f.1.0 ∙ boundary-front b f.0 4096 l in
+cut-longer : (b t : List ℕ) → b ≡ front_of 4096 t → 4096 < length b → cut t ≡ cut b
+cut-longer b t e l =
+    let longer = front-longer 4096 b t e l in
+    let more = drop (1 + 4096) t in
+    let f : t ≡ b ++ more = sym (ap (λ (x : List ℕ). x ++ more) e ∙ take-append-drop (1 + 4096) t) in
+    let same : boundary t 4096 ≡ boundary b 4096 = ap (λ (x : List ℕ). boundary x 4096) f ∙ boundary-front b more 4096 l in
     let short : take (boundary t 4096) t ≡ take (boundary b 4096) b =
-    ap (λ (n : ℕ). take n t) same ∙ (ap (take (boundary b 4096)) f.1.0 ∙ take-append-le (boundary b 4096) b f.0 (omega (arith, boundary-le b 4096, l))) in
+    ap (λ (n : ℕ). take n t) same ∙ (ap (take (boundary b 4096)) f ∙ take-append-le (boundary b 4096) b more (omega (arith, boundary-le b 4096, l))) in
     if_false (leb (length t) 4096) t (take (boundary t 4096) t ++ codes "...") (lt-leb (length t) 4096 longer)
     ∙ (ap (λ (x : List ℕ). x ++ codes "...") short ∙ sym (if_false (leb (length b) 4096) b (take (boundary b 4096) b ++ codes "...") (lt-leb (length b) 4096 l)))
 
--- a part that is longer than a line is cut as the whole
-pub cut-front : (b t : List ℕ) → IsFront 4096 b t → cut t ≡ cut b
-cut-front b t f = by_order 4096 (length b) (cut-longer b t f) (cut-whole b t f)
+-- the front of a text is cut as the text
+pub cut-front : (b t : List ℕ) → b ≡ front_of 4096 t → cut t ≡ cut b
+cut-front b t e = by_order 4096 (length b) (cut-longer b t e) (cut-whole b t e)

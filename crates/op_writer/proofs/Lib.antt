@@ -3,5 +3,7 @@ mod Terms
 mod Forms
 mod Letters
 mod Expanding
+mod Fronts
+mod Quotes
 mod Cutting
 mod Named

@@ -6,7 +6,7 @@ use Rattle.op_writer.specs.Signs.{is_symbol, is_word, is_small, is_control}
 use Rattle.op_writer.specs.declared.style.Style.{Style}
 use Rattle.op_writer.specs.declared.style.Style.TheVariants.{Plain, Quoted, Canonical}
 
--- symbol characters alone, one at least
+-- symbol characters alone, one at least: an empty name isn't made of symbol characters
 abbrev pub is_symbolic : List ℕ → Bool
 is_symbolic [] = false
 is_symbolic (b ∷ bs) = is_symbol b && list_all is_symbol bs
@@ -16,10 +16,11 @@ abbrev pub is_word_name : List ℕ → Bool
 is_word_name [] = false
 is_word_name (b ∷ bs) = is_small b && list_all is_word bs
 
+-- the other names that stand without quotes: [] {} ! ;
 abbrev pub is_solo : List ℕ → Bool
 is_solo name = bytes_eq name (codes "[]") || bytes_eq name (codes "{}") || bytes_eq name (codes "!") || bytes_eq name (codes ";")
 
--- the full stop, and what begins a comment
+-- symbol characters that are quoted all the same: the name . alone, and the names that begin with /* as a comment does
 abbrev pub is_other_token : List ℕ → Bool
 is_other_token name = bytes_eq name (codes ".") || bytes_eq (take 2 name) (codes "/*")
 
@@ -35,7 +36,8 @@ digit d = if nat_lt d 10 then 48 + d else 87 + d
 abbrev pub hexadecimal : ℕ → List ℕ
 hexadecimal c = if nat_lt c 16 then digit c ∷ [] else digit (c / 16) ∷ digit (c % 16) ∷ []
 
--- a character inside quotes
+-- a character inside quotes: newline, tab, the backslash and the quote have escapes of their own; every other control character stands by
+-- its number in hexadecimal, between \x and \ ; each further character is itself
 abbrev pub escaped : ℕ → List ℕ
 escaped c =
     if c == 10 then codes "\\n" else
@@ -44,6 +46,7 @@ escaped c =
     if c == 39 then codes "\\'" else
     if is_control c then codes "\\x" ++ hexadecimal c ++ codes "\\" else encode_utf8 c
 
+-- a name in quotes: its characters, each as it stands inside, between two quotes
 abbrev pub quoted : List ℕ → List ℕ
 quoted name = codes "'" ++ flat_map escaped (chars name) ++ codes "'"
 

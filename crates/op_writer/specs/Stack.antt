@@ -118,7 +118,3 @@ module _ {P : Type 0} (term : P → Term ℕ) where
     pub same : pieces w new ≡ pieces_of w item ++ pieces w old
     pub less : weights new < weight item + weights old
     pub good : AreGood IsPlace (length w.names) new
-
--- a text, or, where it is longer than a limit, a part of it from its beginning on that is longer too
-abbrev pub IsFront : ℕ → List ℕ → List ℕ → Type 0
-IsFront limit front text = (more : List ℕ) × ((text ≡ front ++ more) × (length front ≤ limit → more ≡ []))

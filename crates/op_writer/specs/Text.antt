@@ -68,19 +68,22 @@ is_operator ops f = is_some (prefix_in ops f) || is_some (infix_in ops f) || is_
 abbrev pub atom_pieces : Table → Style → List ℕ → Bound → List Piece
 atom_pieces ops style f bound = bracketed (is_operand bound && is_operator ops f) (sign (name_text style f))
 
--- the comma, ; and symbol characters stand without spaces, other infix operators between two
+-- an infix operator: the comma is written as it is in every style, and , and ; and what is written in symbol characters alone have no spaces
+-- of their own; every other one stands between two spaces, also one with an empty name or in quotes
 abbrev pub infix_pieces : Style → List ℕ → List Piece
 infix_pieces style f =
     if bytes_eq f (codes ",") then sign f else
     if bytes_eq f (codes ";") || is_symbolic (name_text style f) then sign (name_text style f) else
     sign (codes " ") ++ sign (name_text style f) ++ sign (codes " ")
 
--- symbol characters stand without a space of their own, other prefix operators before one
+-- a prefix operator: what is written in symbol characters alone has no space of its own; every other one has a space behind it, also one
+-- with an empty name or in quotes
 abbrev pub prefix_pieces : Style → List ℕ → List Piece
 prefix_pieces style f =
     if is_symbolic (name_text style f) then prefix_operator (name_text style f) ∷ [] else
     sign (name_text style f) ++ sign (codes " ")
 
+-- a postfix operator always has a space before it, also one of symbol characters
 abbrev pub postfix_pieces : Style → List ℕ → List Piece
 postfix_pieces style f = sign (codes " ") ++ sign (name_text style f)
 
@@ -140,18 +143,26 @@ abbrev pub further : List Form → List Piece
 further [] = sign (codes ")")
 further (f ∷ fs) = sign (codes ",") ++ f (within argument) ++ further fs
 
+-- functional notation: the name, and directly behind it the arguments in brackets, with a comma and no space between two; a name without
+-- arguments stands alone
 abbrev pub functional : List ℕ → List Form → List Piece
 functional name [] = sign name
 functional name (f ∷ fs) = sign name ++ sign (codes "(") ++ f (within argument) ++ further fs
 
--- a compound within a bound
+-- a compound within a bound; operands are within their operator's bounds, and brackets stand round where its priority passes the bound
 abbrev pub compound : Style → List ℕ → List Form → Bound → Notation → List Piece
+-- a list: its first element within 999, and the rest, in square brackets
 compound style f (a ∷ b ∷ []) bound Listed = sign (codes "[") ++ a (within argument) ++ b rest
+-- an infix operator between its operands
 compound style f (a ∷ b ∷ []) bound (Infix m) =
     bracketed (not (fits bound m)) (a (within (left_of m)) ++ infix_pieces style f ++ b (within (right_of m)))
+-- a term in braces, within 1200
 compound style f (a ∷ []) bound Braces = sign (codes "{") ++ a (within (Whole 1200)) ++ sign (codes "}")
+-- a prefix operator before its operand
 compound style f (a ∷ []) bound (Before m) = bracketed (not (fits bound m)) (prefix_pieces style f ++ a (within (right_of m)))
+-- a postfix operator behind its operand
 compound style f (a ∷ []) bound (Behind m) = bracketed (not (fits bound m)) (a (within (left_of m)) ++ postfix_pieces style f)
+-- every other compound: functional notation, in any bound
 compound style f fs bound notation = functional (name_text style f) fs
 
 -- the rest of a list: a further element behind a comma, the end, or another term behind a bar
@@ -159,18 +170,22 @@ abbrev pub rest_of : List Form → Notation → List Piece → List Piece
 rest_of (a ∷ b ∷ []) Listed other = sign (codes ",") ++ a (within argument) ++ b rest
 rest_of fs notation other = sign (codes "|") ++ other ++ sign (codes "]")
 
+-- what is written in one piece, and never in brackets: a variable, an integer, a letter; as the rest of a list it stands behind a bar
 abbrev pub leaf : List ℕ → Form
 leaf t (within bound) = sign t
 leaf t rest = sign (codes "|") ++ sign t ++ sign (codes "]")
 
+-- an atom; as the rest of a list [] ends it, and every other atom stands behind a bar as an argument does
 abbrev pub atom_form : Table → Style → List ℕ → Form
 atom_form ops style f (within bound) = atom_pieces ops style f bound
 atom_form ops style f rest = if bytes_eq f (codes "[]") then sign (codes "]") else sign (codes "|") ++ atom_pieces ops style f argument ++ sign (codes "]")
 
+-- a compound within a bound, or as the rest of a list
 abbrev pub compound_form : Style → List ℕ → List Form → Notation → Form
 compound_form style f fs notation (within bound) = compound style f fs bound notation
 compound_form style f fs notation rest = rest_of fs notation (compound style f fs argument notation)
 
+-- a name with its arguments: an atom without any, a letter where it has one, else a compound
 abbrev pub named_form : Table → Style → List ℕ → Args (List ℕ) → Option ℕ → List Form → Form
 named_form ops style f ts letter [] = atom_form ops style f
 named_form ops style f ts (Some n) fs = leaf (letter_text n)
@@ -178,8 +193,11 @@ named_form ops style f ts None fs = compound_form style f fs (notation_of ops st
 
 abbrev mutual
   pub form_of : Table → Style → Term (List ℕ) → Form
+  -- a variable: _ and its number
   form_of ops style (var n) = leaf (codes "_" ++ decimal n)
+  -- an integer: in decimal, a negative one behind -
   form_of ops style (int i) = leaf (signed_decimal i)
+  -- a name with its arguments
   form_of ops style (node f ts) = named_form ops style f ts (letter_of style f ts) (forms_of ops style ts)
 
   pub forms_of : Table → Style → Args (List ℕ) → List Form

@@ -39,7 +39,8 @@ fn shortened(alloc: Global, text: &[u8]) -> Result<Bytes, Memory>
     Ok(line)
 }
 
-fn beginning(text: &[u8], end: usize) -> &[u8]
+/// The first bytes of a text.
+pub fn beginning(text: &[u8], end: usize) -> &[u8]
     requires { end ≤ length text.now }
     ensures { result.now ≡ take end text.now }
 {

@@ -1,4 +1,4 @@
-ghost use Rattle.std.specs.Prelude.{◌≡◌};
+ghost use Rattle.std.specs.Prelude.{◌≡◌, if◌then◌else◌};
 ghost use Rattle.op_writer.specs.Pieces.{edge_at, edge_of, prefix_edge, is_apart as apart};
 
 use crate::signs::{is_digit, is_symbol, is_word};
@@ -45,6 +45,13 @@ impl Edge {
         } else {
             Edge::Prefix
         }
+    }
+
+    /// How a text ends behind a name in quotes, which is a prefix operator or not.
+    pub fn of_quotes(is_prefix: bool) -> Edge
+        ensures { result ≡ (if is_prefix then Edge.Prefix else Edge.Other) }
+    {
+        if is_prefix { Edge::Prefix } else { Edge::Other }
     }
 
     /// Whether a space stands before a piece that begins with a byte.

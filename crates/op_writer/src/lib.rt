@@ -7,6 +7,7 @@ mod cut;
 mod edge;
 mod expand;
 mod fault;
+mod front;
 mod item;
 mod notation;
 mod rest;

@@ -1,8 +1,10 @@
-ghost use Rattle.std.specs.Prelude.{◌≡◌, ◌<◌, ◌++◌, OnOk, OnErr, codes, bytes_eq, take, IfOk, true, false};
+ghost use Rattle.std.specs.Prelude.{◌≡◌, ◌<◌, ◌≤◌, ◌++◌, OnOk, codes, bytes_eq, take, true, false, length};
 ghost use Rattle.std.specs.List.{list_all};
+ghost use Rattle.op_writer.specs.Cut.{front_of};
 ghost use Rattle.op_writer.specs.Signs.{is_symbol as symbol, is_word as word};
 ghost use Rattle.op_writer.specs.Spelling.{is_symbolic as symbolic, is_word_name as word_name, is_solo as solo, is_unquoted as unquoted, hexadecimal, escaped, quoted, digit as hexadecimal_digit, name_text};
 
+use crate::front::Front;
 use crate::signs::{is_control, is_small, is_symbol, is_word};
 use crate::style::Style;
 use op_base::Memory;
@@ -97,37 +99,48 @@ fn add_control(out: &mut Bytes, c: u32) -> Result<(), Memory>
     out.append(b"\\")
 }
 
-fn add_escaped(out: &mut Bytes, c: char) -> Result<(), Memory>
-    ensures { OnOk result (out.new ≡ out.old ++ escaped c) }
+fn add_escaped(alloc: Global, out: &mut Front, c: char) -> Result<(), Memory>
+    requires room { length out.old.bytes ≤ out.old.limit }
+    ensures bytes { OnOk result (out.new.bytes ≡ front_of out.old.limit (out.old.bytes ++ escaped c)) }
+    ensures limit { out.new.limit ≡ out.old.limit }
 {
     if c == '\n' {
-        return out.append(b"\\n");
+        return out.add(b"\\n");
     }
     if c == '\t' {
-        return out.append(b"\\t");
+        return out.add(b"\\t");
     }
     if c == '\\' {
-        return out.append(b"\\\\");
+        return out.add(b"\\\\");
     }
     if c == '\'' {
-        return out.append(b"\\'");
+        return out.add(b"\\'");
     }
     if is_control(c) {
-        return add_control(out, c as u32);
+        let mut text = Bytes::new(alloc);
+        add_control(&mut text, c as u32)?;
+        return out.add(text.as_slice());
     }
     let mut buffer = [0; 4];
-    out.append(c.encode_utf8(&mut buffer).as_bytes())
+    out.add(c.encode_utf8(&mut buffer).as_bytes())
 }
 
-/// A name in quotes.
-pub fn in_quotes(alloc: Global, name: &str) -> Result<Bytes, Memory>
-    ensures { IfOk result (λ b. b ≡ quoted name.now) }
+/// Adds a name in quotes. It stops once the front is full.
+pub fn in_quotes(alloc: Global, out: &mut Front, name: &str) -> Result<(), Memory>
+    requires room { length out.old.bytes ≤ out.old.limit }
+    ensures bytes { OnOk result (out.new.bytes ≡ front_of out.old.limit (out.old.bytes ++ quoted name.now)) }
+    ensures limit { out.new.limit ≡ out.old.limit }
 {
-    let mut out = Bytes::new(alloc);
-    out.append(b"'")?;
+    out.add(b"'")?;
     for c in name.chars() {
-        add_escaped(&mut out, c)?;
+        if out.is_full() {
+            return Ok(());
+        }
+        add_escaped(alloc, out, c)?;
     }
-    out.append(b"'")?;
-    Ok(out)
+    if out.is_full() {
+        return Ok(());
+    }
+    out.add(b"'")?;
+    Ok(())
 }

@@ -211,8 +211,56 @@ fn part_9(rt: &impl Abort, alloc: Global, ops: &Ops) -> Result<(), Fail> {
         "2 xor¦0 a¦2 xor¦0 b¦0 c§a xor b xor c§a xor b xor c§xor(a,xor(b,c))",
         "2 +¦2 xor¦0 a¦0 b¦0 c§(a xor b)+c§(a xor b)+c§+(xor(a,b),c)",
         "1 t¦1 -¦# 1§t(- 1)§t(- 1)§t(-(1))",
+        "1 t¦2 -¦0 a¦# -1§t(a- -1)§t(a- -1)§t(-(a,-1))",
+        "1 t¦2 .¦0 -¦0 []§t([-])§t([-])§t([-])",
     ] {
         writes(rt, alloc, ops, row)?;
+    }
+    Ok(())
+}
+
+fn part_10(rt: &impl Abort, alloc: Global, ops: &Ops) -> Result<(), Fail> {
+    for row in [
+        "1 t¦2 =¦0 -¦0 x§t((-)=x)§t((-)=x)§t(=(-,x))",
+        "1 p¦2 ===>¦0 a¦0 b§p(a===>b)§p(a===>b)§p(===>(a,b))",
+        "2 .¦0 a¦0 -§[a|-]§[a|-]§[a|-]",
+        "2 .¦0 a¦0 :-§[a|:-]§[a|:-]§[a|:-]",
+        "1 f¦0 :-§f(:-)§f(:-)§f(:-)",
+        "2 =¦0 ,¦0 x§(,)=x§(',')=x§=(',',x)",
+        "1 spy¦2 :-¦0 a¦0 b§spy (a:-b)§spy (a:-b)§spy(:-(a,b))",
+    ] {
+        writes(rt, alloc, ops, row)?;
+    }
+    Ok(())
+}
+
+// Operators with names that are empty or need quotes.
+fn unusual_operators(alloc: Global) -> Result<Ops, OpFault> {
+    let mut ops = Ops::iso(alloc)?;
+    ops.set(700, OpKind::Xfx, "")?;
+    ops.set(300, OpKind::Fy, "")?;
+    ops.set(300, OpKind::Fy, "my pre")?;
+    ops.set(400, OpKind::Yfx, "/*")?;
+    ops.set(300, OpKind::Fy, ".")?;
+    ops.set(300, OpKind::Yf, "Po")?;
+    Ok(ops)
+}
+
+// Quotes make a name one that isn't of symbol characters only, and an empty name is none either.
+fn part_11(rt: &impl Abort, alloc: Global) -> Result<(), Fail> {
+    let ops = unusual_operators(alloc)?;
+    for row in [
+        "2 ¦0 a¦0 b§a  b§a '' b§''(a,b)",
+        "1 ¦0 a§ a§'' a§''(a)",
+        "2 =¦0 ¦0 b§()=b§('')=b§=('',b)",
+        "1 my pre¦0 a§my pre a§'my pre' a§'my pre'(a)",
+        "1 my pre¦2 :-¦0 a¦0 b§my pre (a:-b)§'my pre' (a:-b)§'my pre'(:-(a,b))",
+        "2 /*¦0 a¦0 b§a/*b§a '/*' b§'/*'(a,b)",
+        "2 /*¦# 1¦# -1§1/* -1§1 '/*' -1§'/*'(1,-1)",
+        "1 .¦0 a§.a§'.' a§'.'(a)",
+        "1 Po¦0 a§a Po§a 'Po'§'Po'(a)",
+    ] {
+        writes(rt, alloc, &ops, row)?;
     }
     Ok(())
 }
@@ -230,6 +278,8 @@ fn terms_are_written(rt: HostRuntime) -> Result<(), Fail> {
     part_7(&rt, alloc, &ops)?;
     part_8(&rt, alloc, &ops)?;
     part_9(&rt, alloc, &ops)?;
+    part_10(&rt, alloc, &ops)?;
+    part_11(&rt, alloc)?;
     Ok(())
 }
 
@@ -286,6 +336,37 @@ fn characters_stay_whole(rt: HostRuntime) -> Result<(), Fail> {
     let out = cut_of(rt.alloc(), &symbols, &term, false)?;
     assert_eq!(rt; out.len(), 4 + 4095 + 3);
     assert!(rt; out.as_slice().ends_with("é...".as_bytes()));
+    Ok(())
+}
+
+// The cut text of an atom of so many times one letter.
+fn cut_letters(alloc: Global, letter: &str, count: u64) -> Result<Bytes, Fail> {
+    let mut text = String::new(alloc);
+    text.push_str("0 ")?;
+    for _ in 0..count {
+        text.push_str(letter)?;
+    }
+    let mut symbols = Symbols::new(alloc);
+    let term = sample(alloc, &mut symbols, text.as_str())?;
+    cut_of(alloc, &symbols, &term, false)
+}
+
+// Behind four bytes a text of 4,096 bytes stands whole, and one of 4,097 doesn't; quotes and escapes count as they are written.
+#[test]
+fn lines_have_4096_bytes(rt: HostRuntime) -> Result<(), Fail> {
+    for (letter, count, len, end) in [
+        ("a", 4096, 4100, "aaaa"),
+        ("a", 4097, 4103, "aaaa..."),
+        ("A", 4094, 4100, "AAAA'"),
+        ("A", 4095, 4103, "AAAA..."),
+        ("\n", 2047, 4100, "\\n\\n'"),
+        ("\n", 2048, 4103, "\\n\\n\\..."),
+        ("\u{9f}", 100000, 4103, "\\x9f\\..."),
+    ] {
+        let out = cut_letters(rt.alloc(), letter, count)?;
+        assert_eq!(rt; out.len(), len);
+        assert!(rt; out.as_slice().ends_with(end.as_bytes()));
+    }
     Ok(())
 }
 

@@ -1,11 +1,13 @@
-ghost use Rattle.std.specs.Prelude.{◌≡◌, ◌≤◌, ◌<◌, ◌++◌, ◌∷◌, [], List, OnOk, IfOk, length, codes, decimal, if◌then◌else◌};
+ghost use Rattle.std.specs.Prelude.{◌≡◌, ◌≤◌, ◌<◌, ◌++◌, ◌∷◌, [], List, OnOk, IfOk, length, nat_lt, codes, decimal, if◌then◌else◌};
 ghost use Rattle.op_logic.specs.Names.{name_at};
+ghost use Rattle.op_writer.specs.Cut.{front_of};
 ghost use Rattle.op_writer.specs.Pieces.{edge_of, prefix_edge, set_apart, text_of, edge_behind};
-ghost use Rattle.op_writer.specs.Spelling.{name_text};
+ghost use Rattle.op_writer.specs.Spelling.{name_text, quoted};
 ghost use Rattle.op_writer.specs.Stack.{piece_of, IsGoodToken, ways_of};
 ghost use Rattle.op_writer.specs.Text.{letter_text as the_letter};
 
 use crate::edge::Edge;
+use crate::front::Front;
 use crate::item::Token;
 use crate::setting::Setting;
 use crate::spelling::{has_quotes, in_quotes};
@@ -15,11 +17,11 @@ use op_base::Memory;
 use op_desk::Bytes;
 use std::alloc::Global;
 
-/// A text that grows piece by piece.
+/// The front of a text that grows piece by piece, and how the text ends there.
 #[derive(Drop)]
 pub struct Written {
     alloc: Global,
-    pub bytes: Bytes,
+    pub front: Front,
     pub edge: Edge,
 }
 
@@ -35,44 +37,52 @@ fn letter_text(alloc: Global, n: u64) -> Result<Bytes, Memory>
 }
 
 impl Written {
-    pub fn new(alloc: Global) -> Written
-        ensures bytes { result.bytes ≡ [] }
+    pub fn new(alloc: Global, limit: usize) -> Written
+        ensures bytes { result.front.bytes ≡ [] }
+        ensures limit { result.front.limit ≡ limit }
         ensures edge { result.edge ≡ Edge.Other }
     {
         Written {
             alloc,
-            bytes: Bytes::new(alloc),
+            front: Front::new(alloc, limit),
             edge: Edge::Other,
         }
     }
 
-    /// How many bytes there are.
-    pub fn len(&self) -> usize
-        ensures { result ≡ length self.now.bytes }
+    /// Whether there are more bytes than the limit.
+    pub fn is_full(&self) -> bool
+        ensures { result ≡ nat_lt self.now.front.limit (length self.now.front.bytes) }
     {
-        self.bytes.len()
+        self.front.is_full()
     }
 
     /// The bytes.
     pub fn into_bytes(self) -> Bytes
-        ensures { result ≡ self.bytes }
+        ensures { result ≡ self.front.bytes }
     {
-        self.bytes
+        self.front.bytes
     }
 
     // A piece, set apart where it has to be.
     fn add(&mut self, piece: &[u8]) -> Result<(), Memory>
-        ensures bytes { OnOk result (self.new.bytes ≡ self.old.bytes ++ set_apart self.old.edge piece.now) }
+        requires room { length self.old.front.bytes ≤ self.old.front.limit }
+        ensures bytes { OnOk result (self.new.front.bytes ≡ front_of self.old.front.limit (self.old.front.bytes ++ set_apart self.old.edge piece.now)) }
+        ensures limit { self.new.front.limit ≡ self.old.front.limit }
         ensures edge { self.new.edge ≡ self.old.edge }
     {
         if !piece.is_empty() && self.edge.is_apart(piece[0]) {
-            self.bytes.append(b" ")?;
+            self.front.add(b" ")?;
+            if self.front.is_full() {
+                return Ok(());
+            }
         }
-        self.bytes.append(piece)
+        self.front.add(piece)
     }
 
     fn piece(&mut self, piece: &[u8], is_prefix: bool) -> Result<(), Memory>
-        ensures bytes { OnOk result (self.new.bytes ≡ self.old.bytes ++ set_apart self.old.edge piece.now) }
+        requires room { length self.old.front.bytes ≤ self.old.front.limit }
+        ensures bytes { OnOk result (self.new.front.bytes ≡ front_of self.old.front.limit (self.old.front.bytes ++ set_apart self.old.edge piece.now)) }
+        ensures limit { self.new.front.limit ≡ self.old.front.limit }
         ensures edge { OnOk result (self.new.edge ≡ (if is_prefix then prefix_edge piece.now else edge_of self.old.edge piece.now)) }
     {
         self.add(piece)?;
@@ -84,20 +94,35 @@ impl Written {
         Ok(())
     }
 
+    // A name in quotes, before which no space stands.
+    fn quoted_name(&mut self, name: &str, is_prefix: bool) -> Result<(), Memory>
+        requires room { length self.old.front.bytes ≤ self.old.front.limit }
+        ensures bytes { OnOk result (self.new.front.bytes ≡ front_of self.old.front.limit (self.old.front.bytes ++ set_apart self.old.edge (quoted name.now))) }
+        ensures limit { self.new.front.limit ≡ self.old.front.limit }
+        ensures edge { OnOk result (self.new.edge ≡ (if is_prefix then prefix_edge (quoted name.now) else edge_of self.old.edge (quoted name.now))) }
+    {
+        in_quotes(self.alloc, &mut self.front, name)?;
+        self.edge = Edge::of_quotes(is_prefix);
+        Ok(())
+    }
+
     fn name(&mut self, style: Style, name: &str, is_prefix: bool) -> Result<(), Memory>
-        ensures bytes { OnOk result (self.new.bytes ≡ self.old.bytes ++ set_apart self.old.edge (name_text style name.now)) }
+        requires room { length self.old.front.bytes ≤ self.old.front.limit }
+        ensures bytes { OnOk result (self.new.front.bytes ≡ front_of self.old.front.limit (self.old.front.bytes ++ set_apart self.old.edge (name_text style name.now))) }
+        ensures limit { self.new.front.limit ≡ self.old.front.limit }
         ensures edge { OnOk result (self.new.edge ≡ (if is_prefix then prefix_edge (name_text style name.now) else edge_of self.old.edge (name_text style name.now))) }
     {
         if has_quotes(style, name) {
-            let quoted = in_quotes(self.alloc, name)?;
-            self.piece(quoted.as_slice(), is_prefix)
+            self.quoted_name(name, is_prefix)
         } else {
             self.piece(name.as_bytes(), is_prefix)
         }
     }
 
     fn variable(&mut self, n: u64) -> Result<(), Memory>
-        ensures bytes { OnOk result (self.new.bytes ≡ self.old.bytes ++ set_apart self.old.edge (codes "_" ++ decimal n)) }
+        requires room { length self.old.front.bytes ≤ self.old.front.limit }
+        ensures bytes { OnOk result (self.new.front.bytes ≡ front_of self.old.front.limit (self.old.front.bytes ++ set_apart self.old.edge (codes "_" ++ decimal n))) }
+        ensures limit { self.new.front.limit ≡ self.old.front.limit }
         ensures edge { OnOk result (self.new.edge ≡ edge_of self.old.edge (codes "_" ++ decimal n)) }
     {
         let mut text = Bytes::new(self.alloc);
@@ -107,7 +132,9 @@ impl Written {
     }
 
     fn letter(&mut self, n: u64) -> Result<(), Memory>
-        ensures bytes { OnOk result (self.new.bytes ≡ self.old.bytes ++ set_apart self.old.edge (the_letter n)) }
+        requires room { length self.old.front.bytes ≤ self.old.front.limit }
+        ensures bytes { OnOk result (self.new.front.bytes ≡ front_of self.old.front.limit (self.old.front.bytes ++ set_apart self.old.edge (the_letter n))) }
+        ensures limit { self.new.front.limit ≡ self.old.front.limit }
         ensures edge { OnOk result (self.new.edge ≡ edge_of self.old.edge (the_letter n)) }
     {
         let text = letter_text(self.alloc, n)?;
@@ -116,8 +143,10 @@ impl Written {
 
     /// Adds a piece.
     pub fn token(&mut self, setting: &Setting<'_>, token: Token) -> Result<(), Memory>
-        requires { IsGoodToken (length setting.now.symbols.now) token }
-        ensures bytes { OnOk result (self.new.bytes ≡ self.old.bytes ++ set_apart self.old.edge (text_of (piece_of (ways_of setting.now) token))) }
+        requires named { IsGoodToken (length setting.now.symbols.now) token }
+        requires room { length self.old.front.bytes ≤ self.old.front.limit }
+        ensures bytes { OnOk result (self.new.front.bytes ≡ front_of self.old.front.limit (self.old.front.bytes ++ set_apart self.old.edge (text_of (piece_of (ways_of setting.now) token)))) }
+        ensures limit { self.new.front.limit ≡ self.old.front.limit }
         ensures edge { OnOk result (self.new.edge ≡ edge_behind self.old.edge (piece_of (ways_of setting.now) token)) }
     {
         match token {

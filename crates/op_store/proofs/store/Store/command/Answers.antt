@@ -1,5 +1,5 @@
 use Rattle.op_store.specs.Stored.{Stored}
-use Rattle.op_store.proofs.Soundness.{sound-more}
+use Rattle.op_store.proofs.Soundness.{sound-more, world-kept}
 use Rattle.op_store.proofs.store.Store.command.Goals as goal
 
 pub invariant_of-self : goal.invariant_of-self
@@ -7,3 +7,9 @@ invariant_of-self c =
     let i = c.self.inside in
     let s : Stored = record { locked = i.locked; names = i.symbols; table = i.ops; flags = i.flags; rows = i.procedures; next = i.next } in
     sound-more s c.read_command-goal.new.symbols c.self.invariant c.count-count.ensures.table c.read_command-goal.ensures.kept
+
+pub returns-clause-world : goal.returns-clause-world
+returns-clause-world c =
+    let i = c.self.inside in
+    let s : Stored = record { locked = i.locked; names = i.symbols; table = i.ops; flags = i.flags; rows = i.procedures; next = i.next } in
+    world-kept s c.read_command-goal.new.symbols c.read_command-goal.ensures.kept c.self.invariant
