@@ -1,4 +1,5 @@
-use Rattle.op_store.specs.Stored.{Stored}
+use Rattle.std.proofs.Common.{ap, ◌∙◌}
+use Rattle.op_store.specs.Stored.{Stored, world_of}
 use Rattle.op_store.proofs.Soundness.{sound-more, world-kept}
 use Rattle.op_store.proofs.store.Store.command.Goals as goal
 
@@ -12,4 +13,4 @@ pub returns-clause-world : goal.returns-clause-world
 returns-clause-world c =
     let i = c.self.inside in
     let s : Stored = record { locked = i.locked; names = i.symbols; table = i.ops; flags = i.flags; rows = i.procedures; next = i.next } in
-    world-kept s c.read_command-goal.new.symbols c.read_command-goal.ensures.kept c.self.invariant
+    world-kept s c.read_command-goal.new.symbols c.read_command-goal.ensures.kept c.self.invariant ∙ ap world_of c.self.view_is
