@@ -1,9 +1,8 @@
-use Rattle.std.proofs.Common.{◌≡◌, ◌<◌, length, take, Bool, true, false, Option, Some, None, Ok, refl, sym, ap, ◌∙◌, subst}
+use Rattle.std.proofs.Common.{◌≡◌, ◌<◌, length, take, Some, Ok, sym, ap, ◌∙◌, subst}
 use Rattle.std.specs.Prelude.{option_map}
 use Rattle.op_logic.specs.Names.{IsTable}
-use Rattle.op_store.specs.Locked.{is_locked}
 use Rattle.op_store.specs.declared.procedure.Procedure.{Procedure as Row}
-use Rattle.op_store.specs.Rows.{Rows, row_in, with_row, no_rules, key_named}
+use Rattle.op_store.specs.Rows.{Rows, row_in, with_row, no_rules}
 use Rattle.op_store.specs.Stored.{Stored, IsSound, world_of}
 use Rattle.op_store.proofs.Declaring.{made-kept, made-static, made-new, none-there, new-behind, rows-dynamic}
 use Rattle.op_store.proofs.store.Store.make_dynamic.Goals as goal
