@@ -1,8 +1,7 @@
 -- Directives on procedures, on operators and on flags, entry by entry.
-use Rattle.std.proofs.Common.{◌≡◌, ◌≢◌, ℕ, zero, suc, ◌+◌, ◌<◌, ◌≤◌, cond, Bool, true, false, List, [], ◌∷◌, ◌++◌, length, map, take, drop, get_or, Option, Some, None, Result, Ok, Err, All, refl, sym, ap, ◌∙◌, subst, arith, append_assoc, append-nil, ◌||◌}
+use Rattle.std.proofs.Common.{◌≡◌, ℕ, zero, suc, ◌+◌, ◌<◌, ◌≤◌, cond, Bool, true, false, List, [], ◌∷◌, ◌++◌, length, map, take, drop, get_or, Option, Some, None, Result, Ok, Err, All, refl, sym, ap, ◌∙◌, subst, arith, append-nil, ◌||◌}
 use Rattle.std.specs.Prelude.{option_map, option_and_then, is_some, codes, bytes_eq, ℤ}
-use Rattle.std.proofs.lemmas.List.{drop_more, map-append, length-take}
-use Rattle.std.proofs.lemmas.List.Elements.{All-push}
+use Rattle.std.proofs.lemmas.List.{drop_more, map-append}
 use Rattle.op_logic.proofs.Tests.{by_test, if_true, if_false}
 use Rattle.op_logic.specs.Term.{Term}
 use Rattle.op_logic.specs.Names.{name_at, IsTable}
@@ -16,11 +15,11 @@ use Rattle.op_store.specs.declared.directive.Word.TheVariants as words
 use Rattle.op_store.specs.declared.locked.Locked.{Locked}
 use Rattle.op_store.specs.declared.pi.Pi.{Pi}
 use Rattle.op_store.specs.declared.procedure.Procedure.{Procedure as Row}
-use Rattle.op_store.specs.World.{Key, World, Procedure, procedure_in, with_procedure, set_procedure, no_clauses}
+use Rattle.op_store.specs.World.{Key, World, Procedure, set_procedure, no_clauses}
 use Rattle.op_store.specs.Fault.{Fault, directive, and_then}
 use Rattle.op_store.specs.Locked.{is_locked}
 use Rattle.op_store.specs.Directives.{elements, operator_names, atom_name, atom_names, indicator, or_directive, made_dynamic, may_change, all_dynamic, all_indicate, entries, of_one, ops_set}
-use Rattle.op_store.specs.Rows.{Rows, row_in, with_row, no_rules, pi_eq, key_named, row_named, rows_named, IsRow, AreRows}
+use Rattle.op_store.specs.Rows.{Rows, row_in, with_row, no_rules, pi_eq, key_named, row_named, rows_named, AreRows}
 use Rattle.op_store.specs.Shapes.{names_of, word}
 use Rattle.op_store.specs.Stored.{Stored, world_of}
 use Rattle.op_store.proofs.Naming.{found-named, put-named}

@@ -1,11 +1,10 @@
 -- The elements of a list and the parts of a conjunction, one after the other.
-use Rattle.std.proofs.Common.{◌≡◌, ℕ, ◌+◌, ◌<◌, cond, Bool, true, false, List, [], ◌∷◌, ◌++◌, length, map, reverse, Option, Some, None, All, refl, sym, ap, ◌∙◌, subst, arith, append_assoc, append-nil}
+use Rattle.std.proofs.Common.{◌≡◌, ℕ, ◌+◌, ◌<◌, cond, Bool, true, false, List, [], ◌∷◌, ◌++◌, length, map, Option, Some, None, All, refl, sym, ap, ◌∙◌, subst, arith, append_assoc, append-nil}
 use Rattle.std.specs.Prelude.{option_map, bytes_eq, codes}
 use Rattle.std.proofs.lemmas.List.{map-append}
-use Rattle.std.proofs.lemmas.List.Elements.{All-push, All-pop, All-append}
-use Rattle.std.proofs.lemmas.Slice.Eq.{bytes_eq-Decides}
-use Rattle.op_logic.proofs.Tests.{if_true, if_false}
-use Rattle.op_logic.specs.Term.{Term, var, int, node, Args, no_args, arg, size}
+use Rattle.std.proofs.lemmas.List.Elements.{All-push, All-pop}
+use Rattle.op_logic.proofs.Tests.{if_false}
+use Rattle.op_logic.specs.Term.{Term, var, int, node, no_args, arg, size}
 use Rattle.op_logic.specs.Names.{named, HasNames}
 use Rattle.op_trace.specs.World.{Text}
 use Rattle.op_store.specs.Body.{pair}

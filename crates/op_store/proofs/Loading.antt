@@ -1,5 +1,5 @@
 -- Loading a text, term by term.
-use Rattle.std.proofs.Common.{◌≡◌, ℕ, suc, ◌+◌, ◌-◌, ◌<◌, ◌≤◌, List, length, Option, Result, Ok, Err, refl, sym, ap, ◌∙◌, subst, arith}
+use Rattle.std.proofs.Common.{◌≡◌, ℕ, suc, ◌+◌, ◌-◌, ◌<◌, List, length, Err, refl, sym, ap, ◌∙◌, subst, arith}
 use Rattle.op_store.specs.declared.load_fault.LoadFault.{LoadFault}
 use Rattle.op_store.specs.declared.load_fault.LoadFault.TheVariants.{Memory, At}
 use Rattle.op_store.specs.declared.locked.Locked.{Locked}

@@ -1,5 +1,5 @@
 -- Terms by their outermost nodes and their arguments.
-use Rattle.std.proofs.Common.{◌≡◌, ℕ, suc, refl, sym, ap, ◌∙◌, arith}
+use Rattle.std.proofs.Common.{◌≡◌, ℕ, sym, ap, ◌∙◌, arith}
 use Rattle.op_logic.specs.Term.{Term, var, int, node, Args, no_args, arg, arity, args_of, nth_arg}
 use Rattle.op_term.specs.Head.{head, sym as name}
 use Rattle.op_term.specs.declared.symbols.Sym.{Sym}

@@ -1,10 +1,10 @@
 -- Terms by their outermost nodes, with the places of their arguments.
-use Rattle.std.specs.Prelude.{◌≡◌, ℕ, Bool, false, ◌||◌, bytes_eq, codes, map, if◌then◌else◌, Option, Some, None, List, [], ◌∷◌}
+use Rattle.std.specs.Prelude.{◌≡◌, ℕ, Bool, false, ◌||◌, bytes_eq, codes, map, if◌then◌else◌, Some, None, List, [], ◌∷◌}
 use Rattle.op_logic.specs.Term.{Term, var, int, node, no_args, arg}
 use Rattle.op_logic.specs.Names.{name_at}
 use Rattle.op_term.specs.declared.symbols.Sym.{Sym}
 use Rattle.op_trace.specs.World.{Text}
-use Rattle.op_store.specs.Parts.{truth, body_text}
+use Rattle.op_store.specs.Parts.{body_text}
 use Rattle.op_store.specs.Clauses.{Sentence, clause, command, query}
 use Rattle.op_store.specs.declared.sentence.Sentence.{Sentence as Parts}
 use Rattle.op_store.specs.declared.sentence.Sentence.TheVariants.{Clause, Directive, Query}

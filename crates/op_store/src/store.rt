@@ -97,6 +97,19 @@ impl Store {
         &self.symbols
     }
 
+    /// A name's number, as `Symbols::intern` gives it.
+    pub fn intern(&mut self, name: &str) -> Result<Sym, Memory>
+        ensures within { IfOk result (λ s. s.0 < length self.new.names) }
+        ensures named { IfOk result (λ s. name_at self.new.names s.0 ≡ name.now) }
+        ensures kept { self.new ≡ with_names self.old self.new.names }
+        ensures names { take (length self.old.names) self.new.names ≡ self.old.names }
+        ensures err { OnErr result (self.new ≡ self.old) }
+    {
+        let sym = self.symbols.intern(name);
+        let _count = self.symbols.count();
+        sym
+    }
+
     /// The operators.
     pub fn ops(&self) -> &Ops
         ensures { result.now ≡ self.now.table }
@@ -292,7 +305,8 @@ impl Store {
         ensures front { take (length self.old.rows) self.new.rows ≡ self.old.rows }
         ensures err { OnErr result (self.new ≡ self.old) }
     {
-        if self.is_locked(pi) {
+        let locked = self.is_locked(pi);
+        if locked {
             return Err(TermFault::Refused(LoadFaultKind::Locked(pi)));
         }
         match self.procedures.dynamic(pi) {

@@ -1,4 +1,4 @@
-use Rattle.std.proofs.Common.{◌≡◌, ◌<◌, ℕ, List, map, drop, None, All, ap, sym, ◌∙◌, subst}
+use Rattle.std.proofs.Common.{◌<◌, List, All, ap, sym, ◌∙◌, subst}
 use Rattle.op_logic.specs.Names.{named, HasNames}
 use Rattle.op_term.specs.declared.symbols.Sym.{Sym}
 use Rattle.std.proofs.lemmas.List.Elements.{All-push}

@@ -1,4 +1,4 @@
-use Rattle.std.proofs.Common.{◌≡◌, ◌<◌, ◌++◌, ℕ, List, map, take, drop, All}
+use Rattle.std.proofs.Common.{◌≡◌, ◌<◌, ◌++◌, ℕ, List, map, drop, All}
 use Rattle.std.specs.Prelude.{option_map}
 use Rattle.op_logic.specs.Names.{named, HasNames}
 use Rattle.op_store.specs.Directives.{atom_names}

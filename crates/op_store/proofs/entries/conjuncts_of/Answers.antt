@@ -1,4 +1,4 @@
-use Rattle.std.proofs.Common.{◌≡◌, ◌+◌, ◌++◌, ◌∷◌, [], ℕ, List, ap, sym, ◌∙◌, arith}
+use Rattle.std.proofs.Common.{◌≡◌, ◌+◌, ap, ◌∙◌, arith}
 use Rattle.op_logic.specs.Term.{size}
 use Rattle.op_store.proofs.Listing.{weight, weight-push, size-some, parting-goes, parting-leaf}
 use Rattle.op_store.proofs.entries.conjuncts_of.Goals as goal

@@ -1,4 +1,4 @@
-use Rattle.std.proofs.Common.{ℕ, ◌<◌, arith}
+use Rattle.std.proofs.Common.{arith}
 use Rattle.op_store.proofs.Counting.{all-counted}
 use Rattle.op_store.proofs.goal.are_counted.Goals as goal
 

@@ -1,5 +1,5 @@
-use Rattle.std.proofs.Common.{◌≡◌, true, ap, sym, ◌∙◌}
-use Rattle.std.specs.Prelude.{is_some, not}
+use Rattle.std.proofs.Common.{ap, ◌∙◌}
+use Rattle.std.specs.Prelude.{not}
 use Rattle.op_logic.specs.Names.{named}
 use Rattle.op_store.proofs.Declaring.{indicate-goes, indicate-refused}
 use Rattle.op_store.proofs.indicator.all_indicate.Goals as goal

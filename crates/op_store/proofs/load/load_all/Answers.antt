@@ -1,4 +1,4 @@
-use Rattle.std.proofs.Common.{◌≡◌, ℕ, suc, length, sym, ap, arith}
+use Rattle.std.proofs.Common.{suc, length, sym, ap, arith}
 use Rattle.op_store.specs.Load.{Loaded, loaded}
 use Rattle.op_store.specs.Stored.{Stored, world_of}
 use Rattle.op_store.proofs.Loading.{at-last, at-most, err-told, err-stands}

@@ -1,4 +1,4 @@
-use Rattle.std.proofs.Common.{◌≡◌, ℕ, List, Result, sym, ap, ◌∙◌}
+use Rattle.std.proofs.Common.{sym, ap, ◌∙◌}
 use Rattle.op_logic.specs.Names.{named}
 use Rattle.op_store.specs.Load.{loaded, stopped, line_at, fault_line}
 use Rattle.op_reader.specs.declared.fault.ReadFaultKind.{ReadFaultKind}

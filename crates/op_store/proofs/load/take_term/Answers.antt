@@ -1,4 +1,4 @@
-use Rattle.std.proofs.Common.{◌≡◌, ◌<◌, ℕ, List, length, All, Result, sym, ap, ◌∙◌, subst}
+use Rattle.std.proofs.Common.{◌≡◌, ◌<◌, ℕ, List, length, All, Result, ap, ◌∙◌, subst}
 use Rattle.op_logic.specs.Names.{named, HasNames}
 use Rattle.op_logic.specs.Term.{Term}
 use Rattle.op_term.specs.Places.{term_at}

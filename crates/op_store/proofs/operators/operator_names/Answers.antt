@@ -1,4 +1,4 @@
-use Rattle.std.proofs.Common.{◌≡◌, ◌<◌, ℕ, List, map, length, Option, Some, All, ap, sym, ◌∙◌, subst}
+use Rattle.std.proofs.Common.{ℕ, List, map, length, Option, Some, ap, sym, ◌∙◌}
 use Rattle.std.proofs.lemmas.List.Elements.{All-weaker, All-same}
 use Rattle.std.specs.Prelude.{option_map}
 use Rattle.op_logic.specs.Names.{named, HasNames}

@@ -1,9 +1,8 @@
-use Rattle.std.proofs.Common.{◌≡◌, ◌<◌, length, take, Bool, true, false, Option, Some, None, Ok, refl, sym, ap, ◌∙◌, subst}
+use Rattle.std.proofs.Common.{◌≡◌, ◌<◌, length, take, Some, Ok, sym, ap, ◌∙◌, subst}
 use Rattle.std.specs.Prelude.{option_map}
 use Rattle.op_logic.specs.Names.{IsTable}
-use Rattle.op_store.specs.Locked.{is_locked}
 use Rattle.op_store.specs.declared.procedure.Procedure.{Procedure as Row}
-use Rattle.op_store.specs.Rows.{Rows, row_in, with_row, no_rules, key_named}
+use Rattle.op_store.specs.Rows.{Rows, row_in, with_row, no_rules}
 use Rattle.op_store.specs.Stored.{Stored, IsSound, world_of}
 use Rattle.op_store.proofs.Declaring.{made-kept, made-static, made-new, none-there, new-behind, rows-dynamic}
 use Rattle.op_store.proofs.store.Store.make_dynamic.Goals as goal
@@ -22,12 +21,12 @@ invariant_of-self-in-None c =
 
 pub returns-in-Some-true-clause-tells : goal.returns-in-Some-true-clause-tells
 returns-in-Some-true-clause-tells c =
-    made-kept c.args.self.now c.args.pi c.is_locked.result (subst (λ (x : Stored). IsTable x.names) c.self.view_is c.self.invariant.names) c.is_locked.ensures c.if-is_locked.false
+    made-kept c.args.self.now c.args.pi c.is_locked-locked.result (subst (λ (x : Stored). IsTable x.names) c.self.view_is c.self.invariant.names) c.is_locked-locked.ensures c.if-locked.false
     (ap Some (sym c.in-Some-true.field-0-test) ∙ (c.in-Some-true.ensures ∙ ap (λ (x : Stored). option_map (λ (p : Row). p.dynamic) (row_in x.rows c.args.pi)) c.self.view_is))
 
 pub returns-in-Some-false-clause-tells : goal.returns-in-Some-false-clause-tells
 returns-in-Some-false-clause-tells c = (
-  made-static c.args.self.now c.args.pi c.is_locked.result (subst (λ (x : Stored). IsTable x.names) c.self.view_is c.self.invariant.names) c.is_locked.ensures c.if-is_locked.false
+  made-static c.args.self.now c.args.pi c.is_locked-locked.result (subst (λ (x : Stored). IsTable x.names) c.self.view_is c.self.invariant.names) c.is_locked-locked.ensures c.if-locked.false
       (ap Some (sym c.in-Some-false.field-0-test) ∙ (c.in-Some-false.ensures ∙ ap (λ (x : Stored). option_map (λ (p : Row). p.dynamic) (row_in x.rows c.args.pi)) c.self.view_is)),
   tt,
 )
@@ -35,7 +34,7 @@ returns-in-Some-false-clause-tells c = (
 pub returns-in_ok-make_dynamic-in-None-clause-tells : goal.returns-in_ok-make_dynamic-in-None-clause-tells
 returns-in_ok-make_dynamic-in-None-clause-tells c =
     let rows : Rows = c.make_dynamic.new.self in
-    made-new c.args.self.now c.args.pi rows c.is_locked.result (subst (λ (x : Stored). IsTable x.names) c.self.view_is c.self.invariant.names) c.is_locked.ensures c.if-is_locked.false
+    made-new c.args.self.now c.args.pi rows c.is_locked-locked.result (subst (λ (x : Stored). IsTable x.names) c.self.view_is c.self.invariant.names) c.is_locked-locked.ensures c.if-locked.false
     (c.in-None.ensures ∙ ap (λ (x : Stored). option_map (λ (p : Row). p.dynamic) (row_in x.rows c.args.pi)) c.self.view_is)
     (c.in_ok-make_dynamic-in-None.ensures.ok ∙ ap (λ (x : Stored). with_row x.rows c.args.pi no_rules) c.self.view_is)
     ∙ ap (λ (x : Stored). Ok (world_of (record x { rows = rows }))) (sym c.self.view_is)

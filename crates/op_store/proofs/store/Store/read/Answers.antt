@@ -1,4 +1,4 @@
-use Rattle.std.proofs.Common.{◌≡◌, ap, ◌∙◌}
+use Rattle.std.proofs.Common.{ap, ◌∙◌}
 use Rattle.op_store.specs.Stored.{Stored, world_of}
 use Rattle.op_store.proofs.Soundness.{sound-more, world-kept}
 use Rattle.op_store.proofs.store.Store.read.Goals as goal
