@@ -6,7 +6,7 @@ use Rattle.op_term.specs.Places.{term_at}
 use Rattle.op_bind.specs.State.{State}
 use Rattle.op_bind.specs.Grown.{Grows}
 use Rattle.op_bind.proofs.Growing.{term-stays}
-use Rattle.op_reader.specs.Met.{AreCounted}
+use Rattle.op_reader.specs.Reading.{AreCounted}
 use Rattle.op_machine.specs.Core.{AreValues}
 
 values-stay : (a b : State) (rs : List ℕ) (ps : List (List ℕ × ℕ)) → Grows a b → AreValues a.terms rs ps → AreValues b.terms rs ps

@@ -1,7 +1,7 @@
 ghost use Rattle.std.specs.Prelude.{◌≡◌, ◌<◌, ◌≤◌, [], length, IfOk, OnOk};
 ghost use Rattle.op_logic.specs.Term.{var as variable};
 ghost use Rattle.op_term.specs.Places.{term_at};
-ghost use Rattle.op_reader.specs.Met.{AreCounted};
+ghost use Rattle.op_reader.specs.Reading.{AreCounted};
 ghost use Rattle.op_bind.specs.Grown.{Grows};
 ghost use Rattle.op_machine.specs.Core.{IsSound, AreValues};
 ghost use Rattle.op_store.specs.Queries.{IsSoundGoal};

@@ -1,16 +1,3 @@
-mod Tokens
-mod Scanning
-mod Marks
-mod Digits
-mod Rows
-mod Steps
-mod Counted
-pub mod Sentences
-mod Calls
-mod Renamed
-pub mod Clauses
-pub mod Knowing
-mod Goals
 mod FirstClauses
 mod Marking
 mod Telling

@@ -1,16 +1,4 @@
-pub mod Lexis
-pub mod TermRow
 pub mod Met
-pub mod Builtin
-pub mod Form
-pub mod Scan
-pub mod Sentence
-pub mod Stack
-pub mod Code
-pub mod Program
-pub mod Clause
-pub mod Known
-pub mod Examples
 pub mod Row
 pub mod FirstClause
 pub mod Words
