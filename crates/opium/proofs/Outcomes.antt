@@ -32,9 +32,9 @@ use Rattle.opium.specs.Runnable.{is_runnable, are_runnable}
 use Rattle.opium.specs.Traced.{Traced}
 use Rattle.opium.specs.Call.{Outcome, Line, Session, file_limit, first_world, traced_of, refused, unrunnable, goal_name, with_bytes, with_loaded, with_world, with_goal, with_query, outcome_of, long_line}
 use Rattle.opium.specs.Promise.{WhenTold, IsBroken, IsRefused, IsFaultless, IsWordsRefusal, HasFile, DoneAs, CostsAs, RefusedAs, TooLongAs, BrokenAs}
-use Rattle.opium.proofs.Leaving.{retell, leaves_usage}
+use Rattle.opium.proofs.Leaving.{retell, leaves_usage, leaves_memory, leaves_load}
 use Rattle.opium.specs.Progress.{Leaves, IsOutcome, IsUsage}
-use Rattle.opium.specs.Sight.{Sight, Says, Unread, ended_as}
+use Rattle.opium.specs.Sight.{Sight, Says, Unread, Untouched, ended_as}
 
 abbrev pub told_outcome : Option Files → List ℕ → List ℕ → Option Outcome
 told_outcome shelf name goal = option_map (λ files. outcome_of files (name ∷ goal ∷ [])) shelf
@@ -215,3 +215,13 @@ goal-refused w names r (load_faults.At line kind) s a b n h l = renamed _ _ s a 
 pub load-refused : (name goal : List ℕ) (new : Stored) (l : Loaded) (e : LoadFault) (s : Status) (a b : Sight) (n : ℕ) → TellsLoad {U = Unit {0}} new (Err e) l → Refuses new.names name e s a b → Leaves (Some (with_loaded name goal l)) s a b n n
 load-refused name goal new l load_faults.Memory s a b n h k = k (Some (with_loaded name goal l)) n
 load-refused name goal new l (load_faults.At line kind) s a b n h k = renamed _ _ s a b n n (outcome_refused name goal l (world_of new) line (fault_named new.names kind) h) (k n)
+
+pub refuses-memory : (names : List Text) (name : List ℕ) (a : Sight) → Untouched a a → Refuses names name load_faults.Memory status.Memory a a
+refuses-memory names name a u = λ o n. leaves_memory o a a n u
+
+pub refuses-load : (names : List Text) (name : List ℕ) (line : ℕ) (kind : LoadFaultKind) (a b : Sight) (r : Result (Unit {0}) Status) → Says a b (load_line name line (fault_words (fault_named names kind))) r
+    → Refuses names name (load_faults.At line kind) (ended_as status.Load r) a b
+refuses-load names name line kind a b r s = λ n. leaves_load _ a b n r s
+
+pub refuses-as : (names : List Text) (name : List ℕ) (f g : LoadFault) (s : Status) (a b : Sight) → f ≡ g → Refuses names name g s a b → Refuses names name f s a b
+refuses-as names name f g s a b e r = subst (λ (x : LoadFault). Refuses names name x s a b) (sym e) r
