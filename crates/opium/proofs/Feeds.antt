@@ -135,7 +135,7 @@ finds_end traced s t k n e f h later same =
         least = omega arith;
         looked = record { furthest = refl; place = place; ending = f.ending ∙ h.ending };
         operators = ap (λ (x : Stored). x.table) same ∙ f.operators;
-          reads = f.reads;
+        reads = f.reads;
       });
     }
 

@@ -13,9 +13,9 @@ mod runnable;
 mod session;
 mod status;
 mod talk;
-mod words;
 #[cfg(test)]
 mod tests;
+mod words;
 
 use call::opium;
 use op_base::Steps;

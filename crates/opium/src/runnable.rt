@@ -55,12 +55,7 @@ fn is_conjunction<T: Tree>(store: &Store, tree: &T, at: &T::At) -> bool
 }
 
 // A conjunction leaves its parts to be met; another part is looked at.
-fn meet<T: Tree>(
-    store: &Store,
-    tree: &T,
-    at: T::At,
-    todo: &mut Vec<T::At>,
-) -> Result<bool, Memory>
+fn meet<T: Tree>(store: &Store, tree: &T, at: T::At, todo: &mut Vec<T::At>) -> Result<bool, Memory>
     requires place { T.IsPlace tree.now at }
     requires names { HasNames (length store.now.names) (T.term tree.now at) }
     requires todo { All (λ p. T.IsPlace tree.now p × HasNames (length store.now.names) (T.term tree.now p)) todo.old.items }

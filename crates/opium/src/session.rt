@@ -131,12 +131,7 @@ fn is_layout(byte: u8) -> bool
 }
 
 // A machine before the first turn of a goal's run, which may take `budget` steps, and a store that reads commands.
-fn begin(
-    alloc: Global,
-    store: Store,
-    goal: Goal,
-    budget: u64,
-) -> Result<(Machine, Store), Memory>
+fn begin(alloc: Global, store: Store, goal: Goal, budget: u64) -> Result<(Machine, Store), Memory>
     requires goal { IsSoundGoal (length store.names) goal }
     requires some { 1 ≤ budget }
     requires limit { budget ≤ 1000000000 }

@@ -1,13 +1,14 @@
 ghost use Rattle.std.specs.Prelude.{◌≡◌, ◌<◌, true, IfOk, length};
 ghost use Rattle.op_desk.specs.Frame.{Each};
 ghost use Rattle.op_desk.specs.Memory.{fresh_of};
+ghost use Rattle.op_store.specs.Queries.{IsSoundGoal};
 
 use crate::call::opium;
 use crate::session::session;
 use crate::status::Status;
 use op_base::{Memory, Steps};
 use op_desk::{Bytes, Chan, Fail as Failing, MemoryDesk, Shelf};
-use op_machine::{Goal, Store};
+use op_store::{Goal, Locked, Store};
 use std::alloc::Global;
 use std::marker::Brand;
 use std::sync::ledger::{Blank, Ledger};
@@ -83,6 +84,264 @@ fn is_told(
     Ok(left.status == status && left.desk.bytes_written(Chan::Talk) == talk)
 }
 
+// A call and what it leaves: the program, the goal, the commands, the status, and what was written to Talk.
+struct Case {
+    program: &'static [u8],
+    goal: &'static str,
+    commands: &'static [u8],
+    status: Status,
+    talk: &'static [u8],
+}
+
+// How many of the cases, from the first, are as told.
+fn told_cases(alloc: Global, cases: &[Case]) -> Result<usize, Memory> {
+    for (i, case) in cases.iter().enumerate() {
+        if !is_told(
+            alloc,
+            case.program,
+            case.goal,
+            case.commands,
+            case.status,
+            case.talk,
+        )? {
+            return Ok(i);
+        }
+    }
+    Ok(cases.len())
+}
+
+const WRITTEN: &[Case] = &[
+    Case {
+        program: b"t(_).",
+        goal: "t(- (1))",
+        commands: b"next. next.",
+        status: Status::Done,
+        talk: b"1 1 1 call t(- 1)\nyes\n2 1 1 exit t(- 1)\nyes\n",
+    },
+    Case {
+        program: b"t(_).",
+        goal: "t(-(1))",
+        commands: b"next. next.",
+        status: Status::Done,
+        talk: b"1 1 1 call t(- 1)\nyes\n2 1 1 exit t(- 1)\nyes\n",
+    },
+    Case {
+        program: b"t(_).",
+        goal: "t(- 1)",
+        commands: b"next. next.",
+        status: Status::Done,
+        talk: b"1 1 1 call t(- 1)\nyes\n2 1 1 exit t(- 1)\nyes\n",
+    },
+    Case {
+        program: b"t(_).",
+        goal: "t(a - -1)",
+        commands: b"next.",
+        status: Status::Done,
+        talk: b"1 1 1 call t(a- -1)\nyes\n",
+    },
+    Case {
+        program: b"t(_).",
+        goal: "t([-])",
+        commands: b"next.",
+        status: Status::Done,
+        talk: b"1 1 1 call t([-])\nyes\n",
+    },
+    Case {
+        program: b"t(_).",
+        goal: "t(- = x)",
+        commands: b"next.",
+        status: Status::Done,
+        talk: b"1 1 1 call t((-)=x)\nyes\n",
+    },
+    Case {
+        program: b":- op(700,xfx,===>). p(_).",
+        goal: "p(a ===> b)",
+        commands: b"next. next. X ===> Y.",
+        status: Status::Done,
+        talk: b"1 1 1 call p(a===>b)\nyes\n2 1 1 exit p(a===>b)\nyes\nunreadable no_operand 2\n",
+    },
+];
+
+const READ: &[Case] = &[
+    Case {
+        program: b"a.",
+        goal: "a",
+        commands: b"\n next\n",
+        status: Status::Done,
+        talk: b"unreadable no_end 5\n",
+    },
+    Case {
+        program: b"a.",
+        goal: "a",
+        commands: b"(next). 'next'. % none is left\nnext .",
+        status: Status::Done,
+        talk: b"1 1 1 call a\nyes\n2 1 1 exit a\nyes\nno\n",
+    },
+    Case {
+        program: b"a.",
+        goal: "a",
+        commands: b"next next. foo(X). 1. a :- b :- c. (next]. 'next",
+        status: Status::Done,
+        talk: b"unreadable no_operand 5\nunreadable form 0\nunreadable form 0\nunreadable priority 0\nunreadable unbalanced 5\nunreadable token 0\n",
+    },
+    Case {
+        program: b"% numbers\n/* of two\n lines */ 'n b'([1,2|T],\"ab\",{x}) :- true, fail. 'n b'(_,_,_).",
+        goal: "'n b'(X,Y,{Z})",
+        commands: b"next. next.",
+        status: Status::Done,
+        talk: b"1 1 1 call 'n b'(_0,_1,{_2})\nyes\n2 1 1 exit 'n b'(_0,_1,{_2})\nyes\n",
+    },
+    Case {
+        program: b":- dynamic(d/1). p :- d(X). p.",
+        goal: "p",
+        commands: b"next. next. next. next.",
+        status: Status::Done,
+        talk: b"1 1 1 call p\nyes\n2 2 2 call d(_0)\nyes\n3 2 2 fail d(_0)\nyes\n4 1 1 exit p\nyes\n",
+    },
+];
+
+const REFUSED: &[Case] = &[
+    Case {
+        program: b"a :- b :- c.",
+        goal: "a",
+        commands: b"next.",
+        status: Status::Load,
+        talk: b"opium: load p.pl:1 priority\n",
+    },
+    Case {
+        program: b"a.\nwrite(X) :- a.",
+        goal: "a",
+        commands: b"next.",
+        status: Status::Load,
+        talk: b"opium: load p.pl:2 locked write/1\n",
+    },
+    Case {
+        program: b"a.\n\n'B' --> c.",
+        goal: "a",
+        commands: b"next.",
+        status: Status::Load,
+        talk: b"opium: load p.pl:3 locked -->/2\n",
+    },
+    Case {
+        program: b"a. /* \n */ :- foo.",
+        goal: "a",
+        commands: b"next.",
+        status: Status::Load,
+        talk: b"opium: load p.pl:2 directive\n",
+    },
+    Case {
+        program: b"\nX :- a.",
+        goal: "a",
+        commands: b"next.",
+        status: Status::Load,
+        talk: b"opium: load p.pl:2 head\n",
+    },
+    Case {
+        program: b"a :- 1.",
+        goal: "a",
+        commands: b"next.",
+        status: Status::Load,
+        talk: b"opium: load p.pl:1 body\n",
+    },
+    Case {
+        program: b"a.\nb",
+        goal: "a",
+        commands: b"next.",
+        status: Status::Load,
+        talk: b"opium: load p.pl:2 no_end\n",
+    },
+    Case {
+        program: b"a.",
+        goal: "a. b",
+        commands: b"next.",
+        status: Status::Load,
+        talk: b"opium: load (goal):1 trailing\n",
+    },
+    Case {
+        program: b"a.",
+        goal: "",
+        commands: b"next.",
+        status: Status::Load,
+        talk: b"opium: load (goal):2 no_operand\n",
+    },
+    Case {
+        program: b"a.",
+        goal: "1",
+        commands: b"next.",
+        status: Status::Load,
+        talk: b"opium: load (goal):1 body\n",
+    },
+];
+
+const UNRUNNABLE: &[Case] = &[
+    Case {
+        program: b"\n\na :- write(x). a :- 1 = 2.",
+        goal: "(",
+        commands: b"next.",
+        status: Status::Load,
+        talk: b"opium: load p.pl:1 form\n",
+    },
+    Case {
+        program: b"a :- X.",
+        goal: "a",
+        commands: b"next.",
+        status: Status::Load,
+        talk: b"opium: load p.pl:1 form\n",
+    },
+    Case {
+        program: b"a :- (a ; a).",
+        goal: "a",
+        commands: b"next.",
+        status: Status::Load,
+        talk: b"opium: load p.pl:1 form\n",
+    },
+    Case {
+        program: b"a :- true, !.",
+        goal: "a",
+        commands: b"next.",
+        status: Status::Load,
+        talk: b"opium: load p.pl:1 form\n",
+    },
+    Case {
+        program: b"a.",
+        goal: "a, b",
+        commands: b"next.",
+        status: Status::Load,
+        talk: b"opium: load (goal):1 form\n",
+    },
+    Case {
+        program: b"a.",
+        goal: "X",
+        commands: b"next.",
+        status: Status::Load,
+        talk: b"opium: load (goal):1 form\n",
+    },
+];
+
+#[test]
+fn terms_are_written(rt: HostRuntime) -> Result<(), Fail> {
+    assert_eq!(rt; told_cases(rt.alloc(), WRITTEN)?, WRITTEN.len());
+    Ok(())
+}
+
+#[test]
+fn texts_are_read(rt: HostRuntime) -> Result<(), Fail> {
+    assert_eq!(rt; told_cases(rt.alloc(), READ)?, READ.len());
+    Ok(())
+}
+
+#[test]
+fn texts_are_refused(rt: HostRuntime) -> Result<(), Fail> {
+    assert_eq!(rt; told_cases(rt.alloc(), REFUSED)?, REFUSED.len());
+    Ok(())
+}
+
+#[test]
+fn texts_cannot_be_run(rt: HostRuntime) -> Result<(), Fail> {
+    assert_eq!(rt; told_cases(rt.alloc(), UNRUNNABLE)?, UNRUNNABLE.len());
+    Ok(())
+}
+
 // A session over the run's first 100 steps.
 fn short_session<L: Ledger>(
     alloc: Global,
@@ -94,7 +353,7 @@ fn short_session<L: Ledger>(
     requires name { blank.name ≡ L.name }
     requires parts { blank.parts ≡ L.parts }
     requires some { 0 < L.parts }
-    requires goal { IsQuery (length store.names) goal }
+    requires goal { IsSoundGoal (length store.names) goal }
 {
     let mut steps: Steps<L> = Steps::new(blank);
     let status = session(alloc, store, goal, 100, &mut desk, &mut steps);
@@ -102,7 +361,7 @@ fn short_session<L: Ledger>(
 }
 
 fn short_call(alloc: Global, store: Store, goal: Goal, desk: MemoryDesk) -> Left
-    requires { IsQuery (length store.names) goal }
+    requires { IsSoundGoal (length store.names) goal }
 {
     short_session::<Brand>(alloc, Blank::new(1), store, goal, desk)
 }
@@ -110,7 +369,7 @@ fn short_call(alloc: Global, store: Store, goal: Goal, desk: MemoryDesk) -> Left
 #[test]
 fn a_session_of_a_spent_run(rt: HostRuntime) -> Result<(), Fail> {
     let alloc = rt.alloc();
-    let mut store = Store::new(alloc)?;
+    let mut store = Store::new(alloc, Locked::Program)?;
     store.load(b"p :- p.")?;
     let goal = store.goal(b"p")?;
     let mut commands = Bytes::new(alloc);
@@ -185,7 +444,7 @@ fn rows_of_sessions(rt: HostRuntime) -> Result<(), Fail> {
             "a",
             b"next",
             Status::Done,
-            b"unreadable form 0\n"
+            b"unreadable no_end 4\n"
         )?
     );
     assert!(rt;
