@@ -1,11 +1,12 @@
-ghost use Rattle.std.specs.Prelude.{◌≡◌, ◌<◌, ◌≤◌, length};
+ghost use Rattle.std.specs.Prelude.{◌≡◌, ◌<◌, ◌≤◌, length, IfOk};
 ghost use Rattle.op_logic.specs.Names.{HasNames};
 ghost use Rattle.op_bind.specs.State.{value_of};
+ghost use Rattle.op_store.specs.Queries.{IsSoundGoal};
 
 use crate::{Ending, EventView, Host, Machine, SolutionView, Turn};
 use op_base::Steps;
 use op_bind::{Bindings, Ref};
-use op_store::{Locked, Store};
+use op_store::{Goal, Locked, Store};
 use op_term::{Node, Symbols};
 use op_trace::Port;
 use std::alloc::{AllocError, Global};
@@ -94,11 +95,25 @@ fn add_solution(text: &mut String, view: SolutionView<'_>) -> Result<(), AllocEr
     text.push_str("|")
 }
 
+fn empty_store(alloc: Global) -> Result<Store, Fail> {
+    Ok(Store::new(alloc, Locked::Program)?)
+}
+
+fn load_program(store: &mut Store, program: &[u8]) -> Result<(), Fail> {
+    Ok(store.load(program)?)
+}
+
 // A store with a program's clauses.
 fn loaded(alloc: Global, program: &[u8]) -> Result<Store, Fail> {
-    let mut store = Store::new(alloc, Locked::Program)?;
-    store.load(program)?;
+    let mut store = empty_store(alloc)?;
+    load_program(&mut store, program)?;
     Ok(store)
+}
+
+fn goal_in(store: &mut Store, text: &[u8]) -> Result<Goal, Fail>
+    ensures { IfOk result (IsSoundGoal (length store.new.names)) }
+{
+    Ok(store.goal(text)?)
 }
 
 // A machine before the first turn.
@@ -113,7 +128,7 @@ fn begun(
     requires most { budget ≤ 1000000000 }
 {
     let mut store = loaded(alloc, program)?;
-    let goal = store.goal(goal)?;
+    let goal = goal_in(&mut store, goal)?;
     Ok(Machine::start(alloc, store, &goal, budget, wanted)?)
 }
 
@@ -145,6 +160,20 @@ fn add_turn<L: Ledger>(
     }
 }
 
+// Adds up to fifty turns.
+fn add_turns<L: Ledger>(
+    text: &mut String,
+    machine: &mut Machine,
+    steps: &mut Steps<L>,
+) -> Result<(), Fail> {
+    for _ in 0..50 {
+        if !add_turn(text, machine, steps)? {
+            break;
+        }
+    }
+    Ok(())
+}
+
 // The turns of a run, up to fifty, the ending and the steps.
 fn trace<L: Ledger>(
     alloc: Global,
@@ -163,11 +192,7 @@ fn trace<L: Ledger>(
     let mut steps = Steps::<L>::new(blank);
     let mut machine = begun(alloc, program, goal, budget, wanted)?;
     let mut text = String::new(alloc);
-    for _ in 0..50 {
-        if !add_turn(&mut text, &mut machine, &mut steps)? {
-            break;
-        }
-    }
+    add_turns(&mut text, &mut machine, &mut steps)?;
     Ok(text)
 }
 
@@ -319,6 +344,48 @@ fn list(alloc: Global, length: u64) -> Result<String, AllocError> {
     Ok(text)
 }
 
+// What a run has come to.
+enum Stand {
+    Event,
+    Other,
+    Over,
+}
+
+// The next turn of a run, of which the ending and the steps are added.
+fn take_turn<L: Ledger>(
+    text: &mut String,
+    machine: &mut Machine,
+    steps: &mut Steps<L>,
+) -> Result<Stand, Fail> {
+    match machine.next(&mut Nothing, steps)? {
+        Turn::Event => Ok(Stand::Event),
+        Turn::Solution => Ok(Stand::Other),
+        Turn::Ended(ending) => {
+            let word = ending_word(ending);
+            let used = machine.used_steps();
+            write!(text, " {word} {used}")?;
+            Ok(Stand::Over)
+        }
+    }
+}
+
+// How many events a run has, up to a million turns.
+fn events<L: Ledger>(
+    text: &mut String,
+    machine: &mut Machine,
+    steps: &mut Steps<L>,
+) -> Result<u64, Fail> {
+    let mut events: u64 = 0;
+    for _ in 0..1000000 {
+        match take_turn(text, machine, steps)? {
+            Stand::Event => events = events.saturating_add(1),
+            Stand::Other => {}
+            Stand::Over => break,
+        }
+    }
+    Ok(events)
+}
+
 // How many events a run has, its ending and its steps.
 fn count<L: Ledger>(
     alloc: Global,
@@ -335,20 +402,11 @@ fn count<L: Ledger>(
 {
     let mut steps = Steps::<L>::new(blank);
     let mut machine = begun(alloc, program, goal, budget, 1)?;
+    let mut ending = String::new(alloc);
+    let count = events(&mut ending, &mut machine, &mut steps)?;
     let mut text = String::new(alloc);
-    let mut events: u64 = 0;
-    for _ in 0..1000000 {
-        match machine.next(&mut Nothing, &mut steps)? {
-            Turn::Event => events = events.saturating_add(1),
-            Turn::Solution => {}
-            Turn::Ended(ending) => {
-                let word = ending_word(ending);
-                let used = machine.used_steps();
-                write!(text, "{events} {word} {used}")?;
-                return Ok(text);
-            }
-        }
-    }
+    let ending = ending.as_str();
+    write!(text, "{count}{ending}")?;
     Ok(text)
 }
 
