@@ -53,6 +53,8 @@ pub use snapshot::Snapshot;
 pub use store::Store;
 
 #[cfg(test)]
+mod body_tests;
+#[cfg(test)]
 mod load_tests;
 #[cfg(test)]
 mod tests;

@@ -366,24 +366,52 @@ fn short_call(alloc: Global, store: Store, goal: Goal, desk: MemoryDesk) -> Left
     short_session::<Brand>(alloc, Blank::new(1), store, goal, desk)
 }
 
+// A session by a goal that was read.
+fn short_goal(alloc: Global, mut store: Store, desk: MemoryDesk) -> Result<Left, Fail> {
+    match store.goal(b"p") {
+        Ok(goal) => Ok(short_call(alloc, store, goal, desk)),
+        Err(fault) => Err(Fail::from(fault)),
+    }
+}
+
+// A session by a program that was loaded.
+fn short_program(alloc: Global, mut store: Store, desk: MemoryDesk) -> Result<Left, Fail> {
+    match store.load(b"p :- p.") {
+        Ok(()) => short_goal(alloc, store, desk),
+        Err(fault) => Err(Fail::from(fault)),
+    }
+}
+
+fn short_left(alloc: Global, commands: &[u8]) -> Result<Left, Fail> {
+    let desk = desk_of(alloc, b"", commands, Vec::new(alloc))?;
+    let store = Store::new(alloc, Locked::Program)?;
+    short_program(alloc, store, desk)
+}
+
+// The answers to 36 commands: 34 events, and twice the end of a spent run.
+fn spent_answers(alloc: Global) -> Result<String, Fail> {
+    let mut talk = String::new(alloc);
+    for n in 1..=34 {
+        write!(talk, "{n} {n} {n} call p\nyes\n")?;
+    }
+    talk.push_str("thrown trace_budget\nthrown trace_budget\n")?;
+    Ok(talk)
+}
+
+fn nexts(alloc: Global, count: u64) -> Result<Bytes, Memory> {
+    let mut commands = Bytes::new(alloc);
+    for _ in 0..count {
+        commands.append(b"next. ")?;
+    }
+    Ok(commands)
+}
+
 #[test]
 fn a_session_of_a_spent_run(rt: HostRuntime) -> Result<(), Fail> {
     let alloc = rt.alloc();
-    let mut store = Store::new(alloc, Locked::Program)?;
-    store.load(b"p :- p.")?;
-    let goal = store.goal(b"p")?;
-    let mut commands = Bytes::new(alloc);
-    let mut talk = String::new(alloc);
-    for n in 1..=36 {
-        commands.append(b"next.\n")?;
-        if n <= 34 {
-            write!(talk, "{n} {n} {n} call p\nyes\n")?;
-        } else {
-            talk.push_str("thrown trace_budget\n")?;
-        }
-    }
-    let desk = desk_of(alloc, b"", commands.as_slice(), Vec::new(alloc))?;
-    let left = short_call(alloc, store, goal, desk);
+    let commands = nexts(alloc, 36)?;
+    let talk = spent_answers(alloc)?;
+    let left = short_left(alloc, commands.as_slice())?;
     assert_eq!(rt; left.status, Status::Done);
     assert!(rt; left.desk.bytes_written(Chan::Talk) == talk.as_bytes());
     Ok(())
@@ -538,10 +566,7 @@ fn rows_of_terms(rt: HostRuntime) -> Result<(), Fail> {
 #[test]
 fn bindings_at_each_port(rt: HostRuntime) -> Result<(), Fail> {
     let alloc = rt.alloc();
-    let mut commands = Bytes::new(alloc);
-    for _ in 0..13 {
-        commands.append(b"next. ")?;
-    }
+    let commands = nexts(alloc, 13)?;
     assert!(rt;
         is_told(
             alloc,
@@ -558,10 +583,7 @@ fn bindings_at_each_port(rt: HostRuntime) -> Result<(), Fail> {
 #[test]
 fn variables_have_new_numbers(rt: HostRuntime) -> Result<(), Fail> {
     let alloc = rt.alloc();
-    let mut commands = Bytes::new(alloc);
-    for _ in 0..9 {
-        commands.append(b"next. ")?;
-    }
+    let commands = nexts(alloc, 9)?;
     assert!(rt;
         is_told(
             alloc,
