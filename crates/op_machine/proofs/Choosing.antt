@@ -1,5 +1,5 @@
 -- Clauses from one on.
-use Rattle.std.proofs.Common.{◌≡◌, ℕ, zero, suc, ◌+◌, ◌<◌, ◌≤◌, List, [], ◌∷◌, length, get_or, drop, map, refl, sym, ap, ◌∙◌, arith}
+use Rattle.std.proofs.Common.{◌≡◌, ℕ, zero, suc, ◌<◌, ◌≤◌, List, [], ◌∷◌, length, get_or, refl, sym, ap, ◌∙◌, arith}
 use Rattle.op_bind.specs.declared.places.Clause.{Clause as Rule}
 use Rattle.op_trace.specs.World.{Clause}
 use Rattle.op_trace.specs.Visit as visit

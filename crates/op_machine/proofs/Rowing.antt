@@ -1,6 +1,6 @@
 -- Each row of the machine makes one move.
 use Rattle.std.proofs.Common.{◌≡◌, ℕ, suc, ◌+◌, ◌-◌, ◌<◌, ◌≤◌, List, [], ◌∷◌, length, get_or, refl, sym, ap, ◌∙◌, subst, Result, Ok, Err, IfOk}
-use Rattle.op_logic.specs.Term.{Term, shift}
+use Rattle.op_logic.specs.Term.{shift}
 use Rattle.op_logic.specs.Bind.{unify}
 use Rattle.op_trace.specs.declared.port.Port.TheVariants as port
 use Rattle.op_trace.specs.World as world

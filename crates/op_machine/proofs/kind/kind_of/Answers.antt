@@ -1,8 +1,7 @@
-use Rattle.std.proofs.Common.{◌≡◌, ℕ, List, take, sym, ap, ◌∙◌, subst}
+use Rattle.std.proofs.Common.{◌≡◌, ℕ, sym, ap, ◌∙◌, subst}
 use Rattle.op_logic.specs.Term.{Term, args_of}
 use Rattle.op_logic.specs.Names.{IsTable}
 use Rattle.op_store.specs.Stored.{Stored}
-use Rattle.op_trace.specs.World.{Text}
 use Rattle.op_trace.specs.Visit.{control}
 use Rattle.op_machine.specs.declared.kind.Kind.{Kind}
 use Rattle.op_machine.specs.Program.{goal_named}

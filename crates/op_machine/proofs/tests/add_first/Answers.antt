@@ -1,5 +1,5 @@
 use Rattle.op_term.specs.Places.{term_at}
-use Rattle.std.proofs.Common.{arith, sym, ◌∙◌}
+use Rattle.std.proofs.Common.{sym, ◌∙◌}
 use Rattle.op_machine.proofs.Controls.{head-struct}
 use Rattle.op_machine.proofs.tests.add_first.Goals as goal
 

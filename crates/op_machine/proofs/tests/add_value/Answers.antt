@@ -1,4 +1,4 @@
-use Rattle.std.proofs.Common.{◌≡◌, ◌<◌, ℕ, List, length, sym, ◌∙◌, subst}
+use Rattle.std.proofs.Common.{ℕ, length, sym, ◌∙◌, subst}
 use Rattle.op_logic.specs.Term.{Term}
 use Rattle.op_logic.specs.Names.{HasNames}
 use Rattle.op_bind.specs.State.{value_of}

@@ -1,4 +1,4 @@
-use Rattle.std.proofs.Common.{◌≡◌, ap, sym, ◌∙◌}
+use Rattle.std.proofs.Common.{sym, ◌∙◌}
 use Rattle.op_term.specs.Places.{term_at}
 use Rattle.op_store.proofs.GoalClauses.{procedure-none}
 use Rattle.op_machine.specs.declared.core_state.Core.{Core}

@@ -1,4 +1,4 @@
-use Rattle.std.proofs.Common.{◌≡◌, ℕ, ◌+◌, ◌-◌, ◌<◌, length, Option, IfSome, sym, ap, ◌∙◌, subst, Ok, Err, Some}
+use Rattle.std.proofs.Common.{◌≡◌, ℕ, ◌+◌, ◌-◌, ◌<◌, length, Option, IfSome, sym, ap, subst, Ok, Err, Some}
 use Rattle.op_logic.specs.Term.{shift}
 use Rattle.op_logic.specs.Bind.{Solved}
 use Rattle.op_logic.specs.Names.{IsTable, HasNames}

@@ -1,4 +1,4 @@
-use Rattle.std.proofs.Common.{◌≡◌, List, length, Option, subst}
+use Rattle.std.proofs.Common.{List, length, Option, subst}
 use Rattle.op_bind.specs.declared.places.Clause.{Clause as Rule}
 use Rattle.op_store.specs.Snapshots.{rules_in}
 use Rattle.op_machine.specs.Program.{AreKnown}
