@@ -5,6 +5,7 @@ mod core_state;
 mod frame;
 mod goals;
 mod kind;
+pub mod laws;
 mod lists;
 mod machine;
 mod moves;
