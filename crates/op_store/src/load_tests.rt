@@ -155,31 +155,70 @@ fn number_of(snapshot: &Snapshot, i: u64) -> Option<u64> {
     }
 }
 
+fn copied_count(snapshot: &Snapshot) -> Result<u64, Fail> {
+    Ok(snapshot.copy()?.len())
+}
+
+fn clause_count(store: &Store, pi: Pi) -> Result<u64, Fail> {
+    Ok(snapshot_of(store, pi)?.len())
+}
+
+fn all_count(store: &Store) -> Result<u64, Fail> {
+    Ok(store.all_clauses()?.len())
+}
+
+fn load_numbers(store: &mut Store) -> Result<Pi, Fail> {
+    store.load(b"p(1). p(2). :- dynamic q/1.")?;
+    pi(store, "p", 1)
+}
+
+// Whether a snapshot of two clauses stays, and later ones have a third.
+fn third_is_later(store: &mut Store, pi: Pi, before: &Snapshot) -> Result<bool, Fail> {
+    store.load(b"p(3).")?;
+    let later = clause_count(store, pi)?;
+    let all = all_count(store)?;
+    Ok(before.len() == 2 && number_of(before, 1) == Some(1) && later == 3 && all == 3)
+}
+
+fn stays(store: &mut Store) -> Result<bool, Fail> {
+    let pi = load_numbers(store)?;
+    let before = snapshot_of(store, pi)?;
+    third_is_later(store, pi, &before)
+}
+
+fn is_copied(store: &mut Store) -> Result<bool, Fail> {
+    let pi = load_numbers(store)?;
+    let snapshot = snapshot_of(store, pi)?;
+    Ok(copied_count(&snapshot)? == 2)
+}
+
 #[test]
 fn a_snapshot_stays(rt: HostRuntime) -> Result<(), Fail> {
     let mut store = Store::new(rt.alloc(), Locked::Analysis)?;
-    store.load(b"p(1). p(2). :- dynamic q/1.")?;
-    let p = pi(&mut store, "p", 1)?;
-    let before = snapshot_of(&store, p)?;
-    let copy = before.copy()?;
-    store.load(b"p(3).")?;
-    assert_eq!(rt; before.len(), 2);
-    assert_eq!(rt; copy.len(), 2);
-    assert_eq!(rt; number_of(&before, 1), Some(1));
-    assert_eq!(rt; snapshot_of(&store, p)?.len(), 3);
-    assert_eq!(rt; store.all_clauses()?.len(), 3);
+    let stays = stays(&mut store)?;
+    assert!(rt; stays);
     Ok(())
+}
+
+#[test]
+fn a_snapshot_is_copied(rt: HostRuntime) -> Result<(), Fail> {
+    let mut store = Store::new(rt.alloc(), Locked::Analysis)?;
+    let copied = is_copied(&mut store)?;
+    assert!(rt; copied);
+    Ok(())
+}
+
+fn only_one_is_dynamic(store: &mut Store) -> Result<bool, Fail> {
+    let p = load_numbers(store)?;
+    let q = pi(store, "q", 1)?;
+    Ok(store.is_dynamic(q) && !store.is_dynamic(p) && store.has_procedure(q))
 }
 
 #[test]
 fn a_procedure_may_be_dynamic(rt: HostRuntime) -> Result<(), Fail> {
     let mut store = Store::new(rt.alloc(), Locked::Analysis)?;
-    store.load(b"p(1). p(2). :- dynamic q/1.")?;
-    let p = pi(&mut store, "p", 1)?;
-    let q = pi(&mut store, "q", 1)?;
-    assert!(rt; store.is_dynamic(q));
-    assert!(rt; !store.is_dynamic(p));
-    assert!(rt; store.has_procedure(q));
+    let dynamic = only_one_is_dynamic(&mut store)?;
+    assert!(rt; dynamic);
     Ok(())
 }
 

@@ -25,21 +25,31 @@ fn fault_of(
     }
 }
 
+const GOALS: &[(&str, Option<(u64, LoadFaultKind)>)] = &[
+    ("p(X), q(Y,X)", None),
+    ("a. ", None),
+    ("", Some((2, NO_OPERAND))),
+    ("a. % b", Some((1, LoadFaultKind::Trailing))),
+    ("\n a. b", Some((2, LoadFaultKind::Trailing))),
+    ("\na, 1", Some((2, LoadFaultKind::Body))),
+    ("a :- b :- c", Some((1, PRIORITY))),
+];
+
+// How many of the goals, from the first, have their fault or none.
+fn read_goals(rt: &impl Abort, store: &mut Store) -> Result<usize, Fail> {
+    for (i, (text, fault)) in GOALS.iter().enumerate() {
+        if fault_of(rt, store, text)? != *fault {
+            return Ok(i);
+        }
+    }
+    Ok(GOALS.len())
+}
+
 #[test]
 fn goals_are_read(rt: HostRuntime) -> Result<(), Fail> {
     let mut store = Store::new(rt.alloc(), Locked::Program)?;
-    let rows = [
-        ("p(X), q(Y,X)", None),
-        ("a. ", None),
-        ("", Some((2, NO_OPERAND))),
-        ("a. % b", Some((1, LoadFaultKind::Trailing))),
-        ("\n a. b", Some((2, LoadFaultKind::Trailing))),
-        ("\na, 1", Some((2, LoadFaultKind::Body))),
-        ("a :- b :- c", Some((1, PRIORITY))),
-    ];
-    for (text, fault) in rows {
-        assert_eq!(rt; fault_of(&rt, &mut store, text)?, fault);
-    }
+    let count = read_goals(&rt, &mut store)?;
+    assert_eq!(rt; count, GOALS.len());
     Ok(())
 }
 

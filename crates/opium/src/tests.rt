@@ -519,19 +519,39 @@ fn rows_of_refusals(rt: HostRuntime) -> Result<(), Fail> {
     Ok(())
 }
 
-#[test]
-fn rows_of_faults(rt: HostRuntime) -> Result<(), Fail> {
-    let alloc = rt.alloc();
+// A call whose program's file is not on the shelf.
+fn call_of_missing(alloc: Global) -> Result<Left, Memory> {
     let words = words_of(alloc, "q.pl", "a")?;
     let desk = desk_of(alloc, FIRST, b"next.", Vec::new(alloc))?;
-    let left = call(alloc, &words, desk);
+    Ok(call(alloc, &words, desk))
+}
+
+#[test]
+fn a_missing_file(rt: HostRuntime) -> Result<(), Fail> {
+    let left = call_of_missing(rt.alloc())?;
     assert_eq!(rt; left.status, Status::Read);
     assert!(rt; left.desk.bytes_written(Chan::Talk) == b"".as_slice());
-    let words = words_of(alloc, "p.pl", "a")?;
+    Ok(())
+}
+
+fn second_put_fails(alloc: Global) -> Result<Vec<Failing>, Fail> {
     let mut failing = Vec::new(alloc);
     failing.push(Failing::Put(Chan::Talk, 2))?;
+    Ok(failing)
+}
+
+// A call whose second answer can't be written.
+fn call_of_broken(alloc: Global, failing: Vec<Failing>) -> Result<Left, Memory> {
+    let words = words_of(alloc, "p.pl", "a")?;
     let desk = desk_of(alloc, FIRST, NEXTS, failing)?;
-    let left = call(alloc, &words, desk);
+    Ok(call(alloc, &words, desk))
+}
+
+#[test]
+fn a_write_that_fails(rt: HostRuntime) -> Result<(), Fail> {
+    let alloc = rt.alloc();
+    let failing = second_put_fails(alloc)?;
+    let left = call_of_broken(alloc, failing)?;
     assert_eq!(rt; left.status, Status::Write);
     assert!(rt; left.desk.bytes_written(Chan::Talk) == b"1 1 1 call a\nyes\n".as_slice());
     Ok(())
