@@ -1,7 +1,8 @@
 -- What the parts of a machine come to is what its calls answer.
 use Rattle.std.proofs.Common.{◌≡◌, ℕ, Bool, false, List, [], ◌∷◌, refl, sym, ap, ◌∙◌, append-nil}
-use Rattle.op_trace.specs.World.{World, Setup, Turn, Call, Goal, loaded}
-use Rattle.op_trace.specs.Visit.{Visited, gives, and_then, visit}
+use Rattle.op_trace.specs.declared.barrier.Barrier.TheVariants.{Call}
+use Rattle.op_trace.specs.World.{World, Setup, Turn, Goal, loaded}
+use Rattle.op_trace.specs.Visit.{Verdict, Failed, CutTo, Stopped, Spent, Visited, gives, with_turns, and_then, visit}
 use Rattle.op_trace.specs.Ending as ending
 use Rattle.op_trace.specs.Run.{ran, run, started, ending_of}
 use Rattle.op_logic.specs.Term.{Term}
@@ -14,16 +15,20 @@ use Rattle.op_machine.specs.declared.turn.Turn.TheVariants as turn
 use Rattle.op_store.specs.Stored.{Stored}
 use Rattle.op_machine.specs.Program.{clauses, goal_named}
 use Rattle.op_machine.specs.Core.{state_of, world_in, verdict_of}
-use Rattle.op_machine.specs.Resume.{State, owed, resume}
+use Rattle.op_machine.specs.Resume.{State, at_top, owed, resume}
 use Rattle.op_machine.specs.Machine.{kept_of, to_come, only_ending, ending_for, last_after, Answers}
 use Rattle.op_machine.specs.Turned.{Turned, IsBegun}
 
-and_then-gives : (v : Visited) → and_then v gives ≡ v
-and_then-gives v = ap (λ (ts : List Turn). record { turns = ts; verdict = v.verdict; world = v.world }) (append-nil v.turns)
+-- at the top a cut is an end without alternatives
+ended : (ts : List Turn) (r : Verdict) (w : World) → ran (with_turns ts (at_top r w)) ≡ record { turns = ts; ending = ending_of r; world = w }
+ended ts Failed w = ap (λ (x : List Turn). record { turns = x; ending = ending.Failed; world = w }) (append-nil ts)
+ended ts (CutTo m) w = ap (λ (x : List Turn). record { turns = x; ending = ending.Failed; world = w }) (append-nil ts)
+ended ts Stopped w = ap (λ (x : List Turn). record { turns = x; ending = ending.Stopped; world = w }) (append-nil ts)
+ended ts Spent w = ap (λ (x : List Turn). record { turns = x; ending = ending.Spent; world = w }) (append-nil ts)
 
-resume-none : (s : Setup) (v : Visited) → and_then v (resume s []) ≡ v
+resume-none : (s : Setup) (v : Visited) → ran (and_then v (resume s [])) ≡ ran v
 unfolding resume
-resume-none s v = and_then-gives v
+resume-none s v = ended v.turns v.verdict v.world
 
 pub begun-run : (t : Stored) (g : Term ℕ) (n : ℕ) (names : List (List ℕ × ℕ)) (b w : ℕ) (c : Core) (l : Last) (f : Bool) → IsBegun t g n names b w c
     → to_come (kept_of c l f) ≡ run (record { budget = b; wanted = w }) (goal_named t g) n (loaded (clauses t))
@@ -32,7 +37,7 @@ begun-run t g n names b w c l f h =
     let s : Setup = record { budget = b; wanted = w } in
     ap (λ (x : Setup). ran (owed x (state_of c))) h.setup
     ∙ (ap (λ (x : State). ran (owed s x)) h.state
-    ∙ ap ran (resume-none s (visit s (Goal (goal_named t g) (Call 0) ∷ []) [] (started n (loaded (clauses t))))))
+    ∙ resume-none s (visit s (Goal (goal_named t g) (Call 0) ∷ []) [] (started n (loaded (clauses t)))))
 
 ending-same : (e : Ending) → ending_of (verdict_of e) ≡ ending_for e
 ending-same outcome.Stopped = refl

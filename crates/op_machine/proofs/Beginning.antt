@@ -1,6 +1,6 @@
 -- A machine that has made no move.
-use Rattle.std.proofs.Common.{◌≡◌, ℕ, zero, suc, ◌+◌, ◌<◌, ◌≤◌, List, [], ◌∷◌, ◌++◌, length, map, take, reverse, sym, ap, ◌∙◌, subst, arith}
-use Rattle.op_logic.specs.Term.{Term, shift}
+use Rattle.std.proofs.Common.{◌≡◌, ℕ, zero, suc, ◌+◌, ◌<◌, ◌≤◌, List, [], ◌∷◌, ◌++◌, length, map, take, reverse, refl, sym, ap, ◌∙◌, subst, arith}
+use Rattle.op_logic.specs.Term.{Term, shift, atom}
 use Rattle.op_logic.specs.Bind.{Bindings}
 use Rattle.op_logic.specs.Laws.{rename_bindings}
 use Rattle.op_logic.specs.Names.{name_at, HasNames, HaveNames}
@@ -10,47 +10,55 @@ use Rattle.op_bind.specs.State as bind
 use Rattle.op_bind.specs.State.{resolved}
 use Rattle.op_bind.specs.Grown.{Grows}
 use Rattle.op_trace.specs.World as world
-use Rattle.op_trace.specs.World.{Text, World, Setup, Call, loaded}
+use Rattle.op_trace.specs.declared.barrier.Barrier.TheVariants.{Call}
+use Rattle.op_trace.specs.World.{Text, World, Setup, loaded}
 use Rattle.op_trace.specs.Run.{started}
 use Rattle.op_machine.specs.declared.core_state.Core.{Core}
 use Rattle.op_machine.specs.declared.core_state.Mode.{Mode}
 use Rattle.op_machine.specs.declared.core_state.Mode.TheVariants as mode
-use Rattle.op_machine.specs.declared.frame.Frame.{Frame}
 use Rattle.op_machine.specs.declared.lists.Item.{Item}
 use Rattle.op_machine.specs.declared.lists.Item.TheVariants as item
 use Rattle.op_store.specs.declared.goal.Goal.{Goal}
 use Rattle.op_store.specs.Queries.{IsSoundGoal}
 use Rattle.op_store.specs.Stored.{Stored}
 use Rattle.op_machine.specs.Program.{clauses, goal_named}
-use Rattle.op_machine.specs.Core.{Level, level_in, setup_of, world_in, state_with, state_of, items_in, item_term, bindings_in, choices_of, IsGood, IsGoal, AreLists, AreFrames, AreValues, IsMode, IsSound}
+use Rattle.op_machine.specs.Core.{Level, level_in, setup_of, world_in, state_with, state_of, items_in, item_term, bindings_in, choices_of, IsGood, IsGoal, AreLists, AreFrames, AreValues, IsFailure, IsMode, IsSound, Frame}
 use Rattle.op_machine.specs.Lists.{list_in}
+use Rattle.op_frames.specs.declared.boxes.BoxFrame.{BoxFrame}
+use Rattle.op_machine.specs.Boxes.{exits, innermost, AreBoxes, AreBoxed}
 use Rattle.op_machine.specs.Counted.{Counted}
 use Rattle.op_machine.specs.Resume.{State, Going}
 use Rattle.op_machine.specs.Scope.{InStep}
 use Rattle.op_machine.specs.Turned.{IsBegun}
-
-abbrev pub first_lists : ℕ → List (List Item)
-first_lists body = [] ∷ (item.Goal body 0 ∷ []) ∷ []
+use Rattle.op_machine.specs.Made.{first_lists, IsMade}
+use Rattle.op_machine.specs.declared.parts.Parts.{Parts}
+use Rattle.op_machine.specs.declared.held.Held.{Held}
+use Rattle.op_frames.specs.Frames.{Framed}
+use Rattle.op_trace.specs.declared.port.Port.TheVariants as port
+use Rattle.op_machine.proofs.Valuing.{values-stay}
 
 -- what was made before the first move
 pub record IsFirst (c : Core) (q : Goal) (body : ℕ) : Type 0 where
   pub lists : c.lists ≡ first_lists body
   pub mode : c.mode ≡ mode.Forward 1
-  pub frames : c.frames.items ≡ []
+  pub frames : c.frames.choices ≡ []
+  pub boxes : c.frames.boxes ≡ []
   pub bound : c.bindings.bound ≡ []
   pub there : body < length c.bindings.terms
   pub value : term_at c.bindings.terms body ≡ q.body
   pub count : c.bindings.count ≡ q.vars
   pub names : c.names ≡ q.names
   pub values : AreValues (take c.floor.terms c.bindings.terms) c.values.items q.names
+  pub failure : IsFailure (take c.floor.terms c.bindings.terms) c.failure
   pub floor_there : c.floor.terms ≤ length c.bindings.terms
-  pub numbers : (c.calls ≡ 0) × (c.steps ≡ 0) × (c.events ≡ 0) × (c.solutions ≡ 0)
+  pub numbers : (c.calls ≡ 0) × (c.steps ≡ 0) × (c.events ≡ 0) × (c.solutions ≡ 0) × (c.conditions ≡ 0)
 
 abbrev begun : Stored → Goal → State
 begun t q = Going (world.Goal (goal_named t q.body) (Call 0) ∷ []) [] [] (started q.vars (loaded (clauses t)))
 
-numbered : Stored → ℕ → ℕ → ℕ → ℕ → ℕ → World
-numbered t variables calls steps events solutions = record (loaded (clauses t)) { variables = variables; calls = calls; steps = steps; events = events; solutions = solutions }
+abbrev numbered : Stored → ℕ → ℕ → ℕ → ℕ → ℕ → ℕ → World
+numbered t variables calls conditions steps events solutions =
+    record (loaded (clauses t)) { variables = variables; calls = calls; conditions = conditions; steps = steps; events = events; solutions = solutions }
 
 first-world : (c : Core) (q : Goal) (body n : ℕ) → IsSoundGoal n q → IsFirst c q body → world_in c ≡ started q.vars (loaded (clauses c.store))
 first-world c q body n query f =
@@ -59,11 +67,13 @@ first-world c q body n query f =
     let b = f.numbers.1 in
     let d = f.numbers.2 in
     let e = f.numbers.3 in
-    ap (λ (x : ℕ). record (loaded (clauses c.store)) { variables = x; calls = c.calls; steps = c.steps; events = c.events; solutions = c.solutions }) v
-    ∙ (ap (λ (x : ℕ). record (loaded (clauses c.store)) { variables = q.vars; calls = x; steps = c.steps; events = c.events; solutions = c.solutions }) a
-    ∙ (ap (λ (x : ℕ). record (loaded (clauses c.store)) { variables = q.vars; calls = 0; steps = x; events = c.events; solutions = c.solutions }) b
-    ∙ (ap (λ (x : ℕ). record (loaded (clauses c.store)) { variables = q.vars; calls = 0; steps = 0; events = x; solutions = c.solutions }) d
-    ∙ ap (λ (x : ℕ). record (loaded (clauses c.store)) { variables = q.vars; calls = 0; steps = 0; events = 0; solutions = x }) e)))
+    let g = f.numbers.4 in
+    ap (λ (x : ℕ). numbered c.store x c.calls c.conditions c.steps c.events c.solutions) v
+    ∙ (ap (λ (x : ℕ). numbered c.store q.vars x c.conditions c.steps c.events c.solutions) a
+    ∙ (ap (λ (x : ℕ). numbered c.store q.vars 0 x c.steps c.events c.solutions) g
+    ∙ (ap (λ (x : ℕ). numbered c.store q.vars 0 0 x c.events c.solutions) b
+    ∙ (ap (λ (x : ℕ). numbered c.store q.vars 0 0 0 x c.solutions) d
+    ∙ ap (λ (x : ℕ). numbered c.store q.vars 0 0 0 0 x) e))))
 
 first-state : (c : Core) (q : Goal) (body n : ℕ) → IsSoundGoal n q → IsFirst c q body → state_of c ≡ begun c.store q
 first-state c q body n query f =
@@ -72,7 +82,7 @@ first-state c q body n query f =
     let items : items_in t v 1 ≡ world.Goal (goal_named t q.body) (Call 0) ∷ [] =
     ap (λ (L : List (List Item)). map (item_term t v) (list_in L 1)) f.lists ∙ ap (λ (x : Term ℕ). world.Goal (goal_named t x) (Call 0) ∷ []) f.value in
     let bound : bindings_in t v ≡ [] = ap (λ (ps : List (ℕ × ℕ)). rename_bindings (name_at t.names) (resolved c.bindings.terms ps)) f.bound in
-    ap (state_with t v c.frames.items (world_in c)) f.mode
+    ap (state_with t v c.frames.choices (world_in c)) f.mode
     ∙ (ap (λ (F : List Frame). Going (items_in t v 1) (choices_of t v (reverse F)) (bindings_in t v) (world_in c)) f.frames
     ∙ (ap (λ I. Going I [] (bindings_in t v) (world_in c)) items
     ∙ (ap (λ (σ : Bindings Text). Going (world.Goal (goal_named t q.body) (Call 0) ∷ []) [] σ (world_in c)) bound
@@ -92,6 +102,26 @@ first-lists-good n ts body g zero h = tt
 first-lists-good n ts body g (suc zero) h = (g, tt)
 first-lists-good n ts body g (suc (suc m)) h = absurd (omega arith)
 
+first-list : (body n : ℕ) → n < length (first_lists body) → exits (list_in (first_lists body) n) ≡ []
+first-list body zero h = refl
+first-list body (suc zero) h = refl
+first-list body (suc (suc n)) h = absurd (omega arith)
+
+first-innermost : (body n : ℕ) → n < length (first_lists body) → innermost (list_in (first_lists body) n) ≡ 0
+first-innermost body zero h = refl
+first-innermost body (suc zero) h = refl
+first-innermost body (suc (suc n)) h = absurd (omega arith)
+
+-- no box was called
+first-boxes : (c : Core) (q : Goal) (body : ℕ) → IsFirst c q body → AreBoxes c.frames.boxes c.calls c.lists
+first-boxes c q body f =
+    subst (λ (B : List BoxFrame). AreBoxes B c.calls c.lists) (sym f.boxes)
+    (subst (AreBoxes [] c.calls) (sym f.lists) (record {
+      numbers = λ i d h. absurd (omega arith);
+      given = λ n h. omega (arith, first-innermost body n h);
+      chains = λ n h. sym (first-list body n h);
+    }))
+
 first-good : (c : Core) (q : Goal) (body : ℕ) → IsSoundGoal (length c.store.names) q → IsFirst c q body → IsGood c
 first-good c q body query f =
     let n : ℕ = length c.store.names in
@@ -105,6 +135,9 @@ first-good c q body query f =
       frames = subst (λ (F : List Frame). AreFrames c.store c.floor.terms (level_in c) (reverse F)) (sym f.frames) tt;
       mode = subst (λ (q : Mode). IsMode (length c.lists) q) (sym f.mode) (subst (λ (L : List (List Item)). 1 < length L) (sym f.lists) (omega arith));
       values = subst (AreValues (take c.floor.terms c.bindings.terms) c.values.items) (sym f.names) f.values;
+      failure = f.failure;
+      boxes = first-boxes c q body f;
+      boxed = subst (λ (F : List Frame). AreBoxed c.frames.boxes c.lists c.calls (length c.lists) (reverse F)) (sym f.frames) tt;
     }
 
 pub first-sound : (c : Core) (q : Goal) (body : ℕ) → IsSoundGoal (length c.store.names) q → IsFirst c q body → c.budget ≤ 1000000000 → IsSound c
@@ -112,34 +145,72 @@ first-sound c q body query f limit =
     let s : state_of c ≡ begun c.store q = first-state c q body (length c.store.names) query f in
     record {
       good = first-good c q body query f;
-      counted = subst (Counted (setup_of c)) (sym s) (record { steps = omega arith; calls = omega arith }, omega arith, omega arith, tt, tt);
+      counted = subst (Counted (setup_of c)) (sym s) (record { steps = omega arith; calls = omega arith; conditions = omega arith }, omega arith, omega arith, tt, tt);
       in_step = subst InStep (sym s) ((λ n h. absurd h, tt), (omega arith, tt), tt);
       limit = limit;
     }
 
+-- a machine of these parts
+abbrev pub core_of : Stored → Framed Held → Parts → ℕ → ℕ → Core
+core_of t f p budget wanted = record {
+  store = t;
+  bindings = p.bindings;
+  lists = p.lists;
+  frames = f;
+  mode = mode.Forward p.items;
+  seen = record { chrono = 0; call = 0; parent = 0; depth = 0; port = port.Call; goal = p.body };
+  names = p.names;
+  values = p.values;
+  failure = p.failure;
+  floor = p.floor;
+  calls = 0;
+  conditions = 0;
+  steps = 0;
+  events = 0;
+  solutions = 0;
+  budget = budget;
+  wanted = wanted;
+}
+
+pub first-core : (t : Stored) (f : Framed Held) (p : Parts) (q : Goal) (budget wanted : ℕ) → IsMade q p → f.choices ≡ [] → f.boxes ≡ [] → IsFirst (core_of t f p budget wanted) q p.body
+first-core t f p q budget wanted made choices boxes = record {
+  lists = made.lists;
+  mode = ap mode.Forward made.items;
+  frames = choices;
+  boxes = boxes;
+  bound = made.bound;
+  there = made.there;
+  value = made.value;
+  count = made.count;
+  names = made.names;
+  values = made.values;
+  failure = made.failure;
+  floor_there = made.floor_there;
+  numbers = (refl, refl, refl, refl, refl);
+}
+
 -- each part was made by its call
-pub first-made : (c : Core) (q : Goal) (body first : ℕ) (none given valued : bind.State) (floor : bind.Marked) (empty : List (List Item)) (items : ℕ)
+pub parts-made : (p : Parts) (q : Goal) (first : ℕ) (none given valued failed : bind.State) (empty : List (List Item))
     → none ≡ record { terms = []; bound = []; count = 0 } → first ≡ none.count → given ≡ record none { count = none.count + q.vars }
-    → valued.bound ≡ given.bound → valued.count ≡ given.count → AreValues valued.terms c.values.items q.names
-    → floor ≡ bind.mark_of valued → body < length c.bindings.terms → term_at c.bindings.terms body ≡ shift first q.body
-    → c.bindings.bound ≡ valued.bound → c.bindings.count ≡ valued.count → Grows valued c.bindings
-    → empty ≡ [] ∷ [] → items ≡ length empty → c.lists ≡ empty ++ (item.Goal body 0 ∷ list_in empty 0) ∷ [] → c.frames.items ≡ []
-    → c.mode ≡ mode.Forward items → c.names ≡ q.names → c.floor ≡ floor → (c.calls ≡ 0) × (c.steps ≡ 0) × (c.events ≡ 0) × (c.solutions ≡ 0)
-    → IsFirst c q body
-first-made c q body first none given valued floor empty items en ef eg vb vc vv em there value cb cc_ grows ee ei el frames emode names efl numbers =
+    → valued.bound ≡ given.bound → valued.count ≡ given.count → AreValues valued.terms p.values.items q.names
+    → failed.bound ≡ valued.bound → failed.count ≡ valued.count → Grows valued failed → p.failure < length failed.terms → term_at failed.terms p.failure ≡ atom 1
+    → p.floor ≡ bind.mark_of failed → p.body < length p.bindings.terms → term_at p.bindings.terms p.body ≡ shift first q.body
+    → p.bindings.bound ≡ failed.bound → p.bindings.count ≡ failed.count → Grows failed p.bindings
+    → empty ≡ [] ∷ [] → p.items ≡ length empty → p.lists ≡ empty ++ (item.Goal p.body (Call 0) ∷ list_in empty 0) ∷ []
+    → p.names ≡ q.names → IsMade q p
+parts-made p q first none given valued failed empty en ef eg vb vc vv fb fc more inside fail em there value cb cc_ grows ee ei el names =
     let start : first ≡ 0 = ef ∙ ap (λ (s : bind.State). s.count) en in
-    let at : c.floor.terms ≡ length valued.terms = ap (λ (m : bind.Marked). m.terms) (efl ∙ em) in
-    let front : take c.floor.terms c.bindings.terms ≡ valued.terms = ap (λ (n : ℕ). take n c.bindings.terms) at ∙ grows.terms in
+    let at : p.floor.terms ≡ length failed.terms = ap (λ (m : bind.Marked). m.terms) em in
+    let front : take p.floor.terms p.bindings.terms ≡ failed.terms = ap (λ (n : ℕ). take n p.bindings.terms) at ∙ grows.terms in
     record {
-      lists = el ∙ ap (λ (L : List (List Item)). L ++ (item.Goal body 0 ∷ list_in L 0) ∷ []) ee;
-      mode = emode ∙ ap mode.Forward (ei ∙ ap (λ (L : List (List Item)). length L) ee);
-      frames = frames;
-      bound = cb ∙ (vb ∙ (ap (λ (s : bind.State). s.bound) eg ∙ ap (λ (s : bind.State). s.bound) en));
+      lists = el ∙ ap (λ (L : List (List Item)). L ++ (item.Goal p.body (Call 0) ∷ list_in L 0) ∷ []) ee;
+      items = ei ∙ ap (λ (L : List (List Item)). length L) ee;
+      bound = cb ∙ (fb ∙ (vb ∙ (ap (λ (s : bind.State). s.bound) eg ∙ ap (λ (s : bind.State). s.bound) en)));
       there = there;
       value = value ∙ (ap (λ (k : ℕ). shift k q.body) start ∙ shift-none q.body);
-      count = cc_ ∙ (vc ∙ (ap (λ (s : bind.State). s.count) eg ∙ ap (λ (s : bind.State). s.count + q.vars) en ∙ omega arith));
+      count = cc_ ∙ (fc ∙ (vc ∙ (ap (λ (s : bind.State). s.count) eg ∙ ap (λ (s : bind.State). s.count + q.vars) en ∙ omega arith)));
       names = names;
-      values = subst (λ (ts : List (Term ℕ)). AreValues ts c.values.items q.names) (sym front) vv;
+      values = subst (λ (ts : List (Term ℕ)). AreValues ts p.values.items q.names) (sym front) (values-stay valued failed p.values.items q.names more vv);
+      failure = subst (λ (ts : List (Term ℕ)). IsFailure ts p.failure) (sym front) (inside, fail);
       floor_there = omega (arith, at, grows.terms_there);
-      numbers = numbers;
     }

@@ -5,9 +5,8 @@ use Rattle.op_trace.specs.World.{Clause}
 use Rattle.op_trace.specs.Visit as visit
 use Rattle.op_store.specs.Stored.{Stored}
 use Rattle.op_machine.specs.declared.core_state.Core.{Core}
-use Rattle.op_machine.specs.declared.frame.FrameKind.TheVariants as kind
 use Rattle.op_machine.specs.Program.{clauses_from, clause_in}
-use Rattle.op_machine.specs.Core.{level_in, items_now, goal_now, bindings_now, choice_by}
+use Rattle.op_machine.specs.Core.{items_now, goal_now, bindings_now}
 use Rattle.op_machine.specs.Resume.{with_more}
 
 -- one of them is the first of those from its place on
@@ -30,7 +29,7 @@ clauses_from-some t (q ∷ rs) (suc i) h = clauses_from-some t rs i (omega arith
 
 -- those that are left are a choice
 pub with_more-here : (c : Core) (rules : List Rule) (i k g n : ℕ) (K : List visit.Choice) → i < length rules
-    → with_more (clauses_from c.store rules i) k (goal_now c g) (bindings_now c) (items_now c n) K ≡ choice_by c.store (level_in c) (kind.More rules i) k g n ∷ K
+    → with_more (clauses_from c.store rules i) k (goal_now c g) (bindings_now c) (items_now c n) K ≡ visit.More (clauses_from c.store rules i) k (goal_now c g) (bindings_now c) (items_now c n) ∷ K
 with_more-here c rules i k g n K h =
     let some = clauses_from-some c.store rules i h in
     ap (λ (x : List Clause). with_more x k (goal_now c g) (bindings_now c) (items_now c n) K) some.1.1

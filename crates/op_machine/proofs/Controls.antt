@@ -1,19 +1,20 @@
 -- Which control construct a goal is, by the numbers of names.
-use Rattle.std.proofs.Common.{◌≡◌, ◌≢◌, ℕ, zero, suc, ◌<◌, true, false, List, take, codes, refl, sym, ap, ◌∙◌, subst, arith}
+use Rattle.std.proofs.Common.{◌≡◌, ◌≢◌, ℕ, suc, ◌<◌, Bool, true, false, List, take, codes, refl, sym, ap, ◌∙◌, subst, arith}
+use Rattle.std.specs.Bool.{OnTrue, OnFalse}
 use Rattle.std.proofs.lemmas.Slice.Eq.{bytes_eq-Decides}
 use Rattle.op_logic.proofs.Tests.{by_order, by_test}
 use Rattle.op_logic.proofs.Naming.{same_number, name-more}
-use Rattle.op_logic.specs.Term.{Term, var, int, node, Args, no_args, arg, args_of, arity}
+use Rattle.op_logic.specs.Term.{Term, var, int, node, Args, no_args, arg, args_of, nth_arg, arity, atom}
 use Rattle.op_logic.specs.Names.{name_at, IsTable}
 use Rattle.op_term.specs.Head.{head, sym as sym_of}
 use Rattle.op_term.specs.declared.node.Node.TheVariants as nodes
 use Rattle.op_term.specs.declared.symbols.Sym.{Sym}
 use Rattle.op_trace.specs.World.{Text, text_eq}
-use Rattle.op_trace.specs.Visit.{Control, Succeed, Give_up, Invoke, control, control_of_atom, control_of_pair, is_true}
+use Rattle.op_trace.specs.Visit.{Control, Succeed, Give_up, Commit, If, Either, Invoke, disjunction, control, control_of_atom, control_of_pair, is_true}
 use Rattle.op_trace.specs.Visit as visit
 use Rattle.op_store.specs.Stored.{Stored, first_names}
 use Rattle.op_machine.specs.Program.{goal_named}
-use Rattle.op_machine.specs.Kinds.{control_of_kind}
+use Rattle.op_machine.specs.Kinds.{control_of_kind, IsPair}
 use Rattle.op_machine.specs.declared.kind.Kind.{Kind}
 use Rattle.op_machine.specs.declared.kind.Kind.TheVariants as kinds
 
@@ -50,9 +51,13 @@ module _ (t : Stored) (table : IsTable t.names) (begins : take 8 t.names ≡ fir
   falsity-atom n e =
       rw (other-text n 0 (codes "true") (omega arith) refl (λ q. omega arith), other-text n 1 (codes "fail") (omega arith) refl (λ q. omega arith), same-text n 2 (codes "false") (omega arith) refl e) refl
 
-  pub other-atom : (n : ℕ) → n ≢ 0 → n ≢ 1 → n ≢ 2 → control_of_atom (name_at t.names n) ≡ Invoke
-  other-atom n a b c =
-      rw (other-text n 0 (codes "true") (omega arith) refl a, other-text n 1 (codes "fail") (omega arith) refl b, other-text n 2 (codes "false") (omega arith) refl c) refl
+  pub cut-atom : (n : ℕ) → n ≡ 6 → control_of_atom (name_at t.names n) ≡ Commit
+  cut-atom n e =
+      rw (other-text n 0 (codes "true") (omega arith) refl (λ q. omega arith), other-text n 1 (codes "fail") (omega arith) refl (λ q. omega arith), other-text n 2 (codes "false") (omega arith) refl (λ q. omega arith), same-text n 6 (codes "!") (omega arith) refl e) refl
+
+  pub other-atom : (n : ℕ) → n ≢ 0 → n ≢ 1 → n ≢ 2 → n ≢ 6 → control_of_atom (name_at t.names n) ≡ Invoke
+  other-atom n a b c d =
+      rw (other-text n 0 (codes "true") (omega arith) refl a, other-text n 1 (codes "fail") (omega arith) refl b, other-text n 2 (codes "false") (omega arith) refl c, other-text n 6 (codes "!") (omega arith) refl d) refl
 
   pub true-atom : (n : ℕ) → n ≡ 0 → is_true (goal_named t (node n no_args)) ≡ true
   true-atom n e = same-text n 0 (codes "true") (omega arith) refl e
@@ -63,28 +68,63 @@ module _ (t : Stored) (table : IsTable t.names) (begins : take 8 t.names ≡ fir
   pub comma-pair : (n : ℕ) (a b : Term Text) → n ≡ 3 → control_of_pair (name_at t.names n) a b ≡ visit.Both a b
   comma-pair n a b e = rw (same-text n 3 (codes ",") (omega arith) refl e) refl
 
-  pub other-pair : (n : ℕ) (a b : Term Text) → n ≢ 3 → control_of_pair (name_at t.names n) a b ≡ Invoke
-  other-pair n a b ne = rw (other-text n 3 (codes ",") (omega arith) refl ne) refl
+  pub either-pair : (n : ℕ) (a b : Term Text) → n ≡ 4 → control_of_pair (name_at t.names n) a b ≡ disjunction a b
+  either-pair n a b e = rw (other-text n 3 (codes ",") (omega arith) refl (λ q. omega arith), same-text n 4 (codes ";") (omega arith) refl e) refl
+
+  pub then-pair : (n : ℕ) (a b : Term Text) → n ≡ 5 → control_of_pair (name_at t.names n) a b ≡ If a b (atom (codes "fail"))
+  then-pair n a b e =
+      rw (other-text n 3 (codes ",") (omega arith) refl (λ q. omega arith), other-text n 4 (codes ";") (omega arith) refl (λ q. omega arith), same-text n 5 (codes "->") (omega arith) refl e) refl
+
+  pub other-pair : (n : ℕ) (a b : Term Text) → n ≢ 3 → n ≢ 4 → n ≢ 5 → control_of_pair (name_at t.names n) a b ≡ Invoke
+  other-pair n a b x y z =
+      rw (other-text n 3 (codes ",") (omega arith) refl x, other-text n 4 (codes ";") (omega arith) refl y, other-text n 5 (codes "->") (omega arith) refl z) refl
 
   -- the kind of an atom, by its number
-  pub atom-control : (g : Term ℕ) (n : ℕ) (k : Kind) → (n ≡ 0 → k ≡ kinds.Truth) → (n ≡ 1 → k ≡ kinds.Failure) → (n ≡ 2 → k ≡ kinds.Failure) → (2 < n → k ≡ kinds.Boxed)
-      → control_of_atom (name_at t.names n) ≡ control_of_kind t g k
-  atom-control g zero k a b c d = truth-atom 0 refl ∙ ap (control_of_kind t g) (sym (a refl))
-  atom-control g (suc zero) k a b c d = failure-atom 1 refl ∙ ap (control_of_kind t g) (sym (b refl))
-  atom-control g (suc (suc zero)) k a b c d = falsity-atom 2 refl ∙ ap (control_of_kind t g) (sym (c refl))
-  atom-control g (suc (suc (suc n))) k a b c d =
-      other-atom (suc (suc (suc n))) (λ q. omega arith) (λ q. omega arith) (λ q. omega arith) ∙ ap (control_of_kind t g) (sym (d (omega arith)))
+  pub atom-control : (g : Term ℕ) (n : ℕ) (k : Kind) → (n ≡ 0 → k ≡ kinds.Truth) → (n ≡ 1 → k ≡ kinds.Failure) → (n ≡ 2 → k ≡ kinds.Failure) → (n ≡ 6 → k ≡ kinds.Cut)
+      → (2 < n → n ≢ 6 → k ≡ kinds.Boxed) → control_of_atom (name_at t.names n) ≡ control_of_kind t g k
+  atom-control g n k a b c d e =
+      by_equal n 0 (λ q. truth-atom n q ∙ ap (control_of_kind t g) (sym (a q))) (λ x.
+      by_equal n 1 (λ q. failure-atom n q ∙ ap (control_of_kind t g) (sym (b q))) (λ y.
+      by_equal n 2 (λ q. falsity-atom n q ∙ ap (control_of_kind t g) (sym (c q))) (λ z.
+      by_equal n 6 (λ q. cut-atom n q ∙ ap (control_of_kind t g) (sym (d q))) (λ w.
+      other-atom n x y z w ∙ ap (control_of_kind t g) (sym (e (omega (arith, x, y, z)) w))))))
 
   -- the kind of a compound, by its number and its arguments
-  pub struct-control : (f : ℕ) (ts : Args ℕ) (k : Kind) → 0 < arity ts → (f ≡ 3 → arity ts ≡ 2 → k ≡ kinds.Both) → ((f ≡ 3 → arity ts ≡ 2 → ⊥) → k ≡ kinds.Boxed)
+  pub struct-control : (f : ℕ) (ts : Args ℕ) (k : Kind) → 0 < arity ts → (f ≡ 3 → arity ts ≡ 2 → k ≡ kinds.Both) → (f ≡ 4 → arity ts ≡ 2 → k ≡ kinds.Either) → (f ≡ 5 → arity ts ≡ 2 → k ≡ kinds.Then)
+      → (f ≢ 3 → f ≢ 4 → f ≢ 5 → k ≡ kinds.Boxed) → (arity ts ≢ 2 → k ≡ kinds.Boxed)
       → control (goal_named t (node f ts)) ≡ control_of_kind t (node f ts) k
-  struct-control f no_args k p a b = absurd (omega (arith, p))
-  struct-control f (arg x no_args) k p a b = ap (control_of_kind t (node f (arg x no_args))) (sym (b (λ q r. omega (arith, r))))
-  struct-control f (arg x (arg y no_args)) k p a b =
-      by_equal f 3
-      (λ e. comma-pair f (goal_named t x) (goal_named t y) e ∙ ap (control_of_kind t (node f (arg x (arg y no_args)))) (sym (a e refl)))
-      (λ ne. other-pair f (goal_named t x) (goal_named t y) ne ∙ ap (control_of_kind t (node f (arg x (arg y no_args)))) (sym (b (λ q r. ne q))))
-  struct-control f (arg x (arg y (arg z us))) k p a b = ap (control_of_kind t (node f (arg x (arg y (arg z us))))) (sym (b (λ q r. omega (arith, r))))
+  struct-control f no_args k p a b c d l = absurd (omega (arith, p))
+  struct-control f (arg x no_args) k p a b c d l = ap (control_of_kind t (node f (arg x no_args))) (sym (l (λ q. omega (arith, q))))
+  struct-control f (arg x (arg y no_args)) k p a b c d l =
+      let X : Term Text = goal_named t x in
+      let Y : Term Text = goal_named t y in
+      let of : Kind → Control = control_of_kind t (node f (arg x (arg y no_args))) in
+      by_equal f 3 (λ e. comma-pair f X Y e ∙ ap of (sym (a e refl))) (λ m.
+      by_equal f 4 (λ e. either-pair f X Y e ∙ ap of (sym (b e refl))) (λ n.
+      by_equal f 5 (λ e. then-pair f X Y e ∙ ap of (sym (c e refl))) (λ o.
+      other-pair f X Y m n o ∙ ap of (sym (d m n o)))))
+  struct-control f (arg x (arg y (arg z us))) k p a b c d l = ap (control_of_kind t (node f (arg x (arg y (arg z us))))) (sym (l (λ q. omega (arith, q))))
+
+  -- whether the first part of a disjunction is a condition
+  pub then-disjunction : (g : Term ℕ) (e : Term Text) → g ≡ node 5 (args_of g) → arity (args_of g) ≡ 2
+      → disjunction (goal_named t g) e ≡ If (goal_named t (nth_arg (args_of g) 0)) (goal_named t (nth_arg (args_of g) 1)) e
+  then-disjunction (var v) e q two = absurd cc
+  then-disjunction (int i) e q two = absurd cc
+  then-disjunction (node f no_args) e q two = absurd (omega (arith, two))
+  then-disjunction (node f (arg x no_args)) e q two = absurd (omega (arith, two))
+  then-disjunction (node f (arg x (arg y no_args))) e q two =
+      let is : f ≡ 5 = cc in
+      rw (same-text f 5 (codes "->") (omega arith) refl is) refl
+  then-disjunction (node f (arg x (arg y (arg z us)))) e q two = absurd (omega (arith, two))
+
+  pub other-disjunction : (g : Term ℕ) (e : Term Text) → ((ts : Args ℕ) → g ≡ node 5 ts → arity ts ≡ 2 → ⊥) → disjunction (goal_named t g) e ≡ Either (goal_named t g) e
+  other-disjunction (var v) e other = refl
+  other-disjunction (int i) e other = refl
+  other-disjunction (node f no_args) e other = refl
+  other-disjunction (node f (arg x no_args)) e other = refl
+  other-disjunction (node f (arg x (arg y no_args))) e other =
+      rw (other-text f 5 (codes "->") (omega arith) refl (λ q. other (arg x (arg y no_args)) (ap (λ (n : ℕ). node n (arg x (arg y no_args))) q) refl)) refl
+  other-disjunction (node f (arg x (arg y (arg z us)))) e other = refl
 
 pub head-atom : (g : Term ℕ) (f : Sym) → head g ≡ nodes.Atom f → g ≡ node f.0 no_args
 head-atom (var v) f e = absurd cc
@@ -108,8 +148,26 @@ not-true t (int i) h = refl
 not-true t (node f no_args) h = absurd (h (sym_of f) refl)
 not-true t (node f (arg x xs)) h = refl
 
-pub no-two : {P : Type 0} (g : Term ℕ) (n : ℕ) (k : Kind) → k ≡ kinds.Both → (n ≡ 0 → k ≡ kinds.Truth) → (n ≡ 1 → k ≡ kinds.Failure) → (n ≡ 2 → k ≡ kinds.Failure) → (2 < n → k ≡ kinds.Boxed) → P
-no-two g zero k e a b c d = let q : kinds.Truth ≡ kinds.Both = sym (a refl) ∙ e in absurd cc
-no-two g (suc zero) k e a b c d = let q : kinds.Failure ≡ kinds.Both = sym (b refl) ∙ e in absurd cc
-no-two g (suc (suc zero)) k e a b c d = let q : kinds.Failure ≡ kinds.Both = sym (c refl) ∙ e in absurd cc
-no-two g (suc (suc (suc n))) k e a b c d = let q : kinds.Boxed ≡ kinds.Both = sym (d (omega arith)) ∙ e in absurd cc
+-- no atom has two parts
+pub no-pair : {P : Type 0} (n : ℕ) (k : Kind) → IsPair k → (n ≡ 0 → k ≡ kinds.Truth) → (n ≡ 1 → k ≡ kinds.Failure) → (n ≡ 2 → k ≡ kinds.Failure) → (n ≡ 6 → k ≡ kinds.Cut)
+    → (2 < n → n ≢ 6 → k ≡ kinds.Boxed) → P
+no-pair {P} n k pair a b c d e =
+    by_equal n 0 (λ q. single kinds.Truth (a q) (λ h. h)) (λ x.
+    by_equal n 1 (λ q. single kinds.Failure (b q) (λ h. h)) (λ y.
+    by_equal n 2 (λ q. single kinds.Failure (c q) (λ h. h)) (λ z.
+    by_equal n 6 (λ q. single kinds.Cut (d q) (λ h. h)) (λ w. single kinds.Boxed (e (omega (arith, x, y, z)) w) (λ h. h)))))
+  where
+    single : (j : Kind) → k ≡ j → (IsPair j → ⊥) → P
+    single j q none = absurd (none (subst IsPair q pair))
+
+pub on-true : {P Q : Type 0} (r : Bool) → OnTrue r P → (P → Q) → OnTrue r Q
+on-true true h f = f h
+on-true false h f = tt
+
+pub on-false : {P Q : Type 0} (r : Bool) → OnFalse r P → (P → Q) → OnFalse r Q
+on-false true h f = tt
+on-false false h f = f h
+
+-- equal compounds have one name
+pub name-of : (f n : ℕ) (ts us : Args ℕ) → node f ts ≡ node n us → f ≡ n
+name-of f n ts us e = cc

@@ -13,12 +13,12 @@ use Rattle.op_bind.proofs.Unifying.{oldest-oldest}
 use Rattle.op_trace.specs.World as world
 use Rattle.op_machine.specs.declared.lists.Item.{Item}
 use Rattle.op_machine.specs.declared.lists.Item.TheVariants as item
-use Rattle.op_machine.specs.declared.frame.Frame.{Frame}
+use Rattle.op_machine.specs.Core.{Frame}
 use Rattle.op_machine.proofs.ListLaws.{take-within}
 use Rattle.op_machine.specs.Lists.{list_in}
 use Rattle.op_store.specs.Stored.{Stored}
 use Rattle.op_machine.specs.Program.{goal_named}
-use Rattle.op_machine.specs.Core.{Level, level_at, level_of, items_in, item_term, choices_of, choice_of, IsGoal, IsItem, AreItems, IsLevel, IsEarlier, IsFrame, AreFrames, AreValues}
+use Rattle.op_machine.specs.Core.{Level, level_at, level_of, items_in, item_term, choices_of, choice_of, IsGoal, IsItem, AreItems, IsLevel, IsEarlier, IsFrame, AreFrames, AreValues, IsFailure}
 
 take-front : {A : Type 0} (xs ys : List A) → take (length xs) (xs ++ ys) ≡ xs
 take-front [] ys = refl
@@ -62,8 +62,8 @@ level_at-rises v w f r e =
     sym (take-within f.mark.terms (length v.terms) w.terms e.terms_there) ∙ ap (take f.mark.terms) r.terms in
     let b : oldest f.mark.bound w.bound ≡ oldest f.mark.bound v.bound =
     sym (oldest-oldest f.mark.bound (length v.bound) w.bound e.bound_there r.bound_there) ∙ ap (oldest f.mark.bound) r.bound in
-    let l : take f.lists w.lists ≡ take f.lists v.lists =
-    sym (take-within f.lists (length v.lists) w.lists e.lists_there) ∙ ap (take f.lists) r.lists in
+    let l : take f.kept.lists w.lists ≡ take f.kept.lists v.lists =
+    sym (take-within f.kept.lists (length v.lists) w.lists e.lists_there) ∙ ap (take f.kept.lists) r.lists in
     cc
 
 pub earlier-rises : (v w : Level) (f : Frame) → Rises v w → IsEarlier f v → IsEarlier f w
@@ -102,11 +102,13 @@ pub goal-rises : (n : ℕ) (v w : Level) (r : ℕ) → Rises v w → IsGoal n v.
 goal-rises n v w r h g = (omega (arith, g.0, h.terms_there), subst (HasNames n) (sym (term-rises v w r h g.0)) g.1)
 
 pub item-rises : (n : ℕ) (t : Stored) (v w : Level) (i : Item) → Rises v w → IsItem n v.terms i → item_term t w i ≡ item_term t v i
-item-rises n t v w (item.Goal r m) h a = ap (λ (x : Term ℕ). world.Goal (goal_named t x) (world.Call m)) (term-rises v w r h a.0)
+item-rises n t v w (item.Goal r m) h a = ap (λ (x : Term ℕ). world.Goal (goal_named t x) m) (term-rises v w r h a.0)
+item-rises n t v w (item.Cut m) h a = refl
 item-rises n t v w (item.Exit k r) h a = ap (λ (x : Term ℕ). world.Exit k (goal_named t x)) (term-rises v w r h a.0)
 
 pub is-item-rises : (n : ℕ) (v w : Level) (i : Item) → Rises v w → IsItem n v.terms i → IsItem n w.terms i
 is-item-rises n v w (item.Goal r m) h a = goal-rises n v w r h a
+is-item-rises n v w (item.Cut m) h a = tt
 is-item-rises n v w (item.Exit k r) h a = goal-rises n v w r h a
 
 pub items-rise : (n : ℕ) (t : Stored) (v w : Level) (I : List Item) → Rises v w → AreItems n v.terms I → map (item_term t w) I ≡ map (item_term t v) I
@@ -133,6 +135,11 @@ pub values-rise : (floor : ℕ) (v w : Level) (rs : List ℕ) (ps : List (List �
 values-rise floor v w rs ps h f a =
     let e : take floor w.terms ≡ take floor v.terms = sym (take-within floor (length v.terms) w.terms f) ∙ ap (take floor) h.terms in
     subst (λ (ts : List (Term ℕ)). AreValues ts rs ps) (sym e) a
+
+pub failure-rises : (floor : ℕ) (v w : Level) (r : ℕ) → Rises v w → floor ≤ length v.terms → IsFailure (take floor v.terms) r → IsFailure (take floor w.terms) r
+failure-rises floor v w r h f a =
+    let e : take floor w.terms ≡ take floor v.terms = sym (take-within floor (length v.terms) w.terms f) ∙ ap (take floor) h.terms in
+    subst (λ (ts : List (Term ℕ)). IsFailure ts r) (sym e) a
 
 -- a level that has further bindings and terms, but the same lists
 pub level-bindings : (t : Stored) (floor : ℕ) (s u : bind.State) (L : List (List Item)) → Grows s u → HaveNames (length t.names) (bindings u)
@@ -162,12 +169,12 @@ level-lists t floor s L i n lev it h =
     }
 
 -- a choice that is made now is made at this level
-pub level-now : (s : bind.State) (L : List (List Item)) (f : Frame) → f.mark ≡ mark_of s → f.lists ≡ length L → level_at f (level_of s L) ≡ level_of s L
+pub level-now : (s : bind.State) (L : List (List Item)) (f : Frame) → f.mark ≡ mark_of s → f.kept.lists ≡ length L → level_at f (level_of s L) ≡ level_of s L
 level-now s L f m l =
     let t : take f.mark.terms s.terms ≡ s.terms = ap (λ (k : bind.Marked). take k.terms s.terms) m ∙ take-length s.terms in
     let b : oldest f.mark.bound s.bound ≡ s.bound = ap (λ (k : bind.Marked). oldest k.bound s.bound) m ∙ oldest-all s.bound in
-    let n : take f.lists L ≡ L = ap (λ (k : ℕ). take k L) l ∙ take-length L in
+    let n : take f.kept.lists L ≡ L = ap (λ (k : ℕ). take k L) l ∙ take-length L in
     cc
 
-pub earlier-now : (s : bind.State) (L : List (List Item)) (f : Frame) → IsGoodMark s f.mark → f.lists ≡ length L → IsEarlier f (level_of s L)
+pub earlier-now : (s : bind.State) (L : List (List Item)) (f : Frame) → IsGoodMark s f.mark → f.kept.lists ≡ length L → IsEarlier f (level_of s L)
 earlier-now s L f g l = record { terms_there = g.terms_there; bound_there = g.bound_there; bound_below = g.bound_below; lists_there = omega arith }

@@ -49,6 +49,7 @@ only_empty-shallow (suc m) h = absurd (omega arith)
 
 pub opened-cons : (i : Item) (I : List Item) → length (opened (i ∷ I)) ≤ suc (length (opened I))
 opened-cons (item.Goal f m) I = omega arith
+opened-cons (item.Cut m) I = omega arith
 opened-cons (item.Exit k g) I = omega arith
 
 pub joined-shallow : (L : List (List Item)) (c : Cell) → c.rest < length L → AreShallow L → AreShallow (joined L c)

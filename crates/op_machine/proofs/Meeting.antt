@@ -11,6 +11,7 @@ use Rattle.op_bind.specs.State as bind
 use Rattle.op_bind.specs.State.{bindings}
 use Rattle.op_bind.specs.Grown.{Grows}
 use Rattle.op_bind.specs.Pairs.{unified, with_variables}
+use Rattle.op_trace.specs.declared.barrier.Barrier.TheVariants.{Call}
 use Rattle.op_trace.specs.World as world
 use Rattle.op_trace.specs.World.{Text, text_eq, Clause, World}
 use Rattle.op_trace.specs.Visit as visit
@@ -25,7 +26,7 @@ use Rattle.op_machine.specs.Program.{clause_in, goal_named, IsKnown}
 use Rattle.op_machine.specs.Core.{setup_of, world_in, level_in, level_of, items_now, goal_now, bindings_now, choices_in, IsGood, IsGoal}
 use Rattle.op_machine.specs.Rows.{Advances, rule_met, head_unified, body_entered, body_before}
 use Rattle.op_machine.specs.Resume.{Going, Back, Over, Moved, silent, met}
-use Rattle.op_machine.proofs.Levels.{Rises, rises-bindings, choices-rise, frames-rise, term-rises, items_in-rise, values-rise, level-bindings}
+use Rattle.op_machine.proofs.Levels.{Rises, rises-bindings, choices-rise, frames-rise, term-rises, items_in-rise, values-rise, failure-rises, level-bindings}
 use Rattle.op_machine.proofs.Naming.{shift-named, is_true-shift, unified-named, found, nothing, found-names}
 use Rattle.op_machine.proofs.Paying.{pay-yes, pay-no}
 
@@ -56,9 +57,12 @@ bound-rises c s g = rises-bindings c.bindings s c.lists g
 pub bound-good : (c : Core) (s : bind.State) (steps : ℕ) → IsGood c → Grows c.bindings s → HaveNames (length c.store.names) (bindings s) → IsGood (bound_on c s steps)
 bound-good c s steps good g names = record {
   level = level-bindings c.store c.floor.terms c.bindings s c.lists g names good.level;
-  frames = frames-rise c.store c.floor.terms (level_in c) (level_of s c.lists) (reverse c.frames.items) (bound-rises c s g) good.frames;
+  frames = frames-rise c.store c.floor.terms (level_in c) (level_of s c.lists) (reverse c.frames.choices) (bound-rises c s g) good.frames;
   mode = good.mode;
   values = values-rise c.floor.terms (level_in c) (level_of s c.lists) c.values.items c.names (bound-rises c s g) good.level.floor_there good.values;
+  failure = failure-rises c.floor.terms (level_in c) (level_of s c.lists) c.failure (bound-rises c s g) good.level.floor_there good.failure;
+  boxes = good.boxes;
+  boxed = good.boxed;
 }
 
 pub bound-names : (c : Core) (r : Rule) (g after : ℕ) (s : bind.State) → IsGood c → IsGoal (length c.store.names) c.bindings.terms g → IsKnown (length c.store.names) r
@@ -69,7 +73,7 @@ bound-names c r g after s good goal rule e =
 
 -- the body that comes next, over texts
 abbrev entered_by : Bool → Term Text → ℕ → Term Text → List world.Item → List world.Item
-entered_by b t k g J = if b then world.Exit k g ∷ J else world.Goal t (world.Call k) ∷ world.Exit k g ∷ J
+entered_by b t k g J = if b then world.Exit k g ∷ J else world.Goal t (Call k) ∷ world.Exit k g ∷ J
 
 entered-same : (c : Core) (s : bind.State) (r : Rule) (k g b n steps : ℕ) → IsGood c → Grows c.bindings s → IsGoal (length c.store.names) c.bindings.terms g → n < length c.lists
     → term_at s.terms b ≡ shift c.bindings.count r.body
@@ -102,7 +106,7 @@ met-yes c s r k g b n after table below good grows goal there e count value =
     let I : List world.Item = entered c.bindings.count C k (goal_now c g) (items_now c n) in
     let h : World → Moved = λ u. silent (Going I (choices_in c) (bindings_now mid) (record u { variables = u.variables + vars })) in
     let steps : c.budget - (after + vars) + vars ≡ c.budget - after = omega arith in
-    let choices : choices_in c ≡ choices_in mid = sym (choices-rise c.store c.floor.terms (level_in c) (level_of s c.lists) (reverse c.frames.items) (bound-rises c s grows) good.frames) in
+    let choices : choices_in c ≡ choices_in mid = sym (choices-rise c.store c.floor.terms (level_in c) (level_of s c.lists) (reverse c.frames.choices) (bound-rises c s grows) good.frames) in
     ap (met (setup_of c) C k (goal_now c g) (items_now c n) (choices_in c) (world_in c)) (head-met c r g table ∙ ap (rename_solved (name_at c.store.names)) e)
     ∙ (pay-yes (setup_of c) vars w h (omega arith)
     ∙ (ap (λ (x : ℕ). silent (Going I (choices_in c) (bindings_now mid) (record (world_in c) { steps = x; variables = c.bindings.count + vars }))) steps
@@ -161,7 +165,7 @@ unmet-advances c s r k g n after left table good e kept l =
     let done : Advances c (record c { steps = c.budget - after; mode = mode.Backward }) (rule_met c r k g n) step.Silent = record {
       turns = ap (λ (x : Moved). x.turns) (sym m);
       state = ap (λ (x : Moved). x.state) (sym m);
-      good = record { level = good.level; frames = good.frames; mode = tt; values = good.values };
+      good = record { level = good.level; frames = good.frames; mode = tt; values = good.values; failure = good.failure; boxes = good.boxes; boxed = good.boxed };
       looked = tt;
       store = refl;
       names = refl;
@@ -178,7 +182,7 @@ spent-met-advances c s r k g n new table below good e still is =
     let done : Advances c (record c { steps = c.budget; mode = mode.Over outcome.Spent }) (rule_met c r k g n) step.Silent = record {
       turns = ap (λ (x : Moved). x.turns) (sym m);
       state = ap (λ (x : Moved). x.state) (sym m);
-      good = record { level = good.level; frames = good.frames; mode = tt; values = good.values };
+      good = record { level = good.level; frames = good.frames; mode = tt; values = good.values; failure = good.failure; boxes = good.boxes; boxed = good.boxed };
       looked = tt;
       store = refl;
       names = refl;

@@ -3,10 +3,14 @@ use Rattle.std.proofs.Common.{◌≡◌, ℕ, ◌+◌, ◌-◌, ◌≤◌, ◌==
 use Rattle.op_logic.specs.Term.{Term, shift}
 use Rattle.op_logic.specs.Bind.{Bindings, unify, Solved as Result}
 use Rattle.op_trace.specs.declared.port.Port.TheVariants as port
-use Rattle.op_trace.specs.World.{Text, text_eq, Clause, World, Setup, Barrier, Item, Goal, Exit, Turn, Shown, Solved, procedure}
-use Rattle.op_trace.specs.Visit.{Verdict, Failed, Stopped, Spent, Visited, gives, with_turns, and_then, event_of, with_event, pays, Control, Succeed, Give_up, Both, Invoke, control, entered, Choice, Redo, More, Fail, matched, tries, alternatives, after, boxed, selected, solved, visit, visit_with}
+use Rattle.op_trace.specs.declared.barrier.Barrier.{Barrier}
+use Rattle.op_trace.specs.declared.barrier.Barrier.TheVariants.{Call, Within, Past}
+use Rattle.op_trace.specs.World.{Text, text_eq, Clause, World, Setup, same_barrier, Item, Goal, Cut, Exit, Turn, Shown, Solved, procedure}
+use Rattle.op_trace.specs.Visit.{Verdict, Failed, CutTo, Stopped, Spent, Visited, gives, with_turns, and_then, event_of, with_event, pays, reaches, cut, shows, Control, Succeed, Give_up, Commit, Both, Either, If, Invoke, control, entered, Choice, Redo, Branch, More, Fail, Condition, matched, tries, alternatives, branches, after, boxed, selected, solved, visit, visit_with}
 use Rattle.op_trace.proofs.Agree.{visit_rows}
-use Rattle.op_machine.specs.Resume.{with_more, resume, State, Going, Back, Over, owed, Moved, silent, paid, invoked, chosen, met, tried, at_solution, move, world_of}
+use Rattle.op_trace.proofs.Only.{Only, visit-only}
+use Rattle.op_machine.specs.Resume.{resume, keep, with_more, State, Going, Back, Over, owed, Moved, silent, paid, invoked, chosen, met, tried, branched, at_solution, move, world_of}
+use Rattle.op_machine.specs.Scope.{Behind, InStep}
 
 -- a walk that leads to another, and then to a third
 pub and_then-assoc : (v : Visited) (h i : Verdict → World → Visited)
@@ -19,6 +23,8 @@ pub resume-Stopped : (s : Setup) (K : List Choice) (w : World) → resume s K St
 unfolding resume
 resume-Stopped s [] w = refl
 resume-Stopped s (Redo k g σ J ∷ K) w = resume-Stopped s K w
+resume-Stopped s (Branch t m σ J ∷ K) w = resume-Stopped s K w
+resume-Stopped s (Condition n t m σ J ∷ K) w = resume-Stopped s K w
 resume-Stopped s (More [] k g σ J ∷ K) w = resume-Stopped s K w
 resume-Stopped s (More (c ∷ cs) k g σ J ∷ K) w = resume-Stopped s K w
 resume-Stopped s (Fail k g σ J ∷ K) w = resume-Stopped s K w
@@ -27,9 +33,50 @@ pub resume-Spent : (s : Setup) (K : List Choice) (w : World) → resume s K Spen
 unfolding resume
 resume-Spent s [] w = refl
 resume-Spent s (Redo k g σ J ∷ K) w = resume-Spent s K w
+resume-Spent s (Branch t m σ J ∷ K) w = resume-Spent s K w
+resume-Spent s (Condition n t m σ J ∷ K) w = resume-Spent s K w
 resume-Spent s (More [] k g σ J ∷ K) w = resume-Spent s K w
 resume-Spent s (More (c ∷ cs) k g σ J ∷ K) w = resume-Spent s K w
 resume-Spent s (Fail k g σ J ∷ K) w = resume-Spent s K w
+
+-- a cut leads to the choices that it keeps
+pub resume-cut : (s : Setup) (K : List Choice) (m : Barrier) (w : World) → resume s K (CutTo m) w ≡ resume s (keep m K) Failed w
+unfolding resume
+resume-cut s [] m w = refl
+resume-cut s (Redo k g σ J ∷ K) m w = resume-cut s K m w
+resume-cut s (Branch t b σ J ∷ K) m w = resume-cut s K m w
+resume-cut s (More [] k g σ J ∷ K) m w = resume-cut s K m w
+resume-cut s (More (c ∷ cs) k g σ J ∷ K) m w = resume-cut s K m w
+resume-cut s (Fail k g σ J ∷ K) m w = go (same_barrier m (Call k)) (resume-cut s K m w)
+  where
+    go : (b : Bool) → resume s K (CutTo m) w ≡ resume s (keep m K) Failed w
+        → and_then (reaches b (λ u. shows port.Fail k g σ J u (gives Failed)) (gives (CutTo m)) w) (resume s K)
+        ≡ resume s (if b then Fail k g σ J ∷ K else keep m K) Failed w
+    go true below = refl
+    go false below = below
+resume-cut s (Condition n t b σ J ∷ K) m w = go (same_barrier m (Within n)) (same_barrier m (Past n)) (resume-cut s K m w)
+  where
+    go : (c d : Bool) → resume s K (CutTo m) w ≡ resume s (keep m K) Failed w
+        → and_then (reaches c (branches (visit s) s t b σ J) (reaches d (gives Failed) (gives (CutTo m))) w) (resume s K)
+        ≡ resume s (if c then Condition n t b σ J ∷ K else (if d then K else keep m K)) Failed w
+    go true d below = refl
+    go false true below = refl
+    go false false below = below
+
+-- with items behind it whose cuts keep the same, a cut can be made at once
+pub cut-row : (s : Setup) (m : Barrier) (J : List Item) (K : List Choice) (r : Verdict) (w : World) → Behind m K J → Only J r
+    → and_then (cut m r w) (resume s K) ≡ resume s (keep m K) r w
+cut-row s m J K Failed w b o = resume-cut s K m w
+cut-row s m J K (CutTo n) w b o =
+    resume-cut s K n w ∙ (ap (λ (L : List Choice). resume s L Failed w) (sym (b n o)) ∙ sym (resume-cut s (keep m K) n w))
+cut-row s m J K Stopped w b o = resume-Stopped s K w ∙ sym (resume-Stopped s (keep m K) w)
+cut-row s m J K Spent w b o = resume-Spent s K w ∙ sym (resume-Spent s (keep m K) w)
+
+pub cuts-row : (s : Setup) (m : Barrier) (J : List Item) (K : List Choice) (σ : Bindings Text) (w : World) → Behind m K J
+    → and_then (and_then (visit s J σ w) (cut m)) (resume s K) ≡ and_then (visit s J σ w) (resume s (keep m K))
+cuts-row s m J K σ w b =
+    and_then-assoc (visit s J σ w) (cut m) (resume s K)
+    ∙ ap (with_turns (visit s J σ w).turns) (cut-row s m J K (visit s J σ w).verdict (visit s J σ w).world b (visit-only s J σ w))
 
 -- what a move comes to
 abbrev pub comes : Setup → Moved → Visited
@@ -84,13 +131,24 @@ boxed-row s g J σ w K =
     (and_then-assoc (alternatives (visit s) s (procedure w.clauses g) k g σ J Failed (with_event u)) (after (visit s) s (Fail k g σ J)) (resume s K)
     ∙ sym (resume-with_more s (procedure w.clauses g) k g σ J (Fail k g σ J ∷ K) Failed (with_event u)))
 
-pub selected-row : (s : Setup) (q : Control) (t : Term Text) (m : Barrier) (J : List Item) (σ : Bindings Text) (w : World) (K : List Choice)
-    → and_then (selected (visit s) s q t m J σ w) (resume s K) ≡ comes s (chosen q t m J K σ w)
+pub branched-row : (s : Setup) (t : Term Text) (m : Barrier) (σ : Bindings Text) (J : List Item) (w : World) (K : List Choice)
+    → and_then (branches (visit s) s t m σ J w) (resume s K) ≡ comes s (branched s t m σ J K w)
 unfolding owed
-selected-row s Succeed t m J σ w K = refl
-selected-row s Give_up t m J σ w K = refl
-selected-row s (Both a b) t m J σ w K = refl
-selected-row s Invoke t m J σ w K = boxed-row s t J σ w K
+branched-row s t m σ J w K =
+    paid-row (nat_le (w.steps + 1) s.budget) s 1 w (visit s (Goal t m ∷ J) σ) (λ u. silent (Going (Goal t m ∷ J) K σ u)) K refl
+
+pub selected-row : (s : Setup) (q : Control) (t : Term Text) (m : Barrier) (J : List Item) (σ : Bindings Text) (w : World) (K : List Choice)
+    → Behind m K J → and_then (selected (visit s) s q t m J σ w) (resume s K) ≡ comes s (chosen q t m J K σ w)
+unfolding owed
+selected-row s Succeed t m J σ w K b = refl
+selected-row s Give_up t m J σ w K b = refl
+selected-row s Commit t m J σ w K b = cuts-row s m J K σ w b
+selected-row s (Both x y) t m J σ w K b = refl
+selected-row s (Either x y) t m J σ w K b = push-row s (visit s (Goal x m ∷ J) σ w) (Branch y m σ J) K
+selected-row s (If c x y) t m J σ w K b =
+    let n : ℕ = w.conditions + 1 in
+    push-row s (visit s (Goal c (Within n) ∷ Cut (Past n) ∷ Goal x m ∷ J) σ (record w { conditions = n })) (Condition n y m σ J) K
+selected-row s Invoke t m J σ w K b = boxed-row s t J σ w K
 
 pub solved-row : (s : Setup) (σ : Bindings Text) (w : World) (K : List Choice)
     → and_then (solved s σ w) (resume s K) ≡ comes s (at_solution s K σ w)
@@ -114,21 +172,26 @@ exit-row s k g J σ w K below =
     ∙ ap (λ (v : Visited). and_then v (resume s (Redo k g σ J ∷ K))) (sym (visit_rows s J σ (with_event w) below)))
 
 -- what is owed before a move is the turn that it shows and what is owed after it
-pub move-row : (s : Setup) (t : State) → (world_of t).steps ≤ s.budget → owed s t ≡ comes s (move s t)
+pub move-row : (s : Setup) (t : State) → (world_of t).steps ≤ s.budget → InStep t → owed s t ≡ comes s (move s t)
 unfolding owed resume visit_with
-move-row s (Going [] K σ w) below = ap (λ (v : Visited). and_then v (resume s K)) (visit_rows s [] σ w below) ∙ solved-row s σ w K
-move-row s (Going (Exit k g ∷ J) K σ w) below =
+move-row s (Going [] K σ w) below h = ap (λ (v : Visited). and_then v (resume s K)) (visit_rows s [] σ w below) ∙ solved-row s σ w K
+move-row s (Going (Exit k g ∷ J) K σ w) below h =
     ap (λ (v : Visited). and_then v (resume s K)) (visit_rows s (Exit k g ∷ J) σ w below) ∙ exit-row s k g J σ w K below
-move-row s (Going (Goal t m ∷ J) K σ w) below =
+move-row s (Going (Cut m ∷ J) K σ w) below h =
+    ap (λ (v : Visited). and_then v (resume s K)) (visit_rows s (Cut m ∷ J) σ w below)
+    ∙ (ap (λ (v : Visited). and_then (and_then v (cut m)) (resume s K)) (sym (visit_rows s J σ w below)) ∙ cuts-row s m J K σ w h.0.0)
+move-row s (Going (Goal t m ∷ J) K σ w) below h =
     ap (λ (v : Visited). and_then v (resume s K)) (visit_rows s (Goal t m ∷ J) σ w below)
     ∙ paid-row (nat_le (w.steps + 1) s.budget) s 1 w (selected (visit s) s (control t) t m J σ) (chosen (control t) t m J K σ) K
-    (selected-row s (control t) t m J σ (record w { steps = w.steps + 1 }) K)
-move-row s (Back [] w) below = refl
-move-row s (Back (Redo k g σ J ∷ K) w) below = refl
-move-row s (Back (Fail k g σ J ∷ K) w) below = refl
-move-row s (Back (More [] k g σ J ∷ K) w) below = refl
-move-row s (Back (More (c ∷ cs) k g σ J ∷ K) w) below =
+    (selected-row s (control t) t m J σ (record w { steps = w.steps + 1 }) K h.0.0)
+move-row s (Back [] w) below h = refl
+move-row s (Back (Redo k g σ J ∷ K) w) below h = refl
+move-row s (Back (Branch t m σ J ∷ K) w) below h = branched-row s t m σ J w K
+move-row s (Back (Condition n t m σ J ∷ K) w) below h = branched-row s t m σ J w K
+move-row s (Back (Fail k g σ J ∷ K) w) below h = refl
+move-row s (Back (More [] k g σ J ∷ K) w) below h = refl
+move-row s (Back (More (c ∷ cs) k g σ J ∷ K) w) below h =
     let v : Visited = tries (visit s) s c k g σ J w in
     push-row s v (More cs k g σ J) K
     ∙ (ap (with_turns v.turns) (sym (resume-with_more s cs k g σ J K v.verdict v.world)) ∙ tried-row s c k g σ J w (with_more cs k g σ J K))
-move-row s (Over r w) below = refl
+move-row s (Over r w) below h = refl

@@ -3,10 +3,12 @@ use Rattle.std.proofs.Common.{◌≡◌, ℕ, ◌+◌, ◌-◌, ◌*◌, ◌<◌
 use Rattle.std.proofs.lemmas.Bool.Decides.{nat_tests}
 use Rattle.op_logic.specs.Term.{Term, shift}
 use Rattle.op_logic.specs.Bind.{Bindings, solve, unify, Solved as Result}
-use Rattle.op_trace.specs.World.{Text, text_eq, Clause, World, Setup, Barrier, Item, Goal, Exit, Solved}
-use Rattle.op_trace.specs.Visit.{Stopped, Control, Succeed, Give_up, Both, Invoke, control, entered, Choice, Redo, More, Fail}
+use Rattle.op_trace.specs.declared.barrier.Barrier.{Barrier}
+use Rattle.op_trace.specs.World.{Text, text_eq, Clause, World, Setup, Item, Goal, Cut, Exit, Solved}
+use Rattle.op_trace.specs.Visit.{Stopped, Control, Succeed, Give_up, Commit, Both, Either, If, Invoke, control, entered, Choice, Redo, Branch, More, Fail, Condition}
 use Rattle.op_trace.proofs.Later.{IsLess, within-less}
-use Rattle.op_machine.specs.Resume.{with_more, State, Going, Back, Over, Moved, silent, paid, pay, chosen, met, tried, move, world_of}
+use Rattle.op_machine.specs.Resume.{keep, with_more, State, Going, Back, Over, Moved, silent, paid, pay, chosen, met, tried, branched, move, world_of}
+use Rattle.op_machine.specs.Counted.{IsGoalFirst, Counted}
 
 abbrev pub count_in : State → ℕ
 count_in t = (world_of t).events + (world_of t).solutions
@@ -28,6 +30,9 @@ pub chosen-onward : (q : Control) (s : Setup) (t : Term Text) (m : Barrier) (J :
     → IsOnward s w (chosen q t m J K σ w)
 chosen-onward Succeed s t m J K σ w = record { count = omega arith; steps = omega arith }
 chosen-onward Give_up s t m J K σ w = record { count = omega arith; steps = omega arith }
+chosen-onward Commit s t m J K σ w = record { count = omega arith; steps = omega arith }
+chosen-onward (Either a b) s t m J K σ w = record { count = omega arith; steps = omega arith }
+chosen-onward (If c a b) s t m J K σ w = record { count = omega arith; steps = omega arith }
 chosen-onward (Both a b) s t m J K σ w = record { count = omega arith; steps = omega arith }
 chosen-onward Invoke s t m J K σ w = record { count = omega arith; steps = omega arith }
 
@@ -51,6 +56,11 @@ tried-onward s c k g σ J K w below =
     (unify text_eq (s.budget - (w.steps + 1)) σ ((g, shift w.variables c.head) ∷ [])) fits
     (within-less {A = Option (Bindings Text)} (s.budget - (w.steps + 1)) (solve text_eq (s.budget - (w.steps + 1)) σ ((g, shift {N = Text} w.variables c.head) ∷ []))))
 
+pub branched-onward : (s : Setup) (t : Term Text) (m : Barrier) (σ : Bindings Text) (J : List Item) (K : List Choice) (w : World)
+    → w.steps ≤ s.budget → IsOnward s w (branched s t m σ J K w)
+branched-onward s t m σ J K w below =
+    paid-onward (nat_le (w.steps + 1) s.budget) s 1 w _ refl below (λ fits. record { count = omega arith; steps = omega arith })
+
 pub move-onward : (s : Setup) (t : State) → (world_of t).steps ≤ s.budget → IsOnward s (world_of t) (move s t)
 move-onward s (Going [] K σ w) below = go (w.solutions + 1 == s.wanted)
   where
@@ -58,23 +68,27 @@ move-onward s (Going [] K σ w) below = go (w.solutions + 1 == s.wanted)
     go true = record { count = omega arith; steps = omega arith }
     go false = record { count = omega arith; steps = omega arith }
 move-onward s (Going (Exit k g ∷ J) K σ w) below = record { count = omega arith; steps = omega arith }
+move-onward s (Going (Cut m ∷ J) K σ w) below = record { count = omega arith; steps = omega arith }
 move-onward s (Going (Goal t m ∷ J) K σ w) below =
     paid-onward (nat_le (w.steps + 1) s.budget) s 1 w _ refl below (λ fits. chosen-onward (control t) s t m J K σ (record w { steps = w.steps + 1 }))
 move-onward s (Back [] w) below = record { count = omega arith; steps = omega arith }
 move-onward s (Back (Redo k g σ J ∷ K) w) below = record { count = omega arith; steps = omega arith }
+move-onward s (Back (Branch t m σ J ∷ K) w) below = branched-onward s t m σ J K w below
+move-onward s (Back (Condition n t m σ J ∷ K) w) below = branched-onward s t m σ J K w below
 move-onward s (Back (Fail k g σ J ∷ K) w) below = record { count = omega arith; steps = omega arith }
 move-onward s (Back (More [] k g σ J ∷ K) w) below = record { count = omega arith; steps = omega arith }
 move-onward s (Back (More (c ∷ cs) k g σ J ∷ K) w) below = tried-onward s c k g σ J (with_more cs k g σ J K) w below
 move-onward s (Over r w) below = record { count = omega arith; steps = omega arith }
 
--- what is left to do: steps, and to be at the end
+-- what is left to do: steps, a cut, and to be at the end
 abbrev pub live : State → ℕ
+live (Going (Cut m ∷ J) K σ w) = 2
 live (Going I K σ w) = 1
 live (Back K w) = 1
 live (Over r w) = 0
 
 abbrev pub weight : Setup → State → ℕ
-weight s t = 2 * (s.budget - (world_of t).steps) + live t
+weight s t = 3 * (s.budget - (world_of t).steps) + live t
 
 abbrev pub IsOver : State → Type 0
 IsOver (Going I K σ w) = ⊥
@@ -88,32 +102,47 @@ HasClauses t = Unit {0}
 
 pub paid-lighter : (t : Bool) (s : Setup) (n : ℕ) (w : World) (h : World → Moved) → nat_le (w.steps + 1) s.budget ≡ t → w.steps ≤ s.budget
     → (w.steps + 1 ≤ s.budget → IsOnward s (record w { steps = w.steps + 1 }) (h (record w { steps = w.steps + 1 })))
-    → weight s (paid t s 1 w h).state < 2 * (s.budget - w.steps) + 1
+    → weight s (paid t s 1 w h).state < 3 * (s.budget - w.steps) + 1
 paid-lighter true s n w h test below k =
     let fits : w.steps + 1 ≤ s.budget = grind (arith, nat_tests) in
     let on : w.steps + 1 ≤ (world_of (h (record w { steps = w.steps + 1 })).state).steps = (k fits).steps in
     lighter (h (record w { steps = w.steps + 1 })).state fits on
   where
-    lighter : (t : State) → w.steps + 1 ≤ s.budget → w.steps + 1 ≤ (world_of t).steps → weight s t < 2 * (s.budget - w.steps) + 1
-    lighter (Going I K σ u) f h = omega arith
+    lighter : (t : State) → w.steps + 1 ≤ s.budget → w.steps + 1 ≤ (world_of t).steps → weight s t < 3 * (s.budget - w.steps) + 1
+    lighter (Going [] K σ u) f h = omega arith
+    lighter (Going (Exit k g ∷ J) K σ u) f h = omega arith
+    lighter (Going (Cut m ∷ J) K σ u) f h = omega arith
+    lighter (Going (Goal t m ∷ J) K σ u) f h = omega arith
     lighter (Back K u) f h = omega arith
     lighter (Over r u) f h = omega arith
 paid-lighter false s n w h test below k = omega arith
 
+-- behind a cut comes a goal
+pub first-live : (J : List Item) (K : List Choice) (σ : Bindings Text) (w : World) → IsGoalFirst J → live (Going J K σ w) ≡ 1
+first-live [] K σ w h = absurd h
+first-live (Goal t m ∷ J) K σ w h = refl
+first-live (Cut m ∷ J) K σ w h = absurd h
+first-live (Exit k g ∷ J) K σ w h = absurd h
+
 -- a silent move that isn't at the end makes the state lighter
-pub move-lighter : (s : Setup) (t : State) → (world_of t).steps ≤ s.budget → (IsOver t → ⊥) → HasClauses t → (move s t).turns ≡ []
+pub move-lighter : (s : Setup) (t : State) → (world_of t).steps ≤ s.budget → (IsOver t → ⊥) → HasClauses t → Counted s t → (move s t).turns ≡ []
     → weight s (move s t).state < weight s t
-move-lighter s (Going [] K σ w) below live has e = cc
-move-lighter s (Going (Exit k g ∷ J) K σ w) below live has e = cc
-move-lighter s (Going (Goal t m ∷ J) K σ w) below live has e =
+move-lighter s (Going [] K σ w) below live has counted e = cc
+move-lighter s (Going (Exit k g ∷ J) K σ w) below live has counted e = cc
+move-lighter s (Going (Cut m ∷ J) K σ w) below live has counted e = omega (arith, first-live J (keep m K) σ w counted.3.0)
+move-lighter s (Going (Goal t m ∷ J) K σ w) below live has counted e =
     paid-lighter (nat_le (w.steps + 1) s.budget) s 1 w _ refl below (λ fits. chosen-onward (control t) s t m J K σ (record w { steps = w.steps + 1 }))
-move-lighter s (Back [] w) below live has e = omega arith
-move-lighter s (Back (Redo k g σ J ∷ K) w) below live has e = cc
-move-lighter s (Back (Fail k g σ J ∷ K) w) below live has e = cc
-move-lighter s (Back (More [] k g σ J ∷ K) w) below live has e = absurd has
-move-lighter s (Back (More (c ∷ cs) k g σ J ∷ K) w) below live has e =
+move-lighter s (Back [] w) below live has counted e = omega arith
+move-lighter s (Back (Redo k g σ J ∷ K) w) below live has counted e = cc
+move-lighter s (Back (Branch t m σ J ∷ K) w) below live has counted e =
+    paid-lighter (nat_le (w.steps + 1) s.budget) s 1 w _ refl below (λ fits. record { count = omega arith; steps = omega arith })
+move-lighter s (Back (Condition n t m σ J ∷ K) w) below live has counted e =
+    paid-lighter (nat_le (w.steps + 1) s.budget) s 1 w _ refl below (λ fits. record { count = omega arith; steps = omega arith })
+move-lighter s (Back (Fail k g σ J ∷ K) w) below live has counted e = cc
+move-lighter s (Back (More [] k g σ J ∷ K) w) below live has counted e = absurd has
+move-lighter s (Back (More (c ∷ cs) k g σ J ∷ K) w) below live has counted e =
     paid-lighter (nat_le (w.steps + 1) s.budget) s 1 w _ refl below
     (λ fits. met-onward s c k g J (with_more cs k g σ J K) (record w { steps = w.steps + 1 })
     (unify text_eq (s.budget - (w.steps + 1)) σ ((g, shift w.variables c.head) ∷ [])) fits
     (within-less {A = Option (Bindings Text)} (s.budget - (w.steps + 1)) (solve text_eq (s.budget - (w.steps + 1)) σ ((g, shift {N = Text} w.variables c.head) ∷ []))))
-move-lighter s (Over r w) below live has e = absurd (live tt)
+move-lighter s (Over r w) below live has counted e = absurd (live tt)

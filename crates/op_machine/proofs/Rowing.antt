@@ -1,10 +1,11 @@
 -- Each row of the machine makes one move.
-use Rattle.std.proofs.Common.{◌≡◌, ℕ, suc, ◌+◌, ◌-◌, ◌<◌, ◌≤◌, List, [], ◌∷◌, length, get_or, refl, sym, ap, ◌∙◌, subst, Result, Ok, Err, IfOk}
+use Rattle.std.proofs.Common.{◌≡◌, ℕ, suc, ◌+◌, ◌-◌, ◌<◌, ◌≤◌, List, [], ◌∷◌, length, get_or, reverse, refl, sym, ap, ◌∙◌, subst, Result, Ok, Err, IfOk}
 use Rattle.op_logic.specs.Term.{shift}
 use Rattle.op_logic.specs.Bind.{unify}
 use Rattle.op_trace.specs.declared.port.Port.TheVariants as port
 use Rattle.op_trace.specs.World as world
-use Rattle.op_trace.specs.World.{Text, text_eq, Clause, World, Setup, Event, Turn, Shown, Barrier, procedure}
+use Rattle.op_trace.specs.declared.barrier.Barrier.{Barrier}
+use Rattle.op_trace.specs.World.{Text, text_eq, Clause, World, Setup, Event, Turn, Shown, procedure}
 use Rattle.op_trace.specs.Visit as visit
 use Rattle.op_trace.specs.Visit.{event_of, with_event, control}
 use Rattle.op_machine.specs.declared.core_state.Core.{Core}
@@ -13,10 +14,9 @@ use Rattle.op_machine.specs.declared.core_state.Mode.TheVariants as mode
 use Rattle.op_machine.specs.declared.core_state.Ending.TheVariants as outcome
 use Rattle.op_machine.specs.declared.core_state.Step.{Step}
 use Rattle.op_machine.specs.declared.core_state.Step.TheVariants as step
-use Rattle.op_machine.specs.declared.frame.FrameKind.TheVariants as kind
 use Rattle.op_bind.specs.declared.places.Clause.{Clause as Rule}
 use Rattle.op_machine.specs.Program.{clauses, clauses_from, clause_in}
-use Rattle.op_machine.specs.Core.{setup_of, world_in, level_in, items_now, goal_now, bindings_now, choices_in, choice_by, event_seen, IsGood, IsGoal}
+use Rattle.op_machine.specs.Core.{Frame, level_in, choices_of, setup_of, world_in, items_now, goal_now, bindings_now, choices_in, event_seen, IsGood, IsGoal}
 use Rattle.op_machine.specs.Rows.{Advances, goal_moved, chosen_now, rule_tried, rule_met, rules_tried, box_invoked}
 use Rattle.op_machine.specs.Resume.{Back, Over, Moved, silent, pay, met, tried, move, with_more}
 use Rattle.op_machine.proofs.Paying.{pay-yes, pay-no}
@@ -34,7 +34,7 @@ spent-advances c h good over =
     record {
       turns = ap (λ (m : Moved). m.turns) (sym e);
       state = ap (λ (m : Moved). m.state) (sym e);
-      good = record { level = good.level; frames = good.frames; mode = tt; values = good.values };
+      good = record { level = good.level; frames = good.frames; mode = tt; values = good.values; failure = good.failure; boxes = good.boxes; boxed = good.boxed };
       looked = tt;
       store = refl;
       names = refl;
@@ -115,13 +115,13 @@ is_goal_in c g = IsGoal (length c.store.names) c.bindings.terms g
 pub invoked-advances : (c more : Core) (g n : ℕ) → more ≡ called c more
     → event_seen c.store c.bindings more.seen ≡ event_of port.Call (c.calls + 1) (goal_now c g) (bindings_now c) (items_now c n) (world_called c)
     → choices_in more ≡ with_more (procedure (clauses c.store) (goal_now c g)) (c.calls + 1) (goal_now c g) (bindings_now c) (items_now c n)
-    (choice_by c.store (level_in c) kind.Fail (c.calls + 1) g n ∷ choices_in c)
+    (visit.Fail (c.calls + 1) (goal_now c g) (bindings_now c) (items_now c n) ∷ choices_in c)
     → IsGood more → more.seen.goal ≡ g → is_goal_in c g
     → Advances c (record more { mode = mode.Backward }) (box_invoked c g n) step.Event
 invoked-advances c more g n e seen choices good goal there =
     let u : World = world_called c in
     let after : World = with_event u in
-    let K : List visit.Choice = choice_by c.store (level_in c) kind.Fail (c.calls + 1) g n ∷ choices_in c in
+    let K : List visit.Choice = visit.Fail (c.calls + 1) (goal_now c g) (bindings_now c) (items_now c n) ∷ choices_in c in
     let made : List visit.Choice = with_more (procedure (clauses c.store) (goal_now c g)) (c.calls + 1) (goal_now c g) (bindings_now c) (items_now c n) K in
     let same_world : world_in more ≡ after = ap world_in e in
     let shown : event_seen more.store more.bindings more.seen ≡ event_of port.Call (c.calls + 1) (goal_now c g) (bindings_now c) (items_now c n) u =
@@ -130,7 +130,7 @@ invoked-advances c more g n e seen choices good goal there =
     record {
       turns = ap (λ (x : Event). Shown x (world_in more) ∷ []) shown ∙ ap (λ (w : World). Shown (event_of port.Call (c.calls + 1) (goal_now c g) (bindings_now c) (items_now c n) u) w ∷ []) same_world;
       state = ap (λ (L : List visit.Choice). Back L (world_in more)) choices ∙ ap (λ (w : World). Back made w) same_world;
-      good = record { level = good.level; frames = good.frames; mode = tt; values = good.values };
+      good = record { level = good.level; frames = good.frames; mode = tt; values = good.values; failure = good.failure; boxes = good.boxes; boxed = good.boxed };
       looked = subst (λ (x : ℕ). is_goal_in more x) (sym goal) there_more;
       store = ap (λ (x : Core). x.store) e;
       names = ap (λ (x : Core). x.names) e;
@@ -138,24 +138,38 @@ invoked-advances c more g n e seen choices good goal there =
       wanted = ap (λ (x : Core). x.wanted) e;
     }
 
--- the event was shown, the choices were made one after the other
-pub invoked-choices : (c shown pushed more : Core) (g n : ℕ) → shown ≡ record c { calls = c.calls + 1; events = c.events + 1; seen = shown.seen }
+-- the box was called, the event was shown, the choices were made one after the other
+pub invoked-choices : (c boxed shown pushed more : Core) (g n k : ℕ) → k ≡ c.calls + 1
+    → boxed ≡ record c { calls = boxed.calls; frames = boxed.frames } → boxed.calls ≡ c.calls + 1 → boxed.frames.choices ≡ c.frames.choices
+    → shown ≡ record boxed { events = boxed.events + 1; seen = shown.seen }
     → pushed ≡ record shown { frames = pushed.frames } → more ≡ record pushed { frames = more.frames }
-    → event_seen c.store c.bindings shown.seen ≡ event_of port.Call (c.calls + 1) (goal_now c g) (bindings_now c) (items_now c n) (world_called c)
-    → choices_in pushed ≡ choice_by shown.store (level_in shown) kind.Fail (c.calls + 1) g n ∷ choices_in shown
-    → choices_in more ≡ with_more (procedure (clauses pushed.store) (goal_now pushed g)) (c.calls + 1) (goal_now pushed g) (bindings_now pushed) (items_now pushed n) (choices_in pushed)
+    → event_seen boxed.store boxed.bindings shown.seen ≡ event_of port.Call k (goal_now boxed g) (bindings_now boxed) (items_now boxed n) (world_in boxed)
+    → choices_in pushed ≡ visit.Fail k (goal_now shown g) (bindings_now shown) (items_now shown n) ∷ choices_in shown
+    → choices_in more ≡ with_more (procedure (clauses pushed.store) (goal_now pushed g)) k (goal_now pushed g) (bindings_now pushed) (items_now pushed n) (choices_in pushed)
     → IsGood more → shown.seen.goal ≡ g → is_goal_in c g
     → Advances c (record more { mode = mode.Backward }) (box_invoked c g n) step.Event
-invoked-choices c shown pushed more g n es ep em seen one two good goal there =
+invoked-choices c boxed shown pushed more g n k ek eb ec same_choices es ep em seen one two good goal there =
+    let bs : boxed ≡ record c { calls = c.calls + 1; frames = boxed.frames } = eb ∙ ap (λ (i : ℕ). record c { calls = i; frames = boxed.frames }) ec in
     let seen_more : more.seen ≡ shown.seen = ap (λ (x : Core). x.seen) em ∙ ap (λ (x : Core). x.seen) ep in
     let whole : more ≡ called c more =
     em ∙ (ap (λ (x : Core). record x { frames = more.frames }) ep
     ∙ (ap (λ (x : Core). record x { frames = more.frames }) es
-    ∙ ap (λ (x : Seen). record c { calls = c.calls + 1; events = c.events + 1; seen = x; frames = more.frames }) (sym seen_more))) in
-    let at_pushed : (x : Core) → List visit.Choice → List visit.Choice = λ x K. with_more (procedure (clauses x.store) (goal_now x g)) (c.calls + 1) (goal_now x g) (bindings_now x) (items_now x n) K in
-    let fail_at : Core → List visit.Choice = λ x. choice_by x.store (level_in x) kind.Fail (c.calls + 1) g n ∷ choices_in x in
-    let choices : choices_in more ≡ at_pushed c (fail_at c) =
-    two ∙ (ap (λ (x : Core). at_pushed x (choices_in pushed)) ep
-    ∙ (ap (at_pushed shown) one
-    ∙ (ap (λ (x : Core). at_pushed x (fail_at shown)) es ∙ ap (λ (x : Core). at_pushed c (fail_at x)) es))) in
-    invoked-advances c more g n whole (ap (event_seen c.store c.bindings) seen_more ∙ seen) choices good (ap (λ (x : Seen). x.goal) seen_more ∙ goal) there
+    ∙ (ap (λ (x : Core). record x { events = x.events + 1; seen = shown.seen; frames = more.frames }) bs
+    ∙ ap (λ (x : Seen). record c { calls = c.calls + 1; events = c.events + 1; seen = x; frames = more.frames }) (sym seen_more)))) in
+    let at_pushed : ℕ → Core → List visit.Choice → List visit.Choice = λ j x K. with_more (procedure (clauses x.store) (goal_now x g)) j (goal_now x g) (bindings_now x) (items_now x n) K in
+    let fail_at : ℕ → Core → List visit.Choice → List visit.Choice = λ j x K. visit.Fail j (goal_now x g) (bindings_now x) (items_now x n) ∷ K in
+    let below : choices_in boxed ≡ choices_in c =
+    ap (λ (x : Core). choices_of x.store (level_in x) (reverse boxed.frames.choices)) bs ∙ ap (λ (F : List Frame). choices_of c.store (level_in c) (reverse F)) same_choices in
+    let choices : choices_in more ≡ at_pushed (c.calls + 1) c (fail_at (c.calls + 1) c (choices_in c)) =
+    two ∙ (ap (λ (x : Core). at_pushed k x (choices_in pushed)) ep
+    ∙ (ap (at_pushed k shown) one
+    ∙ (ap (λ (x : Core). at_pushed k x (fail_at k x (choices_in x))) es
+    ∙ (ap (λ (x : Core). at_pushed k x (fail_at k x (choices_in boxed))) bs
+    ∙ (ap (λ (K : List visit.Choice). at_pushed k c (fail_at k c K)) below
+    ∙ ap (λ (j : ℕ). at_pushed j c (fail_at j c (choices_in c))) ek))))) in
+    let shows : event_seen c.store c.bindings shown.seen ≡ event_of port.Call (c.calls + 1) (goal_now c g) (bindings_now c) (items_now c n) (world_called c) =
+    sym (ap (λ (x : Core). event_seen x.store x.bindings shown.seen) bs)
+    ∙ (seen
+    ∙ (ap (λ (x : Core). event_of port.Call k (goal_now x g) (bindings_now x) (items_now x n) (world_in x)) bs
+    ∙ ap (λ (j : ℕ). event_of port.Call j (goal_now c g) (bindings_now c) (items_now c n) (world_called c)) ek)) in
+    invoked-advances c more g n whole (ap (event_seen c.store c.bindings) seen_more ∙ shows) choices good (ap (λ (x : Seen). x.goal) seen_more ∙ goal) there

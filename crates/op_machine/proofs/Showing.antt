@@ -17,6 +17,7 @@ use Rattle.op_machine.proofs.Naming.{value-named}
 open_boxes-items : (t : Stored) (v : Level) (I : List Item) → open_boxes (map (item_term t v) I) ≡ opened I
 open_boxes-items t v [] = refl
 open_boxes-items t v (item.Goal f m ∷ I) = open_boxes-items t v I
+open_boxes-items t v (item.Cut m ∷ I) = open_boxes-items t v I
 open_boxes-items t v (item.Exit k g ∷ I) = ap (λ ks. k ∷ ks) (open_boxes-items t v I)
 
 abbrev an_event : World → Port → ℕ → Term Text → ℕ → ℕ → Event

@@ -4,6 +4,7 @@ use Rattle.op_logic.specs.Term.{Term, var, int, node, args_of, nth_arg}
 use Rattle.op_logic.specs.Names.{HasNames, ArgsHaveNames}
 use Rattle.op_logic.proofs.Shifting.{nth-names}
 use Rattle.op_term.specs.Places.{term_at}
+use Rattle.op_trace.specs.declared.barrier.Barrier.{Barrier}
 use Rattle.op_trace.specs.World as world
 use Rattle.op_trace.specs.World.{Text, World}
 use Rattle.op_machine.specs.declared.core_state.Core.{Core}
@@ -25,7 +26,7 @@ argument-goal n ts g i r goal there value =
     (there, subst (HasNames n) (sym value) (nth-names n (args_of (term_at ts g)) i (args-names n (term_at ts g) goal.1)))
 
 -- two lists were added, and the machine goes on with the second
-pub split-advances : (c mid new : Core) (g m n first second tail items : ℕ) → mid ≡ record c { lists = mid.lists } → new ≡ record mid { lists = new.lists }
+pub split-advances : (c mid new : Core) (g : ℕ) (m : Barrier) (n first second tail items : ℕ) → mid ≡ record c { lists = mid.lists } → new ≡ record mid { lists = new.lists }
     → term_at c.bindings.terms first ≡ nth_arg (args_of (term_at c.bindings.terms g)) 0
     → term_at c.bindings.terms second ≡ nth_arg (args_of (term_at c.bindings.terms g)) 1
     → items_now mid tail ≡ item_term c.store (level_in c) (item.Goal second m) ∷ items_now c n
@@ -37,16 +38,16 @@ split-advances c mid new g m n first second tail items em en ef es rest all cm c
     let one : goal_now mid first ≡ goal_named c.store (nth_arg (args_of (term_at c.bindings.terms g)) 0) = from_mid ∙ ap (goal_named c.store) ef in
     let two : goal_now c second ≡ goal_named c.store (nth_arg (args_of (term_at c.bindings.terms g)) 1) = ap (goal_named c.store) es in
     let both : items_now new items ≡ both_before c g m n =
-    all ∙ (ap (λ (t : Term Text). world.Goal t (world.Call m) ∷ items_now mid tail) one
-    ∙ (ap (λ (J : List world.Item). world.Goal (goal_named c.store (nth_arg (args_of (term_at c.bindings.terms g)) 0)) (world.Call m) ∷ J) rest
-    ∙ ap (λ (t : Term Text). world.Goal (goal_named c.store (nth_arg (args_of (term_at c.bindings.terms g)) 0)) (world.Call m) ∷ world.Goal t (world.Call m) ∷ items_now c n) two)) in
+    all ∙ (ap (λ (t : Term Text). world.Goal t m ∷ items_now mid tail) one
+    ∙ (ap (λ (J : List world.Item). world.Goal (goal_named c.store (nth_arg (args_of (term_at c.bindings.terms g)) 0)) m ∷ J) rest
+    ∙ ap (λ (t : Term Text). world.Goal (goal_named c.store (nth_arg (args_of (term_at c.bindings.terms g)) 0)) m ∷ world.Goal t m ∷ items_now c n) two)) in
     let choices : choices_in new ≡ choices_in c = cn ∙ cm in
     let bound : bindings_now new ≡ bindings_now c = ap bindings_now en ∙ ap bindings_now em in
     let same : world_in new ≡ world_in c = ap world_in en ∙ ap world_in em in
     record {
       turns = refl;
       state = cc;
-      good = record { level = good.level; frames = good.frames; mode = inside; values = good.values };
+      good = record { level = good.level; frames = good.frames; mode = inside; values = good.values; failure = good.failure; boxes = good.boxes; boxed = good.boxed };
       looked = tt;
       store = ap (λ (x : Core). x.store) en ∙ ap (λ (x : Core). x.store) em;
       names = ap (λ (x : Core). x.names) en ∙ ap (λ (x : Core). x.names) em;

@@ -8,9 +8,10 @@ use Rattle.op_machine.specs.declared.core_state.Mode.{Mode}
 use Rattle.op_machine.specs.declared.core_state.Mode.TheVariants as mode
 use Rattle.op_machine.specs.declared.core_state.Step.{Step}
 use Rattle.op_machine.specs.declared.core_state.Step.TheVariants as step
-use Rattle.op_machine.specs.declared.frame.Frame.{Frame}
-use Rattle.op_machine.specs.declared.frame.FrameKind.{FrameKind}
-use Rattle.op_machine.specs.declared.frame.FrameKind.TheVariants as kind
+use Rattle.op_machine.specs.Core.{Frame}
+use Rattle.op_frames.specs.declared.choice.ChoiceKind.{ChoiceKind}
+use Rattle.op_frames.specs.declared.choice.ChoiceKind.TheVariants as kind
+use Rattle.op_store.specs.Snapshots.{rules_in}
 use Rattle.op_store.specs.Stored.{Stored}
 use Rattle.op_machine.specs.Core.{Level, level_at, level_in, setup_of, world_in, state_of, state_with, items_in, term_in, bindings_in, choices_of, choice_by, IsSound, AreFrames, IsKind}
 use Rattle.op_machine.specs.Counted.{Counted, event_bound}
@@ -30,7 +31,7 @@ world-with t v F w mode.Backward = refl
 world-with t v F w (mode.Over e) = refl
 
 pub world-is : (c : Core) → world_of (state_of c) ≡ world_in c
-world-is c = world-with c.store (level_in c) c.frames.items (world_in c) c.mode
+world-is c = world-with c.store (level_in c) c.frames.choices (world_in c) c.mode
 
 -- what the bounds say of a machine's numbers
 pub record Fits (c : Core) : Type 0 where
@@ -38,26 +39,28 @@ pub record Fits (c : Core) : Type 0 where
   pub events : c.events < 2 ^ 63
   pub solutions : c.solutions < 2 ^ 63
   pub calls : c.calls < 2 ^ 63
+  pub conditions : c.conditions < 2 ^ 63
   pub turns : turns_in c < 2 ^ 63
 
 pub counted-numbers : (s : Setup) (t : State) → s.budget ≤ 1000000000 → Counted s t
-    → ((world_of t).steps ≤ s.budget) × ((world_of t).events ≤ event_bound (world_of t).steps) × ((world_of t).solutions ≤ suc (world_of t).steps) × ((world_of t).calls ≤ (world_of t).steps)
-counted-numbers s (Going I K σ w) b h = (h.0.steps, omega arith, omega arith, h.0.calls)
-counted-numbers s (Back K w) b h = (h.0.steps, omega arith, omega arith, h.0.calls)
-counted-numbers s (Over r w) b h = (h.0.steps, omega arith, omega arith, h.0.calls)
+    → ((world_of t).steps ≤ s.budget) × ((world_of t).events ≤ event_bound (world_of t).steps) × ((world_of t).solutions ≤ suc (world_of t).steps) × ((world_of t).calls ≤ (world_of t).steps) × ((world_of t).conditions ≤ (world_of t).steps)
+counted-numbers s (Going I K σ w) b h = (h.0.steps, omega arith, omega arith, h.0.calls, h.0.conditions)
+counted-numbers s (Back K w) b h = (h.0.steps, omega arith, omega arith, h.0.calls, h.0.conditions)
+counted-numbers s (Over r w) b h = (h.0.steps, omega arith, omega arith, h.0.calls, h.0.conditions)
 
 pub bound-top : (n : ℕ) → n ≤ 1000000000 → event_bound n ≤ 2000000004000000000
 bound-top n h = bound-same n 1000000000 h
 
 pub numbers-fit : (c : Core) (w : World) → world_of (state_of c) ≡ w → c.budget ≤ 1000000000
-    → (w.steps ≤ c.budget) × (w.events ≤ event_bound w.steps) × (w.solutions ≤ suc w.steps) × (w.calls ≤ w.steps) → w ≡ world_in c → Fits c
+    → (w.steps ≤ c.budget) × (w.events ≤ event_bound w.steps) × (w.solutions ≤ suc w.steps) × (w.calls ≤ w.steps) × (w.conditions ≤ w.steps) → w ≡ world_in c → Fits c
 numbers-fit c w e b h same =
     let s : w.steps ≡ c.steps = ap (λ (x : World). x.steps) same in
     let ev : w.events ≡ c.events = ap (λ (x : World). x.events) same in
     let so : w.solutions ≡ c.solutions = ap (λ (x : World). x.solutions) same in
     let ca : w.calls ≡ c.calls = ap (λ (x : World). x.calls) same in
+    let co : w.conditions ≡ c.conditions = ap (λ (x : World). x.conditions) same in
     let top : event_bound w.steps ≤ 2000000004000000000 = bound-top w.steps (omega (arith, h.0)) in
-    record { steps = omega (arith, h.0); events = omega (arith, h.1, top); solutions = omega (arith, h.0, h.2); calls = omega (arith, h.0, h.3); turns = omega (arith, h.0, h.1, h.2, top) }
+    record { steps = omega (arith, h.0); events = omega (arith, h.1, top); solutions = omega (arith, h.0, h.2); calls = omega (arith, h.0, h.3); conditions = omega (arith, h.0, h.4); turns = omega (arith, h.0, h.1, h.2, top) }
 
 pub sound-fits : (c : Core) → IsSound c → Fits c
 sound-fits c s = numbers-fit c (world_of (state_of c)) refl s.limit (counted-numbers (setup_of c) (state_of c) s.limit s.counted) (world-is c)
@@ -97,7 +100,7 @@ advance-onward old new s h a =
 pub advance-owed : (old new : Core) (s : Step) → IsSound old → Advances old new (moved_from old) s
     → owed (setup_of old) (state_of old) ≡ with_turns (turns_of s new) (owed (setup_of new) (state_of new))
 advance-owed old new s h a =
-    move-row (setup_of old) (state_of old) (below-budget old h)
+    move-row (setup_of old) (state_of old) (below-budget old h) h.in_step
     ∙ (ap (λ (ts : List Turn). with_turns ts (owed (setup_of old) (moved_from old).state)) (sym a.turns)
     ∙ (ap (λ (t : State). with_turns (turns_of s new) (owed (setup_of old) t)) (sym a.state)
     ∙ ap (λ (x : Setup). with_turns (turns_of s new) (owed x (state_of new))) (setup-same old new a.budget a.wanted)))
@@ -130,7 +133,7 @@ pub ended-at : (first mid : Core) (e : Ending) → Walked first mid → mid.mode
 unfolding owed
 ended-at first mid e w m = record {
   walked = w;
-  owed = w.owed ∙ ap (λ (q : Mode). owed (setup_of mid) (state_with mid.store (level_in mid) mid.frames.items (world_in mid) q)) m;
+  owed = w.owed ∙ ap (λ (q : Mode). owed (setup_of mid) (state_with mid.store (level_in mid) mid.frames.choices (world_in mid) q)) m;
 }
 
 pub walked-self : (c : Core) → IsSound c → Walked c c
@@ -148,10 +151,14 @@ frames-clauses t floor v (f ∷ F) w a = go f.kind a.2.kind
     u : Level
     u = level_at f v
 
-    go : (q : FrameKind) → IsKind (length t.names) q → HasClauses (Back (choice_by t u q f.call f.goal f.rest ∷ choices_of t u F) w)
-    go kind.Redo k = tt
-    go (kind.More rules i) k = subst (λ (cs : List Clause). HasClauses (Back (More cs f.call (term_in t u f.goal) (bindings_in t u) (items_in t u f.rest) ∷ choices_of t u F) w)) (sym (clauses_from-some t rules i k.0).1.1) tt
-    go kind.Fail k = tt
+    go : (q : ChoiceKind) → IsKind (length t.names) q f.kept → HasClauses (Back (choice_by t u q f.kept f.rest ∷ choices_of t u F) w)
+    go (kind.Redo c) k = tt
+    go (kind.Branch p) k = tt
+    go (kind.More c) k = subst (λ (cs : List Clause). HasClauses (Back (More cs c (term_in t u f.kept.goal) (bindings_in t u) (items_in t u f.rest) ∷ choices_of t u F) w)) (sym (clauses_from-some t (rules_in f.kept.rules) f.kept.next k.0).1.1) tt
+    go (kind.Fail c) k = tt
+    go (kind.Condition p) k = tt
+    go (kind.Catch c) k = absurd k
+    go (kind.Findall c) k = absurd k
 
 pub has-clauses : (t : Stored) (floor : ℕ) (v : Level) (F : List Frame) (w : World) (q : Mode) → AreFrames t floor v (reverse F) → HasClauses (state_with t v F w q)
 has-clauses t floor v F w (mode.Forward i) a = tt
@@ -167,7 +174,7 @@ pub lighter-on : (mid new : Core) → IsSound mid → ((e : Ending) → mid.mode
     → weight (setup_of new) (state_of new) < weight (setup_of mid) (state_of mid)
 lighter-on mid new s no_end a =
     let l : weight (setup_of mid) (moved_from mid).state < weight (setup_of mid) (state_of mid) =
-    move-lighter (setup_of mid) (state_of mid) (below-budget mid s) (not-over mid.store (level_in mid) mid.frames.items (world_in mid) mid.mode no_end)
-    (has-clauses mid.store mid.floor.terms (level_in mid) mid.frames.items (world_in mid) mid.mode s.good.frames) (sym a.turns) in
+    move-lighter (setup_of mid) (state_of mid) (below-budget mid s) (not-over mid.store (level_in mid) mid.frames.choices (world_in mid) mid.mode no_end)
+    (has-clauses mid.store mid.floor.terms (level_in mid) mid.frames.choices (world_in mid) mid.mode s.good.frames) s.counted (sym a.turns) in
     subst (λ (x : Setup). weight x (state_of new) < weight (setup_of mid) (state_of mid)) (setup-same mid new a.budget a.wanted)
     (subst (λ (t : State). weight (setup_of mid) t < weight (setup_of mid) (state_of mid)) (sym a.state) l)

@@ -9,7 +9,7 @@ use Rattle.op_bind.proofs.Growing.{term-stays}
 use Rattle.op_reader.specs.Reading.{AreCounted}
 use Rattle.op_machine.specs.Core.{AreValues}
 
-values-stay : (a b : State) (rs : List ℕ) (ps : List (List ℕ × ℕ)) → Grows a b → AreValues a.terms rs ps → AreValues b.terms rs ps
+pub values-stay : (a b : State) (rs : List ℕ) (ps : List (List ℕ × ℕ)) → Grows a b → AreValues a.terms rs ps → AreValues b.terms rs ps
 values-stay a b [] [] g v = tt
 values-stay a b [] (p ∷ ps) g v = v
 values-stay a b (r ∷ rs) [] g v = v

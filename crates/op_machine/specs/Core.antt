@@ -1,6 +1,6 @@
 -- What a machine's parts mean.
 use Rattle.std.specs.Prelude.{◌≡◌, ℕ, ◌<◌, ◌≤◌, List, [], ◌∷◌, length, map, reverse, take, All}
-use Rattle.op_logic.specs.Term.{Term, var}
+use Rattle.op_logic.specs.Term.{Term, var, atom}
 use Rattle.op_logic.specs.Bind.{Bindings}
 use Rattle.op_logic.specs.Laws.{rename_bindings}
 use Rattle.op_logic.specs.Names.{name_at, HasNames, HaveNames}
@@ -13,9 +13,11 @@ use Rattle.op_trace.specs.Visit as visit
 use Rattle.op_trace.specs.Visit.{Verdict}
 use Rattle.op_machine.specs.declared.lists.Item.{Item}
 use Rattle.op_machine.specs.declared.lists.Item.TheVariants as item
-use Rattle.op_machine.specs.declared.frame.Frame.{Frame}
-use Rattle.op_machine.specs.declared.frame.FrameKind.{FrameKind}
-use Rattle.op_machine.specs.declared.frame.FrameKind.TheVariants as kind
+use Rattle.op_frames.specs.declared.choice.Choice.{Choice}
+use Rattle.op_frames.specs.declared.choice.ChoiceKind.{ChoiceKind}
+use Rattle.op_frames.specs.declared.choice.ChoiceKind.TheVariants as kind
+use Rattle.op_store.specs.Snapshots.{rules_in}
+use Rattle.op_machine.specs.declared.held.Held.{Held}
 use Rattle.op_machine.specs.declared.core_state.Core.{Core}
 use Rattle.op_machine.specs.declared.core_state.Mode.{Mode}
 use Rattle.op_machine.specs.declared.core_state.Mode.TheVariants as mode
@@ -23,11 +25,16 @@ use Rattle.op_machine.specs.declared.core_state.Ending.{Ending}
 use Rattle.op_machine.specs.declared.core_state.Ending.TheVariants as ending
 use Rattle.op_machine.specs.declared.core_state.Seen.{Seen}
 use Rattle.op_machine.specs.Lists.{list_in}
+use Rattle.op_machine.specs.Boxes.{AreBoxes, AreBoxed}
 use Rattle.op_store.specs.Stored.{Stored}
 use Rattle.op_machine.specs.Program.{clauses, clauses_from, goal_named, AreKnown}
 use Rattle.op_machine.specs.Resume.{State, Going, Back, Over}
 use Rattle.op_machine.specs.Counted.{Counted}
 use Rattle.op_machine.specs.Scope.{InStep}
+
+-- a choice with what the machine keeps with it
+abbrev pub Frame : Type 0
+Frame = Choice Held
 
 -- the terms, the bindings and the lists of a moment
 pub record Level : Type 0 where
@@ -43,23 +50,29 @@ abbrev pub term_in : Stored → Level → ℕ → Term Text
 term_in t v r = goal_named t (term_at v.terms r)
 
 abbrev pub item_term : Stored → Level → Item → world.Item
-item_term t v (item.Goal r m) = world.Goal (term_in t v r) (world.Call m)
+item_term t v (item.Goal r m) = world.Goal (term_in t v r) m
+item_term t v (item.Cut m) = world.Cut m
 item_term t v (item.Exit k r) = world.Exit k (term_in t v r)
 
 abbrev pub items_in : Stored → Level → ℕ → List world.Item
 items_in t v n = map (item_term t v) (list_in v.lists n)
 
-abbrev pub choice_by : Stored → Level → FrameKind → ℕ → ℕ → ℕ → visit.Choice
-choice_by t v kind.Redo k g n = visit.Redo k (term_in t v g) (bindings_in t v) (items_in t v n)
-choice_by t v (kind.More rules i) k g n = visit.More (clauses_from t rules i) k (term_in t v g) (bindings_in t v) (items_in t v n)
-choice_by t v kind.Fail k g n = visit.Fail k (term_in t v g) (bindings_in t v) (items_in t v n)
+-- no choice of a catch or of a findall is made yet (`IsKind`): what stands for them has no meaning
+abbrev pub choice_by : Stored → Level → ChoiceKind → Held → ℕ → visit.Choice
+choice_by t v (kind.Redo k) h n = visit.Redo k (term_in t v h.goal) (bindings_in t v) (items_in t v n)
+choice_by t v (kind.Branch p) h n = visit.Branch (term_in t v h.goal) h.barrier (bindings_in t v) (items_in t v n)
+choice_by t v (kind.More k) h n = visit.More (clauses_from t (rules_in h.rules) h.next) k (term_in t v h.goal) (bindings_in t v) (items_in t v n)
+choice_by t v (kind.Fail k) h n = visit.Fail k (term_in t v h.goal) (bindings_in t v) (items_in t v n)
+choice_by t v (kind.Condition p) h n = visit.Condition h.condition (term_in t v h.goal) h.barrier (bindings_in t v) (items_in t v n)
+choice_by t v (kind.Catch k) h n = visit.Fail k (term_in t v h.goal) (bindings_in t v) (items_in t v n)
+choice_by t v (kind.Findall k) h n = visit.Fail k (term_in t v h.goal) (bindings_in t v) (items_in t v n)
 
 abbrev pub choice_of : Stored → Level → Frame → visit.Choice
-choice_of t v f = choice_by t v f.kind f.call f.goal f.rest
+choice_of t v f = choice_by t v f.kind f.kept f.rest
 
 -- the moment at which a choice was made, which is the beginning of a later one
 abbrev pub level_at : Frame → Level → Level
-level_at f v = record { terms = take f.mark.terms v.terms; bound = oldest f.mark.bound v.bound; lists = take f.lists v.lists }
+level_at f v = record { terms = take f.mark.terms v.terms; bound = oldest f.mark.bound v.bound; lists = take f.kept.lists v.lists }
 
 -- the last first
 abbrev pub choices_of : Stored → Level → List Frame → List visit.Choice
@@ -70,7 +83,7 @@ abbrev pub setup_of : Core → Setup
 setup_of c = record { budget = c.budget; wanted = c.wanted }
 
 abbrev pub world_in : Core → World
-world_in c = record (loaded (clauses c.store)) { variables = c.bindings.count; calls = c.calls; steps = c.steps; events = c.events; solutions = c.solutions }
+world_in c = record (loaded (clauses c.store)) { variables = c.bindings.count; calls = c.calls; conditions = c.conditions; steps = c.steps; events = c.events; solutions = c.solutions }
 
 abbrev pub level_of : bind.State → List (List Item) → Level
 level_of s L = record { terms = s.terms; bound = s.bound; lists = L }
@@ -88,7 +101,7 @@ abbrev pub goal_now : Core → ℕ → Term Text
 goal_now c g = term_in c.store (level_in c) g
 
 abbrev pub choices_in : Core → List visit.Choice
-choices_in c = choices_of c.store (level_in c) (reverse c.frames.items)
+choices_in c = choices_of c.store (level_in c) (reverse c.frames.choices)
 
 abbrev pub verdict_of : Ending → Verdict
 verdict_of ending.Stopped = visit.Stopped
@@ -101,7 +114,7 @@ state_with t v F w mode.Backward = Back (choices_of t v (reverse F)) w
 state_with t v F w (mode.Over e) = Over (verdict_of e) w
 
 abbrev pub state_of : Core → State
-state_of c = state_with c.store (level_in c) c.frames.items (world_in c) c.mode
+state_of c = state_with c.store (level_in c) c.frames.choices (world_in c) c.mode
 
 abbrev pub event_seen : Stored → bind.State → Seen → Event
 event_seen t s e = record { chrono = e.chrono; call = e.call; parent = e.parent; depth = e.depth; port = e.port; goal = goal_named t (value_of s e.goal) }
@@ -112,6 +125,7 @@ IsGoal n ts r = (r < length ts) × HasNames n (term_at ts r)
 
 abbrev pub IsItem : ℕ → List (Term ℕ) → Item → Type 0
 IsItem n ts (item.Goal r m) = IsGoal n ts r
+IsItem n ts (item.Cut m) = Unit {0}
 IsItem n ts (item.Exit k r) = IsGoal n ts r
 
 abbrev pub AreItems : ℕ → List (Term ℕ) → List Item → Type 0
@@ -132,19 +146,23 @@ pub record IsEarlier (f : Frame) (v : Level) : Type 0 where
   pub terms_there : f.mark.terms ≤ length v.terms
   pub bound_there : f.mark.bound ≤ length v.bound
   pub bound_below : All (λ p. p.1 < f.mark.terms) (oldest f.mark.bound v.bound)
-  pub lists_there : f.lists ≤ length v.lists
+  pub lists_there : f.kept.lists ≤ length v.lists
 
 -- some clause is left of those that are tried
-abbrev pub IsKind : ℕ → FrameKind → Type 0
-IsKind n kind.Redo = Unit {0}
-IsKind n (kind.More rules i) = (i < length rules) × AreKnown n rules
-IsKind n kind.Fail = Unit {0}
+abbrev pub IsKind : ℕ → ChoiceKind → Held → Type 0
+IsKind n (kind.Redo k) h = Unit {0}
+IsKind n (kind.Branch p) h = Unit {0}
+IsKind n (kind.More k) h = (h.next < length (rules_in h.rules)) × AreKnown n (rules_in h.rules)
+IsKind n (kind.Fail k) h = Unit {0}
+IsKind n (kind.Condition p) h = Unit {0}
+IsKind n (kind.Catch k) h = ⊥
+IsKind n (kind.Findall k) h = ⊥
 
 -- a choice leads to what was there when it was made
 pub record IsFrame (t : Stored) (v : Level) (f : Frame) : Type 0 where
   pub rest : f.rest < length v.lists
-  pub goal : IsGoal (length t.names) v.terms f.goal
-  pub kind : IsKind (length t.names) f.kind
+  pub goal : IsGoal (length t.names) v.terms f.kept.goal
+  pub kind : IsKind (length t.names) f.kind f.kept
 
 -- the last first
 abbrev pub AreFrames : Stored → ℕ → Level → List Frame → Type 0
@@ -162,12 +180,19 @@ AreValues ts [] [] = Unit {0}
 AreValues ts (r ∷ rs) (p ∷ ps) = (r < length ts) × (term_at ts r ≡ var p.1) × AreValues ts rs ps
 AreValues ts _ _ = ⊥
 
+-- the Ref to the atom `fail`
+abbrev pub IsFailure : List (Term ℕ) → ℕ → Type 0
+IsFailure ts r = (r < length ts) × (term_at ts r ≡ atom 1)
+
 -- each number leads to what is there
 pub record IsGood (c : Core) : Type 0 where
   pub level : IsLevel c.store c.floor.terms (level_in c)
-  pub frames : AreFrames c.store c.floor.terms (level_in c) (reverse c.frames.items)
+  pub frames : AreFrames c.store c.floor.terms (level_in c) (reverse c.frames.choices)
   pub mode : IsMode (length c.lists) c.mode
   pub values : AreValues (take c.floor.terms c.bindings.terms) c.values.items c.names
+  pub failure : IsFailure (take c.floor.terms c.bindings.terms) c.failure
+  pub boxes : AreBoxes c.frames.boxes c.calls c.lists
+  pub boxed : AreBoxed c.frames.boxes c.lists c.calls (length c.lists) (reverse c.frames.choices)
 
 -- the last event's goal is there
 abbrev pub IsSeen : Core → Type 0

@@ -1,8 +1,11 @@
+pub mod Boxes
 pub mod Core
 pub mod Counted
+pub mod Kept
 pub mod Kinds
 pub mod Lists
 pub mod Machine
+pub mod Made
 pub mod Program
 pub mod Resume
 pub mod Rows

@@ -24,6 +24,7 @@ lists_of cs = lists_after only_empty cs
 abbrev pub opened : List Item → List ℕ
 opened [] = []
 opened (item.Goal f m ∷ I) = opened I
+opened (item.Cut m ∷ I) = opened I
 opened (item.Exit k g ∷ I) = k ∷ opened I
 
 -- each cell leads to a list that is there, and knows what is open in its own

@@ -4,7 +4,8 @@ use Rattle.op_trace.specs.World.{World, Setup, Event, Turn, Shown, Solved, loade
 use Rattle.op_trace.specs.Run.{Run, ran}
 use Rattle.op_trace.specs.Ending as ending
 use Rattle.op_machine.specs.declared.lists.Item.{Item}
-use Rattle.op_machine.specs.declared.frame.Frame.{Frame}
+use Rattle.op_frames.specs.Frames.{Framed}
+use Rattle.op_machine.specs.declared.held.Held.{Held}
 use Rattle.op_machine.specs.declared.core_state.Core.{Core}
 use Rattle.op_machine.specs.declared.core_state.Mode.{Mode}
 use Rattle.op_machine.specs.declared.core_state.Seen.{Seen}
@@ -20,12 +21,12 @@ use Rattle.op_bind.specs.State as bind
 use Rattle.op_machine.specs.Core.{IsSeen, Level, level_of, bindings_in, state_with, event_seen}
 use Rattle.op_machine.specs.Resume.{State, owed}
 
--- what a machine keeps: but the last event, no turn that was or is to come is among it
+-- what a caller sees of what a machine keeps: but the last event, no turn that was or is to come is among it
 pub record Kept : Type 0 where
   pub tables : Stored
   pub bindings : bind.State
   pub lists : List (List Item)
-  pub frames : List Frame
+  pub frames : Framed Held
   pub mode : Mode
   pub seen : Seen
   -- the goal's named variables
@@ -33,6 +34,7 @@ pub record Kept : Type 0 where
   pub last : Last
   pub faulted : Bool
   pub calls : ℕ
+  pub conditions : ℕ
   pub steps : ℕ
   pub events : ℕ
   pub solutions : ℕ
@@ -44,13 +46,14 @@ kept_of c l f = record {
   tables = c.store;
   bindings = c.bindings;
   lists = c.lists;
-  frames = c.frames.items;
+  frames = c.frames;
   mode = c.mode;
   seen = c.seen;
   names = c.names;
   last = l;
   faulted = f;
   calls = c.calls;
+  conditions = c.conditions;
   steps = c.steps;
   events = c.events;
   solutions = c.solutions;
@@ -63,13 +66,13 @@ setup k = record { budget = k.budget; wanted = k.wanted }
 
 -- the run's world at this moment
 abbrev pub world_now : Kept → World
-world_now k = record (loaded (clauses k.tables)) { variables = k.bindings.count; calls = k.calls; steps = k.steps; events = k.events; solutions = k.solutions }
+world_now k = record (loaded (clauses k.tables)) { variables = k.bindings.count; calls = k.calls; conditions = k.conditions; steps = k.steps; events = k.events; solutions = k.solutions }
 
 abbrev pub level_now : Kept → Level
 level_now k = level_of k.bindings k.lists
 
 abbrev pub state_now : Kept → State
-state_now k = state_with k.tables (level_now k) k.frames (world_now k) k.mode
+state_now k = state_with k.tables (level_now k) k.frames.choices (world_now k) k.mode
 
 -- the turns that are still to come, the ending, and the world at it
 unfoldable pub to_come : Kept → Run
@@ -94,7 +97,7 @@ has_event k = is_event k.last && not k.faulted
 abbrev pub has_solution : Kept → Bool
 has_solution k = is_solution k.last && not k.faulted
 
--- how many turns were answered
+-- how many turns were answered, where no call has answered a fault
 abbrev pub answered : Kept → ℕ
 answered k = k.events + k.solutions
 

@@ -4,13 +4,44 @@ use Rattle.op_logic.specs.Term.{Term, shift}
 use Rattle.op_logic.specs.Bind.{Bindings, unify, Solved as Result}
 use Rattle.op_trace.specs.declared.port.Port.{Port}
 use Rattle.op_trace.specs.declared.port.Port.TheVariants as port
-use Rattle.op_trace.specs.World.{Text, text_eq, Clause, World, Setup, Barrier, Item, Goal, Exit, Turn, Shown, Solved, procedure}
-use Rattle.op_trace.specs.Visit.{Verdict, Failed, Stopped, Spent, Visited, gives, and_then, event_of, with_event, Control, Succeed, Give_up, Both, Invoke, control, entered, Choice, Redo, More, Fail, after, visit}
+use Rattle.op_trace.specs.declared.barrier.Barrier.{Barrier}
+use Rattle.op_trace.specs.declared.barrier.Barrier.TheVariants.{Call, Within, Past}
+use Rattle.op_trace.specs.World.{Text, text_eq, Clause, World, Setup, same_barrier, Item, Goal, Cut, Exit, Turn, Shown, Solved, procedure}
+use Rattle.op_trace.specs.Visit.{Verdict, Failed, CutTo, Stopped, Spent, Visited, gives, and_then, event_of, with_event, Control, Succeed, Give_up, Commit, Both, Either, If, Invoke, control, entered, Choice, Redo, Branch, More, Fail, Condition, after, visit}
+
+-- where no choice is left, a cut leaves nothing more to fail
+abbrev pub at_top : Verdict → World → Visited
+at_top Failed w = gives Failed w
+at_top (CutTo m) w = gives Failed w
+at_top Stopped w = gives Stopped w
+at_top Spent w = gives Spent w
 
 -- what is left to do after a result: what the last choice does, then what is left by the others
 unfoldable pub resume : Setup → List Choice → Verdict → World → Visited
-resume s [] r w = gives r w
+resume s [] r w = at_top r w
 resume s (c ∷ K) r w = and_then (after (visit s) s c r w) (resume s K)
+
+-- a choice to which a cut to a barrier comes, and which it keeps: a box's own, which makes its fail event, and a condition's for a cut
+-- inside the condition
+abbrev pub stays : Choice → Barrier → Bool
+stays (Redo k g σ J) m = false
+stays (Branch t b σ J) m = false
+stays (More cs k g σ J) m = false
+stays (Fail k g σ J) m = same_barrier m (Call k)
+stays (Condition n t b σ J) m = same_barrier m (Within n)
+
+-- one to which it comes, and which it drops as the last: a condition's, where the condition has succeeded
+abbrev pub goes : Choice → Barrier → Bool
+goes (Redo k g σ J) m = false
+goes (Branch t b σ J) m = false
+goes (More cs k g σ J) m = false
+goes (Fail k g σ J) m = false
+goes (Condition n t b σ J) m = same_barrier m (Past n)
+
+-- what a cut to a barrier keeps
+abbrev pub keep : Barrier → List Choice → List Choice
+keep m [] = []
+keep m (c ∷ K) = if stays c m then c ∷ K else (if goes c m then K else keep m K)
 
 -- a machine goes on with its items, or goes back to its last choice, or is at the end
 pub data State : Type 0 where
@@ -53,10 +84,19 @@ invoked g J K σ w =
     let u : World = record w { calls = k } in
     showing port.Call k g σ J u (Back (with_more (procedure w.clauses g) k g σ J (Fail k g σ J ∷ K)) (with_event u))
 
+-- a condition comes next, and the else branch is kept as a choice
+abbrev pub asked : Term Text → Term Text → Term Text → Barrier → List Item → List Choice → Bindings Text → World → Moved
+asked c t e m J K σ w =
+    let n : ℕ = w.conditions + 1 in
+    silent (Going (Goal c (Within n) ∷ Cut (Past n) ∷ Goal t m ∷ J) (Condition n e m σ J ∷ K) σ (record w { conditions = n }))
+
 abbrev pub chosen : Control → Term Text → Barrier → List Item → List Choice → Bindings Text → World → Moved
 chosen Succeed t m J K σ w = silent (Going J K σ w)
 chosen Give_up t m J K σ w = silent (Back K w)
+chosen Commit t m J K σ w = silent (Going J (keep m K) σ w)
 chosen (Both a b) t m J K σ w = silent (Going (Goal a m ∷ Goal b m ∷ J) K σ w)
+chosen (Either a b) t m J K σ w = silent (Going (Goal a m ∷ J) (Branch b m σ J ∷ K) σ w)
+chosen (If c a b) t m J K σ w = asked c a b m J K σ w
 chosen Invoke t m J K σ w = invoked t J K σ w
 
 abbrev pub met : Setup → Clause → ℕ → Term Text → List Item → List Choice → World → Option (Result Text) → Moved
@@ -75,12 +115,19 @@ at_solution s K σ w =
     let u : World = record w { solutions = w.solutions + 1 } in
     record { turns = Solved σ u ∷ []; state = if u.solutions == s.wanted then Over Stopped u else Back K u }
 
+-- another branch: one step, and its goal
+abbrev pub branched : Setup → Term Text → Barrier → Bindings Text → List Item → List Choice → World → Moved
+branched s t m σ J K w = pay s 1 w (λ u. silent (Going (Goal t m ∷ J) K σ u))
+
 abbrev pub move : Setup → State → Moved
 move s (Going [] K σ w) = at_solution s K σ w
 move s (Going (Exit k g ∷ J) K σ w) = showing port.Exit k g σ J w (Going J (Redo k g σ J ∷ K) σ (with_event w))
+move s (Going (Cut m ∷ J) K σ w) = silent (Going J (keep m K) σ w)
 move s (Going (Goal t m ∷ J) K σ w) = pay s 1 w (chosen (control t) t m J K σ)
 move s (Back [] w) = silent (Over Failed w)
 move s (Back (Redo k g σ J ∷ K) w) = showing port.Redo k g σ J w (Back K (with_event w))
+move s (Back (Branch t m σ J ∷ K) w) = branched s t m σ J K w
+move s (Back (Condition n t m σ J ∷ K) w) = branched s t m σ J K w
 move s (Back (Fail k g σ J ∷ K) w) = showing port.Fail k g σ J w (Back K (with_event w))
 move s (Back (More [] k g σ J ∷ K) w) = silent (Back K w)
 move s (Back (More (c ∷ cs) k g σ J ∷ K) w) = tried s c k g σ J (with_more cs k g σ J K) w

@@ -4,16 +4,18 @@ use Rattle.op_logic.specs.Term.{Term, shift, Args, args_of, nth_arg}
 use Rattle.op_term.specs.Places.{term_at}
 use Rattle.op_logic.specs.Bind.{unify, Solved as Result}
 use Rattle.op_trace.specs.World as world
-use Rattle.op_trace.specs.World.{Text, text_eq, World, Clause, Barrier, Turn, Shown, Solved}
+use Rattle.op_trace.specs.declared.barrier.Barrier.{Barrier}
+use Rattle.op_trace.specs.declared.barrier.Barrier.TheVariants.{Call}
+use Rattle.op_trace.specs.World.{Text, text_eq, World, Clause, Turn, Shown, Solved}
 use Rattle.op_trace.specs.Visit.{control, is_true}
+use Rattle.op_trace.specs.Visit as visit
 use Rattle.op_bind.specs.declared.places.Clause.{Clause as Rule}
-use Rattle.op_machine.specs.Program.{clause_in, goal_named}
+use Rattle.op_machine.specs.Program.{clause_in, clauses_from, goal_named}
 use Rattle.op_machine.specs.declared.core_state.Core.{Core}
 use Rattle.op_machine.specs.declared.core_state.Step.{Step}
 use Rattle.op_machine.specs.declared.core_state.Step.TheVariants as step
-use Rattle.op_machine.specs.Core.{setup_of, world_in, level_in, items_now, goal_now, bindings_now, choices_in, choice_by, state_of, event_seen, IsGood, IsSeen}
-use Rattle.op_machine.specs.declared.frame.FrameKind.TheVariants as kind
-use Rattle.op_machine.specs.Resume.{Moved, Going, Back, silent, pay, chosen, invoked, met, tried, move}
+use Rattle.op_machine.specs.Core.{setup_of, world_in, items_now, goal_now, bindings_now, choices_in, state_of, event_seen, IsGood, IsSeen}
+use Rattle.op_machine.specs.Resume.{Moved, Going, Back, silent, pay, keep, asked, chosen, invoked, met, tried, branched, move}
 
 -- the turn that a machine shows after a step
 abbrev pub turns_of : Step → Core → List Turn
@@ -43,7 +45,7 @@ box_invoked c g n = invoked (goal_now c g) (items_now c n) (choices_in c) (bindi
 
 -- the body of a clause before items, with this barrier: nothing for a fact
 abbrev pub body_before : Core → ℕ → ℕ → List world.Item → List world.Item
-body_before c b k J = if is_true (goal_now c b) then J else world.Goal (goal_now c b) (world.Call k) ∷ J
+body_before c b k J = if is_true (goal_now c b) then J else world.Goal (goal_now c b) (Call k) ∷ J
 
 -- a clause's body and then the exit of the box come next
 abbrev pub body_entered : Core → ℕ → ℕ → ℕ → ℕ → Moved
@@ -51,10 +53,10 @@ body_entered c b k g n =
     silent (Going (body_before c b k (world.Exit k (goal_now c g) ∷ items_now c n)) (choices_in c) (bindings_now c) (world_in c))
 
 -- the two goals of a conjunction before a list
-abbrev pub both_before : Core → ℕ → ℕ → ℕ → List world.Item
+abbrev pub both_before : Core → ℕ → Barrier → ℕ → List world.Item
 both_before c g m n =
     let ts : Args ℕ = args_of (term_at c.bindings.terms g) in
-    world.Goal (goal_named c.store (nth_arg ts 0)) (world.Call m) ∷ world.Goal (goal_named c.store (nth_arg ts 1)) (world.Call m) ∷ items_now c n
+    world.Goal (goal_named c.store (nth_arg ts 0)) m ∷ world.Goal (goal_named c.store (nth_arg ts 1)) m ∷ items_now c n
 
 -- a clause's head is unified with the goal, with the steps that are left
 abbrev pub head_unified : Core → Rule → ℕ → Option (Result Text)
@@ -71,7 +73,25 @@ rule_tried c r k g n =
 
 -- the move of a choice, made at the present moment, of clauses from one on
 abbrev pub rules_tried : Core → List Rule → ℕ → ℕ → ℕ → ℕ → Moved
-rules_tried c rules i k g n = move (setup_of c) (Back (choice_by c.store (level_in c) (kind.More rules i) k g n ∷ choices_in c) (world_in c))
+rules_tried c rules i k g n =
+    move (setup_of c) (Back (visit.More (clauses_from c.store rules i) k (goal_now c g) (bindings_now c) (items_now c n) ∷ choices_in c) (world_in c))
+
+-- another branch is tried, made at the present moment
+abbrev pub branch_tried : Core → ℕ → Barrier → ℕ → Moved
+branch_tried c g m n = branched (setup_of c) (goal_now c g) m (bindings_now c) (items_now c n) (choices_in c) (world_in c)
+
+-- the choices that a cut keeps
+abbrev pub pruned : Core → Barrier → ℕ → Moved
+pruned c m n = silent (Going (items_now c n) (keep m (choices_in c)) (bindings_now c) (world_in c))
+
+-- the first branch comes next, and the second is kept as a choice
+abbrev pub either_before : Core → ℕ → ℕ → Barrier → ℕ → Moved
+either_before c a b m n =
+    silent (Going (world.Goal (goal_now c a) m ∷ items_now c n) (visit.Branch (goal_now c b) m (bindings_now c) (items_now c n) ∷ choices_in c) (bindings_now c) (world_in c))
+
+-- a condition comes next, and the else branch is kept as a choice
+abbrev pub condition_before : Core → ℕ → ℕ → ℕ → Barrier → ℕ → Moved
+condition_before c a b e m n = asked (goal_now c a) (goal_now c b) (goal_now c e) m (items_now c n) (choices_in c) (bindings_now c) (world_in c)
 
 -- the program and the goal's names stay, also where memory is wanting, and steps never fall
 pub record Keeps (old new : Core) : Type 0 where

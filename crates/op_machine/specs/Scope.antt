@@ -1,26 +1,10 @@
--- Barriers and choices in step: to which choice a barrier belongs, what a cut to it keeps, and that a cut made for a goal
--- leaves what the cuts of the goals behind it keep.
-use Rattle.std.specs.Prelude.{◌≡◌, ◌⊎◌, ℕ, ◌≤◌, ◌==◌, Bool, false, List, [], ◌∷◌, if◌then◌else◌}
-use Rattle.op_trace.specs.World.{Barrier, Call, Item, Goal, Exit}
-use Rattle.op_trace.specs.Visit.{Choice, Redo, More, Fail}
-use Rattle.op_machine.specs.Resume.{State, Going, Back, Over}
-
--- the choice that a barrier belongs to: a box's own, which makes its fail event
-abbrev pub owns : Choice → Barrier → Bool
-owns (Redo k g σ J) (Call m) = false
-owns (More cs k g σ J) (Call m) = false
-owns (Fail k g σ J) (Call m) = k == m
-
--- what a cut to a barrier keeps: its choice and those below
-abbrev pub keep : Barrier → List Choice → List Choice
-keep m [] = []
-keep m (c ∷ K) = if owns c m then c ∷ K else keep m K
-
--- a barrier of these items
-abbrev pub Has : Barrier → List Item → Type 0
-Has n [] = ⊥
-Has n (Goal t m ∷ J) = (n ≡ m) ⊎ Has n J
-Has n (Exit k g ∷ J) = Has n J
+-- Barriers and choices in step: a cut to the barrier of an item leaves what the cuts of the items behind it keep.
+use Rattle.std.specs.Prelude.{◌≡◌, ℕ, ◌≤◌, List, [], ◌∷◌}
+use Rattle.op_trace.specs.declared.barrier.Barrier.{Barrier}
+use Rattle.op_trace.specs.declared.barrier.Barrier.TheVariants.{Call, Within, Past}
+use Rattle.op_trace.specs.World.{Item, Goal, Cut, Exit, Has}
+use Rattle.op_trace.specs.Visit.{Choice, Redo, Branch, More, Fail, Condition}
+use Rattle.op_machine.specs.Resume.{keep, State, Going, Back, Over}
 
 -- a cut to m drops nothing that a cut of the items behind it keeps
 abbrev pub Behind : Barrier → List Choice → List Item → Type 0
@@ -30,28 +14,40 @@ Behind m K J = (n : Barrier) → Has n J → keep n (keep m K) ≡ keep n K
 abbrev pub Scoped : List Choice → List Item → Type 0
 Scoped K [] = Unit {0}
 Scoped K (Goal t m ∷ J) = Behind m K J × Scoped K J
+Scoped K (Cut m ∷ J) = Behind m K J × Scoped K J
 Scoped K (Exit k g ∷ J) = Scoped K J
 
-abbrev pub number_of : Barrier → ℕ
-number_of (Call m) = m
+-- a barrier's number was given out, of so many calls and conditions
+abbrev pub IsGiven : ℕ → ℕ → Barrier → Type 0
+IsGiven calls conditions (Call k) = k ≤ calls
+IsGiven calls conditions (Within n) = n ≤ conditions
+IsGiven calls conditions (Past n) = n ≤ conditions
 
--- each barrier of the items has a number that was given out
-abbrev pub AreGiven : ℕ → List Item → Type 0
-AreGiven n [] = Unit {0}
-AreGiven n (Goal t m ∷ J) = (number_of m ≤ n) × AreGiven n J
-AreGiven n (Exit k g ∷ J) = AreGiven n J
+-- a goal's barrier: no goal cuts to the mark that the success of a condition cuts to
+abbrev pub IsGoalBarrier : ℕ → ℕ → Barrier → Type 0
+IsGoalBarrier calls conditions (Call k) = k ≤ calls
+IsGoalBarrier calls conditions (Within n) = n ≤ conditions
+IsGoalBarrier calls conditions (Past n) = ⊥
 
--- a choice goes on over the choices below it: of further clauses, its box's own choice is the next below
-abbrev pub IsScopedChoice : ℕ → Choice → List Choice → Type 0
-IsScopedChoice n (Redo k g σ J) K = Unit {0}
-IsScopedChoice n (More cs k g σ J) K = (keep (Call k) K ≡ K) × Scoped K J × (k ≤ n) × AreGiven n J
-IsScopedChoice n (Fail k g σ J) K = Unit {0}
+abbrev pub AreGiven : ℕ → ℕ → List Item → Type 0
+AreGiven c d [] = Unit {0}
+AreGiven c d (Goal t m ∷ J) = IsGoalBarrier c d m × AreGiven c d J
+AreGiven c d (Cut m ∷ J) = IsGiven c d m × AreGiven c d J
+AreGiven c d (Exit k g ∷ J) = AreGiven c d J
 
-abbrev pub AreScoped : ℕ → List Choice → Type 0
-AreScoped n [] = Unit {0}
-AreScoped n (c ∷ K) = IsScopedChoice n c K × AreScoped n K
+-- a choice goes on over the choices below it: a cut to the box of further clauses leaves all of these
+abbrev pub IsScopedChoice : ℕ → ℕ → Choice → List Choice → Type 0
+IsScopedChoice c d (Redo k g σ J) K = Unit {0}
+IsScopedChoice c d (Branch t m σ J) K = Scoped K (Goal t m ∷ J) × AreGiven c d (Goal t m ∷ J)
+IsScopedChoice c d (More cs k g σ J) K = (keep (Call k) K ≡ K) × Scoped K J × (k ≤ c) × AreGiven c d J
+IsScopedChoice c d (Fail k g σ J) K = Unit {0}
+IsScopedChoice c d (Condition n t m σ J) K = Scoped K (Goal t m ∷ J) × AreGiven c d (Goal t m ∷ J)
+
+abbrev pub AreScoped : ℕ → ℕ → List Choice → Type 0
+AreScoped c d [] = Unit {0}
+AreScoped c d (x ∷ K) = IsScopedChoice c d x K × AreScoped c d K
 
 abbrev pub InStep : State → Type 0
-InStep (Going I K σ w) = Scoped K I × AreGiven w.calls I × AreScoped w.calls K
-InStep (Back K w) = AreScoped w.calls K
+InStep (Going I K σ w) = Scoped K I × AreGiven w.calls w.conditions I × AreScoped w.calls w.conditions K
+InStep (Back K w) = AreScoped w.calls w.conditions K
 InStep (Over r w) = Unit {0}

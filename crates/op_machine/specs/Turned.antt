@@ -1,6 +1,7 @@
 -- What a machine's parts come to at the next turn.
 use Rattle.std.specs.Prelude.{◌≡◌, ℕ, ◌+◌, ◌≤◌, List, [], ◌∷◌}
-use Rattle.op_trace.specs.World.{Turn, Shown, Solved, Call, Goal, loaded}
+use Rattle.op_trace.specs.declared.barrier.Barrier.TheVariants.{Call}
+use Rattle.op_trace.specs.World.{Turn, Shown, Solved, Goal, loaded}
 use Rattle.op_trace.specs.Run.{started}
 use Rattle.op_trace.specs.Visit.{gives, with_turns}
 use Rattle.op_machine.specs.declared.core_state.Core.{Core}

@@ -1,6 +1,7 @@
-use crate::frame::Frame;
+use crate::held::Held;
 use crate::lists::Lists;
 use op_bind::{Bindings, Mark, Ref};
+use op_frames::Frames;
 use op_reader::Names;
 use op_store::Store;
 use op_trace::Port;
@@ -52,14 +53,17 @@ pub struct Core {
     pub store: Store,
     pub bindings: Bindings,
     pub lists: Lists,
-    pub frames: Vec<Frame>,
+    pub frames: Frames<Held>,
     pub mode: Mode,
     pub seen: Seen,
     pub names: Names,
     // the variables that have names, made before all else
     pub values: Vec<Ref>,
+    // the atom `fail`, made before all else
+    pub failure: Ref,
     pub floor: Mark,
     pub calls: u64,
+    pub conditions: u64,
     pub steps: u64,
     pub events: u64,
     pub solutions: u64,

@@ -1,10 +1,12 @@
 ghost use Rattle.std.specs.Prelude.{◌≡◌, ◌+◌, ◌<◌, ◌≤◌, ◌^◌, ◌∷◌, length, IfOk, OnOk};
-ghost use Rattle.op_trace.specs.World.{Barrier, Call, Goal};
+ghost use Rattle.op_trace.specs.declared.barrier.Barrier.{Barrier};
+ghost use Rattle.op_trace.specs.World.{Goal};
 ghost use Rattle.op_trace.specs.Visit.{control, Both};
 ghost use Rattle.op_machine.specs.declared.core_state.Step.TheVariants as step;
 ghost use Rattle.op_machine.specs.Core.{world_in, level_in, items_now, goal_now, bindings_now, choices_in, IsGood, IsGoal};
 ghost use Rattle.op_machine.specs.Resume.{silent, Going};
 ghost use Rattle.op_machine.specs.Rows.{Keeps, Advances, chosen_now, goal_moved, rule_met, rule_tried, rules_tried, both_before};
+ghost use Rattle.op_machine.specs.Boxes.{IsCalled};
 ghost use Rattle.op_machine.specs.Program.{IsKnown, AreKnown};
 ghost use Rattle.op_term.specs.Places.{term_at};
 ghost use Rattle.op_logic.specs.Term.{args_of, arity};
@@ -16,17 +18,19 @@ use op_base::Memory;
 use op_bind::{Clause, Ref};
 use op_store::Snapshot;
 use op_term::{Fuel, WalkFault};
+use op_trace::Barrier;
 
 impl Core {
     // A goal is selected.
-    pub(crate) fn select(&mut self, goal: Ref, barrier: u64, rest: u64) -> Result<Step, Memory>
+    pub(crate) fn select(&mut self, goal: Ref, barrier: Barrier, rest: u64) -> Result<Step, Memory>
         requires good { IsGood self.old }
         requires there { rest < length self.old.lists }
         requires goal { IsGoal (length self.old.store.names) self.old.bindings.terms goal }
         requires fits { self.old.events < 2 ^ 63 }
         requires calls { self.old.calls < 2 ^ 63 }
+        requires conditions { self.old.conditions < 2 ^ 63 }
         requires steps { self.old.steps ≤ self.old.budget }
-        ensures advances { IfOk result (Advances self.old self.new (goal_moved self.old (goal_now self.old goal) (Call barrier) rest)) }
+        ensures advances { IfOk result (Advances self.old self.new (goal_moved self.old (goal_now self.old goal) barrier rest)) }
         ensures keeps { Keeps self.old self.new }
     {
         if !self.spend() {
@@ -36,13 +40,14 @@ impl Core {
     }
 
     // A goal of which the step was paid.
-    fn choose(&mut self, goal: Ref, barrier: u64, rest: u64) -> Result<Step, Memory>
+    fn choose(&mut self, goal: Ref, barrier: Barrier, rest: u64) -> Result<Step, Memory>
         requires good { IsGood self.old }
         requires there { rest < length self.old.lists }
         requires goal { IsGoal (length self.old.store.names) self.old.bindings.terms goal }
         requires fits { self.old.events < 2 ^ 63 }
         requires calls { self.old.calls < 2 ^ 63 }
-        ensures advances { IfOk result (Advances self.old self.new (chosen_now self.old (goal_now self.old goal) (Call barrier) rest (world_in self.old))) }
+        requires conditions { self.old.conditions < 2 ^ 63 }
+        ensures advances { IfOk result (Advances self.old self.new (chosen_now self.old (goal_now self.old goal) barrier rest (world_in self.old))) }
         ensures keeps { Keeps self.old self.new }
     {
         match kind_of(&self.store, self.bindings.outline(&goal)) {
@@ -54,8 +59,21 @@ impl Core {
                 self.mode = Mode::Backward;
                 Ok(Step::Silent)
             }
+            Kind::Cut => {
+                self.prune(barrier);
+                self.mode = Mode::Forward { items: rest };
+                Ok(Step::Silent)
+            }
             Kind::Both => {
                 self.split(goal, barrier, rest)?;
+                Ok(Step::Silent)
+            }
+            Kind::Either => {
+                self.fork(goal, barrier, rest)?;
+                Ok(Step::Silent)
+            }
+            Kind::Then => {
+                self.ask_alone(goal, barrier, rest)?;
                 Ok(Step::Silent)
             }
             Kind::Boxed => self.invoke(goal, rest),
@@ -63,7 +81,7 @@ impl Core {
     }
 
     // Both goals of a conjunction come next.
-    fn split(&mut self, goal: Ref, barrier: u64, rest: u64) -> Result<(), Memory>
+    fn split(&mut self, goal: Ref, barrier: Barrier, rest: u64) -> Result<(), Memory>
         requires good { IsGood self.old }
         requires there { rest < length self.old.lists }
         requires goal { IsGoal (length self.old.store.names) self.old.bindings.terms goal }
@@ -105,6 +123,7 @@ impl Core {
         requires goal { IsGoal (length self.old.store.names) self.old.bindings.terms goal }
         requires here { next < length rules.now }
         requires known { AreKnown (length self.old.store.names) rules.now }
+        requires called { IsCalled self.old.frames.boxes self.old.calls self.old.lists call goal rest }
         requires steps { self.old.steps ≤ self.old.budget }
         ensures advances { IfOk result (Advances self.old self.new (rules_tried self.old rules.now next call goal rest)) }
         ensures keeps { Keeps self.old self.new }
@@ -120,6 +139,7 @@ impl Core {
         requires there { rest < length self.old.lists }
         requires goal { IsGoal (length self.old.store.names) self.old.bindings.terms goal }
         requires known { IsKnown (length self.old.store.names) rule.now }
+        requires called { IsCalled self.old.frames.boxes self.old.calls self.old.lists call goal rest }
         requires steps { self.old.steps ≤ self.old.budget }
         ensures advances { IfOk result (Advances self.old self.new (rule_tried self.old rule.now call goal rest)) }
         ensures keeps { Keeps self.old self.new }
@@ -136,6 +156,7 @@ impl Core {
         requires there { rest < length self.old.lists }
         requires goal { IsGoal (length self.old.store.names) self.old.bindings.terms goal }
         requires known { IsKnown (length self.old.store.names) rule.now }
+        requires called { IsCalled self.old.frames.boxes self.old.calls self.old.lists call goal rest }
         requires steps { self.old.steps ≤ self.old.budget }
         ensures advances { IfOk result (Advances self.old self.new (rule_met self.old rule.now call goal rest)) }
         ensures keeps { Keeps self.old self.new }

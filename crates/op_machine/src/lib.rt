@@ -1,14 +1,17 @@
 //! The machine that walks the search tree of a goal, a turn at a time.
 #![tactic(auto)]
 
+mod branches;
+mod choices;
 mod core_state;
-mod frame;
 mod goals;
+mod held;
 mod kind;
 pub mod laws;
 mod lists;
 mod machine;
 mod moves;
+mod parts;
 mod procedure;
 mod rows;
 mod run;

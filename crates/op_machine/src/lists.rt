@@ -4,14 +4,17 @@ ghost use Rattle.op_trace.specs.World.{head_number};
 
 use op_base::Memory;
 use op_bind::Ref;
+use op_trace::Barrier;
 use std::alloc::Global;
 use std::marker::Model;
 
 /// What is still to be done.
 #[derive(Clone, Copy)]
 pub enum Item {
-    /// A goal; a cut in it cuts to this box.
-    Goal { goal: Ref, barrier: u64 },
+    /// A goal; a cut in it cuts to this barrier.
+    Goal { goal: Ref, barrier: Barrier },
+    /// The cut of a condition that has succeeded.
+    Cut { barrier: Barrier },
     /// The exit of a box that was called with a goal.
     Exit { call: u64, goal: Ref },
 }
@@ -154,6 +157,7 @@ fn opened_before(cells: &Vec<Cell>, item: &Item, rest: u64) -> (u64, u64)
     let (parent, depth) = opened_at(cells, rest);
     match item {
         Item::Goal { .. } => (parent, depth),
+        Item::Cut { .. } => (parent, depth),
         Item::Exit { call, .. } => (*call, depth + 1),
     }
 }

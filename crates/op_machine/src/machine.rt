@@ -118,7 +118,7 @@ impl Machine {
         }
     }
 
-    /// How many steps the run has made up to the last turn, or to its end.
+    /// How many steps the run has made up to the last turn, or to its end; once a call has answered a fault, the number has no meaning.
     pub fn used_steps(&self) -> u64
         ensures { result ≡ self.now.steps }
     {
@@ -130,6 +130,12 @@ impl Machine {
         ensures { result.now ≡ self.now.tables }
     {
         &self.core.store
+    }
+
+    // How many choices are kept.
+    #[cfg(test)]
+    pub(crate) fn kept_choices(&self) -> usize {
+        self.core.frames.choices().len()
     }
 
     /// The event that was the last turn; None where the last turn was no event or a fault was answered.

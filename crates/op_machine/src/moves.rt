@@ -1,13 +1,17 @@
 ghost use Rattle.std.specs.Prelude.{◌≡◌, ◌+◌, ◌<◌, ◌≤◌, ◌^◌, [], ◌∷◌, length, IfOk};
 ghost use Rattle.op_machine.specs.declared.core_state.Mode.TheVariants as mode;
-ghost use Rattle.op_machine.specs.Core.{setup_of, state_of, world_in, level_in, items_now, bindings_now, choices_in, choice_of, item_term, IsGood, IsItem, IsFrame};
+ghost use Rattle.op_machine.specs.Core.{setup_of, state_of, world_in, level_in, items_now, bindings_now, choices_in, choice_of, item_term, IsGood, IsGoal, IsItem, IsFrame};
+ghost use Rattle.op_machine.specs.Program.{AreKnown};
+ghost use Rattle.op_store.specs.Snapshots.{rules_in};
 ghost use Rattle.op_machine.specs.Resume.{move, Going, Back};
-ghost use Rattle.op_machine.specs.Rows.{Keeps, Advances};
+ghost use Rattle.op_machine.specs.Boxes.{IsCalled, IsTried};
+ghost use Rattle.op_machine.specs.Rows.{Keeps, Advances, rules_tried};
 
 use crate::core_state::{Core, Ending, Mode, Step};
-use crate::frame::{Frame, FrameKind};
+use crate::held::Held;
 use crate::lists::Item;
 use op_base::Memory;
+use op_frames::{Choice, ChoiceKind};
 use op_trace::Port;
 
 impl Core {
@@ -17,6 +21,7 @@ impl Core {
         requires events { self.old.events < 2 ^ 63 }
         requires solutions { self.old.solutions < 2 ^ 63 }
         requires calls { self.old.calls < 2 ^ 63 }
+        requires conditions { self.old.conditions < 2 ^ 63 }
         requires steps { self.old.steps ≤ self.old.budget }
         ensures advances { IfOk result (Advances self.old self.new (move (setup_of self.old) (state_of self.old))) }
         ensures keeps { Keeps self.old self.new }
@@ -35,6 +40,7 @@ impl Core {
         requires events { self.old.events < 2 ^ 63 }
         requires solutions { self.old.solutions < 2 ^ 63 }
         requires calls { self.old.calls < 2 ^ 63 }
+        requires conditions { self.old.conditions < 2 ^ 63 }
         requires steps { self.old.steps ≤ self.old.budget }
         ensures advances { IfOk result (Advances self.old self.new (move (setup_of self.old)
             (Going (items_now self.old items) (choices_in self.old) (bindings_now self.old) (world_in self.old)))) }
@@ -53,6 +59,7 @@ impl Core {
         requires there { rest < length self.old.lists }
         requires events { self.old.events < 2 ^ 63 }
         requires calls { self.old.calls < 2 ^ 63 }
+        requires conditions { self.old.conditions < 2 ^ 63 }
         requires steps { self.old.steps ≤ self.old.budget }
         ensures advances { IfOk result (Advances self.old self.new (move (setup_of self.old)
             (Going (item_term self.old.store (level_in self.old) item ∷ items_now self.old rest) (choices_in self.old) (bindings_now self.old) (world_in self.old)))) }
@@ -60,6 +67,11 @@ impl Core {
     {
         match item {
             Item::Goal { goal, barrier } => self.select(goal, barrier, rest),
+            Item::Cut { barrier } => {
+                self.prune(barrier);
+                self.mode = Mode::Forward { items: rest };
+                Ok(Step::Silent)
+            }
             Item::Exit { call, goal } => self.exit_box(call, goal, rest),
         }
     }
@@ -69,14 +81,15 @@ impl Core {
         requires good { IsGood self.old }
         requires mode { self.old.mode ≡ mode.Backward }
         requires events { self.old.events < 2 ^ 63 }
+        requires calls { self.old.calls < 2 ^ 63 }
         requires steps { self.old.steps ≤ self.old.budget }
         ensures advances { IfOk result (Advances self.old self.new (move (setup_of self.old) (Back (choices_in self.old) (world_in self.old)))) }
         ensures keeps { Keeps self.old self.new }
     {
         match self.pop() {
-            Some(frame) => {
-                self.restore(&frame);
-                self.resume(&frame)
+            Some(choice) => {
+                self.restore(&choice);
+                self.resume(&choice)
             }
             None => {
                 self.mode = Mode::Over {
@@ -88,21 +101,44 @@ impl Core {
     }
 
     // What a choice, made at the present moment, does after a failure.
-    fn resume(&mut self, frame: &Frame) -> Result<Step, Memory>
+    fn resume(&mut self, choice: &Choice<Held>) -> Result<Step, Memory>
         requires good { IsGood self.old }
-        requires frame { IsFrame self.old.store (level_in self.old) frame.now }
+        requires frame { IsFrame self.old.store (level_in self.old) choice.now }
+        requires calls { choice.now.kept.calls ≤ self.old.calls }
+        requires tried { IsTried self.old.frames.boxes self.old.lists choice.now.kind choice.now.kept choice.now.rest }
         requires events { self.old.events < 2 ^ 63 }
         requires steps { self.old.steps ≤ self.old.budget }
         ensures advances { IfOk result (Advances self.old self.new (move (setup_of self.old)
-            (Back (choice_of self.old.store (level_in self.old) frame.now ∷ choices_in self.old) (world_in self.old)))) }
+            (Back (choice_of self.old.store (level_in self.old) choice.now ∷ choices_in self.old) (world_in self.old)))) }
         ensures keeps { Keeps self.old self.new }
     {
-        match &frame.kind {
-            FrameKind::Redo => Ok(self.go_back(Port::Redo, frame.call, frame.goal, frame.rest)),
-            FrameKind::More { rules, next } => {
-                self.retry(rules, *next, frame.call, frame.goal, frame.rest)
-            }
-            FrameKind::Fail => Ok(self.go_back(Port::Fail, frame.call, frame.goal, frame.rest)),
+        let kept = &choice.kept;
+        match choice.kind {
+            ChoiceKind::Redo(call) => Ok(self.go_back(Port::Redo, call, kept.goal, choice.rest)),
+            ChoiceKind::Branch(_) => self.try_branch(kept.goal, kept.barrier, choice.rest),
+            ChoiceKind::More(call) => self.go_on(kept, call, choice.rest),
+            ChoiceKind::Fail(call) => Ok(self.go_back(Port::Fail, call, kept.goal, choice.rest)),
+            ChoiceKind::Condition(_) => self.try_branch(kept.goal, kept.barrier, choice.rest),
+            ChoiceKind::Catch(_) => Ok(Step::Silent),
+            ChoiceKind::Findall(_) => Ok(Step::Silent),
+        }
+    }
+
+    // The next of the clauses that a choice keeps is tried.
+    fn go_on(&mut self, kept: &Held, call: u64, rest: u64) -> Result<Step, Memory>
+        requires good { IsGood self.old }
+        requires there { rest < length self.old.lists }
+        requires goal { IsGoal (length self.old.store.names) self.old.bindings.terms kept.now.goal }
+        requires here { kept.now.next < length (rules_in kept.now.rules) }
+        requires known { AreKnown (length self.old.store.names) (rules_in kept.now.rules) }
+        requires called { IsCalled self.old.frames.boxes self.old.calls self.old.lists call kept.now.goal rest }
+        requires steps { self.old.steps ≤ self.old.budget }
+        ensures advances { IfOk result (Advances self.old self.new (rules_tried self.old (rules_in kept.now.rules) kept.now.next call kept.now.goal rest)) }
+        ensures keeps { Keeps self.old self.new }
+    {
+        match &kept.rules {
+            Some(rules) => self.retry(rules, kept.next, call, kept.goal, rest),
+            None => Ok(Step::Silent),
         }
     }
 }

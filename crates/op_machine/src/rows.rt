@@ -1,13 +1,16 @@
-ghost use Rattle.std.specs.Prelude.{◌≡◌, ◌+◌, ◌<◌, ◌≤◌, ◌^◌, [], ◌∷◌, Some, length, take, reverse, IfOk, OnOk, IfNone, IfSome, MatchOption};
+ghost use Rattle.std.specs.Prelude.{◌≡◌, ◌+◌, ◌<◌, ◌≤◌, ◌^◌, ℕ, [], ◌∷◌, length, take, IfOk, OnOk};
 ghost use Rattle.std.specs.Bool.{OnTrue, OnFalse};
-ghost use Rattle.op_trace.specs.World.{Barrier, Call, Goal};
+ghost use Rattle.op_trace.specs.declared.barrier.Barrier.{Barrier};
+ghost use Rattle.op_trace.specs.declared.barrier.Barrier.TheVariants.{Call};
+ghost use Rattle.op_trace.specs.World.{Goal};
 ghost use Rattle.op_trace.specs.Visit.{event_of, with_event, is_true};
 ghost use Rattle.op_bind.specs.State.{undone};
 ghost use Rattle.op_machine.specs.declared.core_state.Mode.TheVariants as mode;
 ghost use Rattle.op_machine.specs.declared.core_state.Ending.TheVariants as ending;
 ghost use Rattle.op_machine.specs.declared.core_state.Step.TheVariants as step;
-ghost use Rattle.op_machine.specs.declared.frame.FrameKind.TheVariants as kind;
-ghost use Rattle.op_machine.specs.Core.{setup_of, world_in, level_in, items_now, goal_now, bindings_now, choices_in, choice_by, item_term, items_in, event_seen, IsGood, IsItem, IsGoal, IsEarlier, IsKind};
+ghost use Rattle.op_machine.specs.Core.{setup_of, world_in, level_in, items_now, goal_now, bindings_now, choices_in, item_term, items_in, event_seen, IsGood, IsItem, IsGoal, IsEarlier};
+ghost use Rattle.op_frames.specs.Frames.{open_from};
+ghost use Rattle.op_machine.specs.Boxes.{boxes_before, IsCalled, IsEntered};
 ghost use Rattle.op_machine.specs.Program.{clauses, clauses_from, AreKnown};
 ghost use Rattle.op_machine.specs.Resume.{at_solution, showing, with_more, silent, Going, Back};
 ghost use Rattle.op_machine.specs.Rows.{Keeps, Advances, IsLooked, exit_moved, box_invoked, body_entered, body_before};
@@ -15,14 +18,15 @@ ghost use Rattle.op_trace.specs.World.{procedure};
 ghost use Rattle.op_store.specs.Snapshots.{rules_in};
 
 use crate::core_state::{Core, Ending, Mode, Seen, Step};
-use crate::frame::{Frame, FrameKind};
+use crate::held::Held;
 use crate::kind::is_truth;
 use crate::lists::Item;
 use crate::procedure::pi_of;
 use op_base::Memory;
 use op_bind::Ref;
+use op_frames::Choice;
 use op_store::Snapshot;
-use op_trace::Port;
+use op_trace::{Barrier, Port};
 
 impl Core {
     // One step, where it is there; else the run is spent.
@@ -72,52 +76,22 @@ impl Core {
         };
     }
 
-    // A choice above the others, made now.
-    pub(crate) fn push(
-        &mut self,
-        kind: FrameKind,
-        call: u64,
-        goal: Ref,
-        rest: u64,
-    ) -> Result<(), Memory>
-        requires good { IsGood self.old }
-        requires there { rest < length self.old.lists }
-        requires goal { IsGoal (length self.old.store.names) self.old.bindings.terms goal }
-        requires kind { IsKind (length self.old.store.names) kind }
-        ensures choices { OnOk result (choices_in self.new ≡ choice_by self.old.store (level_in self.old) kind call goal rest ∷ choices_in self.old) }
-        ensures good { OnOk result (IsGood self.new) }
-        ensures rest { self.new ≡ record self.old { frames = self.new.frames } }
+    // Back to the bindings, the lists and the boxes that were there when a choice was made.
+    pub(crate) fn restore(&mut self, choice: &Choice<Held>)
+        requires earlier { IsEarlier choice.now (level_in self.old) }
+        requires some { 0 < choice.now.kept.lists }
+        requires calls { choice.now.kept.calls < 2 ^ 63 }
+        ensures back { self.new ≡ record self.old {
+          bindings = undone self.old.bindings choice.now.mark;
+          lists = take choice.now.kept.lists self.old.lists;
+          frames = record self.old.frames { boxes = boxes_before (choice.now.kept.calls + 1) self.old.frames.boxes };
+        } }
+        ensures stays { (n : ℕ) → n < choice.now.kept.calls + 1
+            → open_from (boxes_before (choice.now.kept.calls + 1) self.old.frames.boxes) n ≡ open_from self.old.frames.boxes n }
     {
-        let mark = self.bindings.mark();
-        let lists = self.lists.len();
-        self.frames.push(Frame {
-            kind,
-            call,
-            goal,
-            rest,
-            mark,
-            lists,
-        })?;
-        Ok(())
-    }
-
-    // The last choice, which is dropped.
-    pub(crate) fn pop(&mut self) -> Option<Frame>
-        ensures frames { MatchOption result (reverse self.old.frames.items ≡ []) (λ f. reverse self.old.frames.items ≡ f ∷ reverse self.new.frames.items) }
-        ensures empty { IfNone result (reverse self.new.frames.items ≡ []) }
-        ensures rest { self.new ≡ record self.old { frames = self.new.frames } }
-    {
-        self.frames.pop()
-    }
-
-    // Back to the bindings and the lists that were there when a choice was made.
-    pub(crate) fn restore(&mut self, frame: &Frame)
-        requires earlier { IsEarlier frame.now (level_in self.old) }
-        requires some { 0 < frame.now.lists }
-        ensures { self.new ≡ record self.old { bindings = undone self.old.bindings frame.now.mark; lists = take frame.now.lists self.old.lists } }
-    {
-        self.bindings.undo_to(frame.mark);
-        self.lists.cut(frame.lists);
+        self.bindings.undo_to(choice.mark);
+        self.lists.cut(choice.kept.lists);
+        self.frames.drop_boxes(choice.kept.calls + 1);
     }
 
     // A list that begins with an item.
@@ -125,6 +99,7 @@ impl Core {
         requires good { IsGood self.old }
         requires item { IsItem (length self.old.store.names) self.old.bindings.terms item }
         requires there { rest < length self.old.lists }
+        requires entered { IsEntered self.old.frames.boxes self.old.calls self.old.lists item rest }
         ensures within { IfOk result (λ n. n < length self.new.lists) }
         ensures items { IfOk result (λ n. items_now self.new n ≡ item_term self.old.store (level_in self.old) item ∷ items_now self.old rest) }
         ensures choices { OnOk result (choices_in self.new ≡ choices_in self.old) }
@@ -162,7 +137,7 @@ impl Core {
         ensures keeps { Keeps self.old self.new }
     {
         self.show(Port::Exit, call, goal, rest);
-        self.push(FrameKind::Redo, call, goal, rest)?;
+        self.push_redo(call, goal, rest)?;
         self.mode = Mode::Forward { items: rest };
         Ok(Step::Event)
     }
@@ -193,13 +168,32 @@ impl Core {
         ensures advances { IfOk result (Advances self.old self.new (box_invoked self.old goal rest)) }
         ensures keeps { Keeps self.old self.new }
     {
-        self.calls += 1;
-        let call = self.calls;
+        let call = self.call_box(goal, rest)?;
         self.show(Port::Call, call, goal, rest);
-        self.push(FrameKind::Fail, call, goal, rest)?;
+        self.push_fail(call, goal, rest)?;
         self.push_clauses(call, goal, rest)?;
         self.mode = Mode::Backward;
         Ok(Step::Event)
+    }
+
+    // A box is called before a list, and gets the next number.
+    fn call_box(&mut self, goal: Ref, rest: u64) -> Result<u64, Memory>
+        requires good { IsGood self.old }
+        requires there { rest < length self.old.lists }
+        requires calls { self.old.calls < 2 ^ 63 }
+        ensures number { IfOk result (λ k. k ≡ self.old.calls + 1) }
+        ensures called { IfOk result (λ k. IsCalled self.new.frames.boxes self.new.calls self.new.lists k goal rest) }
+        ensures choices { self.new.frames.choices ≡ self.old.frames.choices }
+        ensures good { OnOk result (IsGood self.new) }
+        ensures calls { OnOk result (self.new.calls ≡ self.old.calls + 1) }
+        ensures rest { self.new ≡ record self.old { calls = self.new.calls; frames = self.new.frames } }
+    {
+        self.calls += 1;
+        let number = self.calls;
+        let parent = self.lists.parent(rest);
+        let mark = self.bindings.mark();
+        self.frames.push_box(number, parent, goal, mark)?;
+        Ok(number)
     }
 
     // The clauses of a goal's procedure at this moment, or None where there is no such procedure.
@@ -219,6 +213,7 @@ impl Core {
         requires good { IsGood self.old }
         requires there { rest < length self.old.lists }
         requires goal { IsGoal (length self.old.store.names) self.old.bindings.terms goal }
+        requires called { IsCalled self.old.frames.boxes self.old.calls self.old.lists call goal rest }
         ensures choices { OnOk result (choices_in self.new ≡ with_more (procedure (clauses self.old.store) (goal_now self.old goal)) call (goal_now self.old goal)
             (bindings_now self.old) (items_now self.old rest) (choices_in self.old)) }
         ensures good { OnOk result (IsGood self.new) }
@@ -230,37 +225,13 @@ impl Core {
         }
     }
 
-    // A choice of clauses from one on, where there are any.
-    pub(crate) fn push_more(
-        &mut self,
-        rules: &Snapshot,
-        next: u64,
-        call: u64,
-        goal: Ref,
-        rest: u64,
-    ) -> Result<(), Memory>
-        requires good { IsGood self.old }
-        requires there { rest < length self.old.lists }
-        requires goal { IsGoal (length self.old.store.names) self.old.bindings.terms goal }
-        requires known { AreKnown (length self.old.store.names) rules.now }
-        ensures choices { OnOk result (choices_in self.new ≡ with_more (clauses_from self.old.store rules.now next) call (goal_now self.old goal)
-            (bindings_now self.old) (items_now self.old rest) (choices_in self.old)) }
-        ensures good { OnOk result (IsGood self.new) }
-        ensures rest { self.new ≡ record self.old { frames = self.new.frames } }
-    {
-        if next < rules.len() {
-            let rules = rules.copy()?;
-            self.push(FrameKind::More { rules, next }, call, goal, rest)?;
-        }
-        Ok(())
-    }
-
     // A clause was matched: its body comes next, and then the exit of the box.
     pub(crate) fn enter(&mut self, body: Ref, call: u64, goal: Ref, rest: u64) -> Result<(), Memory>
         requires good { IsGood self.old }
         requires there { rest < length self.old.lists }
         requires goal { IsGoal (length self.old.store.names) self.old.bindings.terms goal }
         requires body { IsGoal (length self.old.store.names) self.old.bindings.terms body }
+        requires called { IsCalled self.old.frames.boxes self.old.calls self.old.lists call goal rest }
         ensures advances { OnOk result (Advances self.old self.new (body_entered self.old body call goal rest) step.Silent) }
         ensures keeps { Keeps self.old self.new }
     {
@@ -287,7 +258,7 @@ impl Core {
         self.add(
             Item::Goal {
                 goal: body,
-                barrier: call,
+                barrier: Barrier::Call(call),
             },
             rest,
         )

@@ -323,6 +323,73 @@ fn a_procedure_without_clauses(rt: HostRuntime) -> Result<(), Fail> {
     Ok(())
 }
 
+// The second clauses of p and q are not tried, and q is not redone.
+#[test]
+fn a_cut_removes_clauses_and_boxes(rt: HostRuntime) -> Result<(), Fail> {
+    let text = trace::<Brand>(
+        rt.alloc(),
+        Blank::new(1),
+        b"p :- q, !, r. p. q. q. r :- fail.",
+        b"p",
+        1000,
+        1,
+    )?;
+    let want =
+        "1 1 0 1 call|2 2 1 2 call|3 2 1 2 exit|4 3 1 2 call|5 3 1 2 fail|6 1 0 1 fail|failed 13";
+    assert_eq!(rt; text.as_str(), want);
+    Ok(())
+}
+
+// The cut stays inside the condition, whose success removes q.
+#[test]
+fn a_cut_in_a_condition_is_local(rt: HostRuntime) -> Result<(), Fail> {
+    let text = trace::<Brand>(
+        rt.alloc(),
+        Blank::new(1),
+        b"p :- ( q, ! -> r ; s ). p. q. r. s.",
+        b"p",
+        1000,
+        0,
+    )?;
+    let want =
+        "1 1 0 1 call|2 2 1 2 call|3 2 1 2 exit|4 3 1 2 call|5 3 1 2 exit|6 1 0 1 exit|solution|7 1 0 1 redo|8 3 1 2 redo|9 3 1 2 fail|10 1 0 1 exit|solution|11 1 0 1 redo|12 1 0 1 fail|failed 14";
+    assert_eq!(rt; text.as_str(), want);
+    Ok(())
+}
+
+// The else branch is tried for a step; where there is none, the condition fails for two.
+#[test]
+fn a_condition_without_solution(rt: HostRuntime) -> Result<(), Fail> {
+    let text = trace::<Brand>(
+        rt.alloc(),
+        Blank::new(1),
+        b"p :- ( q, !, fail -> r ; s ). p :- ( t -> r ). q. q. r. s. t :- fail.",
+        b"p",
+        1000,
+        2,
+    )?;
+    let want =
+        "1 1 0 1 call|2 2 1 2 call|3 2 1 2 exit|4 3 1 2 call|5 3 1 2 exit|6 1 0 1 exit|solution|7 1 0 1 redo|8 3 1 2 redo|9 3 1 2 fail|10 4 1 2 call|11 4 1 2 fail|12 1 0 1 fail|failed 24";
+    assert_eq!(rt; text.as_str(), want);
+    Ok(())
+}
+
+// The cut in a branch is one of the clause.
+#[test]
+fn a_cut_in_a_branch(rt: HostRuntime) -> Result<(), Fail> {
+    let text = trace::<Brand>(
+        rt.alloc(),
+        Blank::new(1),
+        b"p :- ( fail ; !, r ). p. r :- fail.",
+        b"p",
+        1000,
+        1,
+    )?;
+    let want = "1 1 0 1 call|2 2 1 2 call|3 2 1 2 fail|4 1 0 1 fail|failed 12";
+    assert_eq!(rt; text.as_str(), want);
+    Ok(())
+}
+
 #[test]
 fn a_loop_is_spent(rt: HostRuntime) -> Result<(), Fail> {
     let text = trace::<Brand>(rt.alloc(), Blank::new(1), b"p :- p.", b"p", 100, 1)?;
@@ -426,5 +493,67 @@ fn naive_reverse(rt: HostRuntime) -> Result<(), Fail> {
         30000000,
     )?;
     assert_eq!(rt; text.as_str(), "161202 stopped 23181006");
+    Ok(())
+}
+
+// How many choices a run has kept at its first solution.
+fn choices_kept<L: Ledger>(
+    alloc: Global,
+    blank: Blank,
+    program: &[u8],
+    goal: &[u8],
+) -> Result<usize, Fail>
+    requires name { blank.name ≡ L.name }
+    requires parts { blank.parts ≡ L.parts }
+    requires some { 0 < L.parts }
+{
+    let mut steps = Steps::<L>::new(blank);
+    let mut machine = begun(alloc, program, goal, 100000, 1)?;
+    for _ in 0..100000 {
+        match machine.next(&mut Nothing, &mut steps)? {
+            Turn::Event => {}
+            Turn::Solution => break,
+            Turn::Ended(_) => break,
+        }
+    }
+    Ok(machine.kept_choices())
+}
+
+// A loop that cuts keeps a choice for the end and one for the exit of each of its boxes, and one for the clause behind the last.
+#[test]
+fn a_loop_that_cuts(rt: HostRuntime) -> Result<(), Fail> {
+    let mut goal = String::new(rt.alloc());
+    goal.push_str("loop(")?;
+    goal.push_str(list(rt.alloc(), 50)?.as_str())?;
+    goal.push_str(")")?;
+    let kept = choices_kept::<Brand>(
+        rt.alloc(),
+        Blank::new(1),
+        b"loop(nil). loop(c(_,T)) :- q, !, loop(T). q. q.",
+        goal.as_bytes(),
+    )?;
+    assert_eq!(rt; kept, 103);
+    Ok(())
+}
+
+// So many clauses, of which each cuts and goes on with the next, and one for the end.
+fn countdown(alloc: Global, length: u64) -> Result<String, AllocError> {
+    let mut text = String::new(alloc);
+    for i in 0..length {
+        let next = length.saturating_sub(i.saturating_add(1));
+        let number = next.saturating_add(1);
+        write!(text, "p({number}) :- q, !, p({next}). ")?;
+    }
+    text.push_str("p(0). q. q.")?;
+    Ok(text)
+}
+
+// Of each of its boxes a countdown that cuts keeps a choice for the end and one for the exit: neither the clauses behind the one that
+// was tried, nor anything of the goal before the cut.
+#[test]
+fn a_countdown_that_cuts(rt: HostRuntime) -> Result<(), Fail> {
+    let program = countdown(rt.alloc(), 60)?;
+    let kept = choices_kept::<Brand>(rt.alloc(), Blank::new(1), program.as_bytes(), b"p(60)")?;
+    assert_eq!(rt; kept, 122);
     Ok(())
 }

@@ -4,11 +4,11 @@ use Rattle.std.specs.Prelude.{option_map}
 use Rattle.std.proofs.lemmas.List.{length-take}
 use Rattle.op_logic.specs.Term.{Term, var, int, node, Args, no_args, arg}
 use Rattle.op_logic.specs.Names.{HasNames, ArgsHaveNames}
-use Rattle.op_store.proofs.Meeting.{T}
+use Rattle.op_store.specs.Body.{Body}
 
-pub body-read : (o : Option T) (r : Option (List T)) → option_map (λ t. Some (t ∷ [])) o ≡ Some r → (t : T) × ((o ≡ Some t) × (r ≡ Some (t ∷ [])))
+pub body-read : (o : Option Body) (r : Option (List Body)) → option_map (λ b. Some (b ∷ [])) o ≡ Some r → (b : Body) × ((o ≡ Some b) × (r ≡ Some (b ∷ [])))
 body-read None r e = absurd cc
-body-read (Some t) r e = (t, (refl, cc))
+body-read (Some b) r e = (b, (refl, cc))
 
 mutual
   pub has-more : (m n : ℕ) (t : Term ℕ) → m ≤ n → HasNames m t → HasNames n t

@@ -9,7 +9,7 @@ use Rattle.op_logic.proofs.Naming.{name_at-below, name_at-past}
 use Rattle.op_trace.specs.World.{Text}
 use Rattle.op_store.specs.declared.body_part.Part.{Part}
 use Rattle.op_store.specs.declared.body_part.Part.TheVariants as parts
-use Rattle.op_store.specs.Body.{Conversion, one_step, connective, joined, of_part, compound, converted, conversions}
+use Rattle.op_store.specs.Body.{Body, goal, Division, one_step, connective, joined, of_part, compound, divided, divisions, term_of, converted}
 
 abbrev AreBytes : List ℕ → Type 0
 AreBytes [] = Unit {0}
@@ -70,10 +70,10 @@ mutual
   args-fit-within names n (arg t ts) h = (fits-within names n t h.0, args-fit-within names n ts h.1)
 
 -- the body, where there is one, fits
-abbrev BodyFits : ℕ → Conversion → Type 0
-BodyFits n c = IfSome c.body (λ b. Fits n b)
+abbrev BodyFits : ℕ → Division → Type 0
+BodyFits n d = IfSome d.tree (λ b. Fits n (term_of b))
 
-abbrev BodiesFit : ℕ → List Conversion → Type 0
+abbrev BodiesFit : ℕ → List Division → Type 0
 BodiesFit n [] = Unit {0}
 BodiesFit n (c ∷ cs) = BodyFits n c × BodiesFit n cs
 
@@ -83,36 +83,43 @@ call-fits = (omega arith, (omega arith, (omega arith, (omega arith, tt))))
 pub true-fits : (n : ℕ) → Fits n (node (codes "true") no_args)
 true-fits n = ((omega arith, (omega arith, (omega arith, (omega arith, tt)))), tt)
 
-joined-fits-on : (n : ℕ) (f : Text) (a b : Option (Term Text)) (i j : ℕ) → AreBytes f → IfSome a (λ t. Fits n t) → IfSome b (λ t. Fits n t)
-    → BodyFits n (joined f (record { body = a; steps = i }) (record { body = b; steps = j }))
+joined-fits-on : (n : ℕ) (f : Text) (a b : Option Body) (i j : ℕ) → AreBytes f → IfSome a (λ t. Fits n (term_of t)) → IfSome b (λ t. Fits n (term_of t))
+    → BodyFits n (joined f (record { tree = a; steps = i }) (record { tree = b; steps = j }))
 joined-fits-on n f None b i j h ha hb = tt
 joined-fits-on n f (Some t) None i j h ha hb = tt
 joined-fits-on n f (Some t) (Some u) i j h ha hb = (h, (ha, (hb, tt)))
 
-part-fits : (n : ℕ) (p : Part) (goal control : Conversion) → BodyFits n goal → BodyFits n control → BodyFits n (of_part p goal control)
-part-fits n parts.And goal control g c = c
-part-fits n parts.Or goal control g c = c
-part-fits n parts.Then goal control g c = c
-part-fits n parts.Variable goal control g c = c
-part-fits n parts.Goal goal control g c = g
-part-fits n parts.Number goal control g c = c
+part-fits : (n : ℕ) (p : Part) (whole control : Division) → BodyFits n whole → BodyFits n control → BodyFits n (of_part p whole control)
+part-fits n parts.And whole control w c = c
+part-fits n parts.Or whole control w c = c
+part-fits n parts.Then whole control w c = c
+part-fits n parts.Variable whole control w c = c
+part-fits n parts.Goal whole control w c = w
+part-fits n parts.Number whole control w c = c
 
-compound-fits : (n : ℕ) (f : Text) (ts : Args Text) (cs : List Conversion) → Fits n (node f ts) → BodiesFit n cs → BodyFits n (compound f ts cs)
+compound-fits : (n : ℕ) (f : Text) (ts : Args Text) (ds : List Division) → Fits n (node f ts) → BodiesFit n ds → BodyFits n (compound f ts ds)
 compound-fits n f ts [] h g = h
 compound-fits n f ts (a ∷ []) h g = h
 compound-fits n f ts (a ∷ b ∷ []) h g =
-    part-fits n (connective f) (one_step (Some (node f ts))) (joined f a b) h (joined-fits-on n f a.body b.body a.steps b.steps h.0 g.0 g.1.0)
-compound-fits n f ts (a ∷ b ∷ c ∷ cs) h g = h
+    part-fits n (connective f) (one_step (Some (goal (node f ts)))) (joined f a b) h (joined-fits-on n f a.tree b.tree a.steps b.steps h.0 g.0 g.1.0)
+compound-fits n f ts (a ∷ b ∷ c ∷ ds) h g = h
 
 mutual
-  pub converted-fits : (n : ℕ) (t : Term Text) → Fits n t → BodyFits n (converted t)
-  converted-fits n (var v) h = (call-fits, (h, tt))
-  converted-fits n (int i) h = tt
-  converted-fits n (node f ts) h = compound-fits n f ts (conversions ts) h (conversions-fit n ts h.1)
+  divided-fits : (n : ℕ) (t : Term Text) → Fits n t → BodyFits n (divided t)
+  divided-fits n (var v) h = (call-fits, (h, tt))
+  divided-fits n (int i) h = tt
+  divided-fits n (node f ts) h = compound-fits n f ts (divisions ts) h (divisions-fit n ts h.1)
 
-  conversions-fit : (n : ℕ) (ts : Args Text) → ArgsFit n ts → BodiesFit n (conversions ts)
-  conversions-fit n no_args h = tt
-  conversions-fit n (arg t ts) h = (converted-fits n t h.0, conversions-fit n ts h.1)
+  divisions-fit : (n : ℕ) (ts : Args Text) → ArgsFit n ts → BodiesFit n (divisions ts)
+  divisions-fit n no_args h = tt
+  divisions-fit n (arg t ts) h = (divided-fits n t h.0, divisions-fit n ts h.1)
+
+term-fits : (n : ℕ) (o : Option Body) → IfSome o (λ b. Fits n (term_of b)) → IfSome (option_map term_of o) (λ t. Fits n t)
+term-fits n None h = tt
+term-fits n (Some b) h = h
+
+pub converted-fits : (n : ℕ) (t : Term Text) → Fits n t → IfSome (converted t).body (λ b. Fits n b)
+converted-fits n t h = term-fits n (divided t).tree (divided-fits n t h)
 
 some-named : (names : List Text) (P : Term ℕ → Type 0) (Q : Term Text → Type 0) (o : Option (Term ℕ)) (r : Option (Term Text)) → ((t : Term ℕ) → Q (named names t) → P t) → option_map (named names) o ≡ r → IfSome r Q → IfSome o P
 some-named names P Q None r f e h = tt

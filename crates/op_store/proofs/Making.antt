@@ -1,5 +1,6 @@
 -- The term of a body is made from its nodes.
-use Rattle.std.proofs.Common.{◌≡◌, ℕ, zero, suc, ◌<◌, ◌≤◌, List, [], ◌∷◌, ◌++◌, length, get_or, take, reverse, All, Some, None, pos, sym, ◌∙◌, ap, subst, refl, arith, length-append}
+use Rattle.std.proofs.Common.{◌≡◌, ℕ, zero, suc, ◌<◌, ◌≤◌, List, [], ◌∷◌, ◌++◌, length, get_or, take, map, reverse, Option, All, Some, None, pos, sym, ◌∙◌, ap, subst, refl, arith, length-append}
+use Rattle.std.specs.Prelude.{option_map}
 use Rattle.std.proofs.lemmas.List.{reverse-append, length-reverse, length-map, reverse-reverse}
 use Rattle.std.proofs.lemmas.List.Elements.{All-push}
 use Rattle.op_logic.proofs.Tests.{by_order}
@@ -8,7 +9,7 @@ use Rattle.op_logic.specs.Names.{name_at, named}
 use Rattle.op_term.specs.Places.{term_at, args_at}
 use Rattle.op_term.specs.Cells.{AllBelow}
 use Rattle.std.proofs.Math.Seq.{get_or-append_seam}
-use Rattle.op_store.specs.Body.{pair}
+use Rattle.op_store.specs.Body.{Body, control, term_of}
 use Rattle.op_store.specs.Nodes.{leaves}
 use Rattle.op_store.specs.Walk.{needs, took, read}
 use Rattle.op_store.specs.Converted.{AreConnectives, texts_at, paired, called}
@@ -75,19 +76,31 @@ one-there names made stack t ts e = omega (arith, ap length e, length-map (rever
 texts-length : (names : List (List ℕ)) (made : List (Term ℕ)) (stack : List ℕ) → length (texts_at names made (reverse stack)) ≡ length stack
 texts-length names made stack = length-map (reverse stack) (λ r. named names (term_at made r)) ∙ length-reverse stack
 
+-- the terms of some bodies
+abbrev pub terms_of : List Body → List T
+terms_of bs = map term_of bs
+
+mapped : (o : Option (List Body)) (ts : List T) → option_map terms_of o ≡ Some ts → (bs : List Body) × ((o ≡ Some bs) × (terms_of bs ≡ ts))
+mapped None ts e = absurd cc
+mapped (Some bs) ts e = (bs, (refl, cc))
+
+-- there are as many bodies as numbers
+bodies-length : (names : List (List ℕ)) (made : List (Term ℕ)) (stack : List ℕ) (bs : List Body) → terms_of bs ≡ texts_at names made (reverse stack) → length bs ≡ length stack
+bodies-length names made stack bs e = sym (length-map bs term_of) ∙ (ap length e ∙ texts-length names made stack)
+
 module _ {P : Type 0} where
-  took-two : (text : P → T) (x : BodyNode P) (f : List ℕ) (ts : List T) → 2 ≤ length ts → ((t u : T) (s : List T) → took text x (t ∷ u ∷ s) ≡ Some (pair f t u ∷ s)) → took text x ts ≡ Some (paired f ts)
+  took-two : (text : P → T) (x : BodyNode P) (f : List ℕ) (bs : List Body) → 2 ≤ length bs → ((t u : Body) (s : List Body) → took text x (t ∷ u ∷ s) ≡ Some (control f t u ∷ s)) → option_map terms_of (took text x bs) ≡ Some (paired f (terms_of bs))
   took-two text x f [] h k = absurd (omega arith)
   took-two text x f (t ∷ []) h k = absurd (omega arith)
-  took-two text x f (t ∷ u ∷ s) h k = k t u s
+  took-two text x f (t ∷ u ∷ s) h k = ap (option_map terms_of) (k t u s)
 
-  pub took-pair : (text : P → T) (is x : BodyNode P) (f g : List ℕ) (names : List (List ℕ)) (old : List (Term ℕ)) (before : List ℕ) (us : List T) → is ≡ x → needs x ≡ 2 → needs is ≤ length before → g ≡ f
-      → ((t u : T) (s : List T) → took text x (t ∷ u ∷ s) ≡ Some (pair f t u ∷ s)) → us ≡ paired g (texts_at names old (reverse before)) → took text is (texts_at names old (reverse before)) ≡ Some us
-  took-pair text is x f g names old before us e two h n k m =
-      let ts : List T = texts_at names old (reverse before) in
+  pub took-pair : (text : P → T) (is x : BodyNode P) (f g : List ℕ) (names : List (List ℕ)) (old : List (Term ℕ)) (before : List ℕ) (bs : List Body) (us : List T) → is ≡ x → needs x ≡ 2 → needs is ≤ length before → g ≡ f
+      → ((t u : Body) (s : List Body) → took text x (t ∷ u ∷ s) ≡ Some (control f t u ∷ s)) → terms_of bs ≡ texts_at names old (reverse before) → us ≡ paired g (texts_at names old (reverse before)) → option_map terms_of (took text is bs) ≡ Some us
+  took-pair text is x f g names old before bs us e two h n k b m =
       let l : needs is ≡ needs x = ap (λ (y : BodyNode P). needs y) e in
-      ap (λ (y : BodyNode P). took text y ts) e
-      ∙ (took-two text x f ts (omega (arith, texts-length names old before)) k ∙ ap (λ (vs : List T). Some vs) (sym (m ∙ ap (λ (h : List ℕ). paired h ts) n)))
+      ap (λ (y : BodyNode P). option_map terms_of (took text y bs)) e
+      ∙ (took-two text x f bs (omega (arith, bodies-length names old before bs b)) k
+      ∙ ap (λ (vs : List T). Some vs) (sym (m ∙ (ap (λ (h : List ℕ). paired h (texts_at names old (reverse before))) n ∙ ap (λ (ts : List T). paired f ts) (sym b)))))
 
   all-back : (Q : P → Type 0) (xs ys : List P) → All Q (xs ++ ys) → All Q ys
   all-back Q [] ys h = h
@@ -111,57 +124,78 @@ module _ {P : Type 0} where
     abbrev text : List (List ℕ) → P → T
     text names p = named names (term p)
 
+    -- the terms that were made are those of some bodies
+    pub record AreMade (names : List (List ℕ)) (all rest : List (BodyNode P)) (made : List (Term ℕ)) (stack : List ℕ) : Type 0 where
+      pub bodies : List Body
+      pub terms : terms_of bodies ≡ texts_at names made (reverse stack)
+      pub same : read (text names) all (Some []) ≡ read (text names) rest (Some bodies)
+
     -- between two nodes: what is left to be read gives the same
     pub record IsMaking (all rest : List (BodyNode P)) (made : List (Term ℕ)) (stack : List ℕ) : Type 0 where
-      pub same : (names : List (List ℕ)) → AreConnectives names known → read (text names) all (Some []) ≡ read (text names) rest (Some (texts_at names made (reverse stack)))
+      pub made_are : (names : List (List ℕ)) → AreConnectives names known → AreMade names all rest made stack
       pub there : AllBelow (length made) (reverse stack)
 
     pub making-starts : (all : List (BodyNode P)) (made : List (Term ℕ)) → IsMaking all all made []
-    making-starts all made = record { same = λ names k. refl; there = tt }
+    making-starts all made = record { made_are = λ names k. record { bodies = []; terms = refl; same = refl }; there = tt }
 
-    pub making-needs : (names : List (List ℕ)) (t : T) (all rest : List (BodyNode P)) (x : BodyNode P) (made : List (Term ℕ)) (stack : List ℕ) → AreConnectives names known → read (text names) all (Some []) ≡ Some (t ∷ [])
+    pub making-needs : (names : List (List ℕ)) (b : Body) (all rest : List (BodyNode P)) (x : BodyNode P) (made : List (Term ℕ)) (stack : List ℕ) → AreConnectives names known → read (text names) all (Some []) ≡ Some (b ∷ [])
         → IsMaking all (rest ++ x ∷ []) made stack → needs x ≤ length stack
-    making-needs names t all rest x made stack k e m =
+    making-needs names b all rest x made stack k e m =
         by_order (length stack) (needs x)
         (λ h.
-        let ts : List T = texts_at names made (reverse stack) in
+        let w = m.made_are names k in
+        let n : length w.bodies ≡ length stack = bodies-length names made stack w.bodies w.terms in
         let none : read (text names) all (Some []) ≡ None =
-        m.same names k ∙ (read-push (text names) rest x (Some ts) ∙ (ap (read (text names) rest) (short (text names) x ts (omega (arith, texts-length names made stack))) ∙ none-read (text names) rest)) in
-        let bad : Some (t ∷ []) ≡ None = sym e ∙ none in
+        w.same ∙ (read-push (text names) rest x (Some w.bodies) ∙ (ap (read (text names) rest) (short (text names) x w.bodies (omega (arith, n, h))) ∙ none-read (text names) rest)) in
+        let bad : Some (b ∷ []) ≡ None = sym e ∙ none in
         absurd cc)
         (λ h. h)
 
-    pub making-goes : (all rest : List (BodyNode P)) (x : BodyNode P) (made more : List (Term ℕ)) (stack new : List ℕ) → ((names : List (List ℕ)) → AreConnectives names known → took (text names) x (texts_at names made (reverse stack)) ≡ Some (texts_at names more (reverse new)))
+    made-goes : (names : List (List ℕ)) (all rest : List (BodyNode P)) (x : BodyNode P) (made more : List (Term ℕ)) (stack new : List ℕ) (w : AreMade names all (rest ++ x ∷ []) made stack)
+        → option_map terms_of (took (text names) x w.bodies) ≡ Some (texts_at names more (reverse new)) → AreMade names all rest more new
+    made-goes names all rest x made more stack new w e =
+        let next = mapped (took (text names) x w.bodies) (texts_at names more (reverse new)) e in
+        record {
+          bodies = next.0;
+          terms = next.1.1;
+          same = w.same ∙ (read-push (text names) rest x (Some w.bodies) ∙ ap (read (text names) rest) next.1.0);
+        }
+
+    pub making-goes : (all rest : List (BodyNode P)) (x : BodyNode P) (made more : List (Term ℕ)) (stack new : List ℕ)
+        → ((names : List (List ℕ)) (bs : List Body) → AreConnectives names known → terms_of bs ≡ texts_at names made (reverse stack) → option_map terms_of (took (text names) x bs) ≡ Some (texts_at names more (reverse new)))
         → AllBelow (length more) (reverse new) → IsMaking all (rest ++ x ∷ []) made stack → IsMaking all rest more new
     making-goes all rest x made more stack new took_is there m = record {
-      same = λ names k. m.same names k ∙ (read-push (text names) rest x (Some (texts_at names made (reverse stack))) ∙ ap (read (text names) rest) (took_is names k));
+      made_are = λ names k. let w = m.made_are names k in made-goes names all rest x made more stack new w (took_is names w.bodies k w.terms);
       there = there;
     }
 
     single-reverse : (stack : List ℕ) (k : ℕ) → reverse stack ≡ k ∷ [] → stack ≡ k ∷ []
     single-reverse stack k e = sym (reverse-reverse stack) ∙ ap (λ (ks : List ℕ). reverse ks) e
 
-    one-text : (names : List (List ℕ)) (made : List (Term ℕ)) (ks : List ℕ) (t : T) → Some (texts_at names made ks) ≡ Some (t ∷ []) → (k : ℕ) × ((ks ≡ k ∷ []) × (named names (term_at made k) ≡ t))
+    one-text : (names : List (List ℕ)) (made : List (Term ℕ)) (ks : List ℕ) (t : T) → texts_at names made ks ≡ t ∷ [] → (k : ℕ) × ((ks ≡ k ∷ []) × (named names (term_at made k) ≡ t))
     one-text names made [] t e = absurd cc
     one-text names made (k ∷ []) t e = (k, (refl, cc))
     one-text names made (k ∷ j ∷ ks) t e = absurd cc
 
-    pub making-one : (names : List (List ℕ)) (t : T) (all : List (BodyNode P)) (made : List (Term ℕ)) (stack : List ℕ) → AreConnectives names known → read (text names) all (Some []) ≡ Some (t ∷ []) → IsMaking all [] made stack
-        → (k : ℕ) × ((stack ≡ k ∷ []) × (k < length made) × (named names (term_at made k) ≡ t))
-    making-one names t all made stack c e m =
-        let one = one-text names made (reverse stack) t (sym (m.same names c) ∙ e) in
+    pub making-one : (names : List (List ℕ)) (b : Body) (all : List (BodyNode P)) (made : List (Term ℕ)) (stack : List ℕ) → AreConnectives names known → read (text names) all (Some []) ≡ Some (b ∷ []) → IsMaking all [] made stack
+        → (k : ℕ) × ((stack ≡ k ∷ []) × (k < length made) × (named names (term_at made k) ≡ term_of b))
+    making-one names b all made stack c e m =
+        let w = m.made_are names c in
+        let is : Some w.bodies ≡ Some (b ∷ []) = sym w.same ∙ e in
+        let single : w.bodies ≡ b ∷ [] = cc in
+        let one = one-text names made (reverse stack) (term_of b) (sym w.terms ∙ ap terms_of single) in
         let below : AllBelow (length made) (one.0 ∷ []) = subst (λ (ks : List ℕ). AllBelow (length made) ks) one.1.0 m.there in
         (one.0, (single-reverse stack one.0 one.1.0, below.0, one.1.1))
 
-    pub root-is : (names : List (List ℕ)) (t : T) (all : List (BodyNode P)) (made : List (Term ℕ)) (stack : List ℕ) (root : ℕ) → root ≡ get_or stack 0 root → AreConnectives names known → read (text names) all (Some []) ≡ Some (t ∷ []) → IsMaking all [] made stack
-        → (root < length made) × (named names (term_at made root) ≡ t)
-    root-is names t all made stack root r c e m =
-        let one = making-one names t all made stack c e m in
+    pub root-is : (names : List (List ℕ)) (b : Body) (all : List (BodyNode P)) (made : List (Term ℕ)) (stack : List ℕ) (root : ℕ) → root ≡ get_or stack 0 root → AreConnectives names known → read (text names) all (Some []) ≡ Some (b ∷ []) → IsMaking all [] made stack
+        → (root < length made) × (named names (term_at made root) ≡ term_of b)
+    root-is names b all made stack root r c e m =
+        let one = making-one names b all made stack c e m in
         let same : root ≡ one.0 = r ∙ ap (λ (ks : List ℕ). get_or ks 0 root) one.1.0 in
         (subst (λ (k : ℕ). k < length made) (sym same) one.1.1, ap (λ (k : ℕ). named names (term_at made k)) same ∙ one.1.2)
 
-    pub stack-one : (names : List (List ℕ)) (t : T) (all : List (BodyNode P)) (made : List (Term ℕ)) (stack : List ℕ) → AreConnectives names known → read (text names) all (Some []) ≡ Some (t ∷ []) → IsMaking all [] made stack → length stack ≡ 1
-    stack-one names t all made stack c e m = ap length (making-one names t all made stack c e m).1.0
+    pub stack-one : (names : List (List ℕ)) (b : Body) (all : List (BodyNode P)) (made : List (Term ℕ)) (stack : List ℕ) → AreConnectives names known → read (text names) all (Some []) ≡ Some (b ∷ []) → IsMaking all [] made stack → length stack ≡ 1
+    stack-one names b all made stack c e m = ap length (making-one names b all made stack c e m).1.0
 
 pub none-left : {A : Type 0} (xs : List A) → length xs ≡ 0 → xs ≡ []
 none-left [] h = refl

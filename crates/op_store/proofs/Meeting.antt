@@ -6,7 +6,7 @@ use Rattle.std.proofs.lemmas.List.Elements.{All-append, All-push}
 use Rattle.std.proofs.lemmas.Slice.Eq.{bytes_eq-Decides}
 use Rattle.op_logic.specs.Term.{Term, var, int, node, Args, no_args, arg, args_of, nth_arg, arity, rename, rename_args}
 use Rattle.op_logic.specs.Names.{name_at, named, HasNames, ArgsHaveNames}
-use Rattle.op_store.specs.Body.{part_of_term, connective, Conversion, one_step, joined, of_part, converted, call_of, pair}
+use Rattle.op_store.specs.Body.{part_of_term, connective, Body, goal, call, control, Division, one_step, joined, of_part, divided}
 use Rattle.op_store.specs.Nodes.{leaves}
 use Rattle.op_store.specs.Walk.{Bodies, with_first, bodies_of, took, read, Left, left_of, step_before, refused}
 use Rattle.op_store.specs.declared.body_part.Part.{Part}
@@ -52,7 +52,7 @@ IsControl parts.Or = Unit {0}
 IsControl parts.Then = Unit {0}
 IsControl p = ⊥
 
-control-of_part : (p : Part) (c d : Conversion) → IsControl p → of_part p c d ≡ d
+control-of_part : (p : Part) (c d : Division) → IsControl p → of_part p c d ≡ d
 control-of_part parts.And c d h = refl
 control-of_part parts.Or c d h = refl
 control-of_part parts.Then c d h = refl
@@ -83,19 +83,19 @@ control-two (node f (arg a no_args)) p e h = absurd (not-goal (node f (arg a no_
 control-two (node f (arg a (arg b no_args))) p e h = refl
 control-two (node f (arg a (arg b (arg c ts)))) p e h = absurd (not-goal (node f (arg a (arg b (arg c ts)))) p e h refl)
 
--- and is converted by them
-pub control-converted : (t a b : T) (p : Part) → part_of_term t ≡ p → IsControl p → a ≡ nth_arg (args_of t) 0 → b ≡ nth_arg (args_of t) 1
-    → converted t ≡ joined (control_name p []) (converted a) (converted b)
-control-converted (var v) a b p e h ea eb = absurd (not-variable p h (sym e))
-control-converted (int i) a b p e h ea eb = absurd (not-number p h (sym e))
-control-converted (node f no_args) a b p e h ea eb = absurd (not-goal (node f no_args) p e h refl)
-control-converted (node f (arg x no_args)) a b p e h ea eb = absurd (not-goal (node f (arg x no_args)) p e h refl)
-control-converted (node f (arg x (arg y no_args))) a b p e h ea eb =
-    let g : Conversion = one_step (Some (node f (arg x (arg y no_args)))) in
-    let j : Conversion = joined f (converted x) (converted y) in
-    let one : converted (node f (arg x (arg y no_args))) ≡ j = ap (λ (q : Part). of_part q g j) e ∙ control-of_part p g j h in
+-- and is divided by them
+pub control-divided : (t a b : T) (p : Part) → part_of_term t ≡ p → IsControl p → a ≡ nth_arg (args_of t) 0 → b ≡ nth_arg (args_of t) 1
+    → divided t ≡ joined (control_name p []) (divided a) (divided b)
+control-divided (var v) a b p e h ea eb = absurd (not-variable p h (sym e))
+control-divided (int i) a b p e h ea eb = absurd (not-number p h (sym e))
+control-divided (node f no_args) a b p e h ea eb = absurd (not-goal (node f no_args) p e h refl)
+control-divided (node f (arg x no_args)) a b p e h ea eb = absurd (not-goal (node f (arg x no_args)) p e h refl)
+control-divided (node f (arg x (arg y no_args))) a b p e h ea eb =
+    let g : Division = one_step (Some (goal (node f (arg x (arg y no_args))))) in
+    let j : Division = joined f (divided x) (divided y) in
+    let one : divided (node f (arg x (arg y no_args))) ≡ j = ap (λ (q : Part). of_part q g j) e ∙ control-of_part p g j h in
     let n : f ≡ control_name p [] = connective-named f ∙ (ap (λ (q : Part). control_name q f) e ∙ same p f h) in
-    one ∙ (ap (λ (k : List ℕ). joined k (converted x) (converted y)) n ∙ (ap (λ (u : T). joined (control_name p []) (converted u) (converted y)) (sym ea) ∙ ap (λ (u : T). joined (control_name p []) (converted a) (converted u)) (sym eb)))
+    one ∙ (ap (λ (k : List ℕ). joined k (divided x) (divided y)) n ∙ (ap (λ (u : T). joined (control_name p []) (divided u) (divided y)) (sym ea) ∙ ap (λ (u : T). joined (control_name p []) (divided a) (divided u)) (sym eb)))
   where
     same : (p : Part) (f : List ℕ) → IsControl p → control_name p f ≡ control_name p []
     same parts.And f h = refl
@@ -104,40 +104,40 @@ control-converted (node f (arg x (arg y no_args))) a b p e h ea eb =
     same parts.Variable f h = absurd h
     same parts.Goal f h = absurd h
     same parts.Number f h = absurd h
-control-converted (node f (arg x (arg y (arg z ts)))) a b p e h ea eb = absurd (not-goal (node f (arg x (arg y (arg z ts)))) p e h refl)
+control-divided (node f (arg x (arg y (arg z ts)))) a b p e h ea eb = absurd (not-goal (node f (arg x (arg y (arg z ts)))) p e h refl)
 
--- other parts are converted by themselves
-pub goal-converted : (t : T) → part_of_term t ≡ parts.Goal → converted t ≡ one_step (Some t)
-goal-converted (var v) e = absurd cc
-goal-converted (int i) e = absurd cc
-goal-converted (node f no_args) e = refl
-goal-converted (node f (arg a no_args)) e = refl
-goal-converted (node f (arg a (arg b no_args))) e =
-    ap (λ (q : Part). of_part q (one_step (Some (node f (arg a (arg b no_args))))) (joined f (converted a) (converted b))) e
-goal-converted (node f (arg a (arg b (arg c ts)))) e = refl
+-- other parts are divided by themselves
+pub goal-divided : (t : T) → part_of_term t ≡ parts.Goal → divided t ≡ one_step (Some (goal t))
+goal-divided (var v) e = absurd cc
+goal-divided (int i) e = absurd cc
+goal-divided (node f no_args) e = refl
+goal-divided (node f (arg a no_args)) e = refl
+goal-divided (node f (arg a (arg b no_args))) e =
+    ap (λ (q : Part). of_part q (one_step (Some (goal (node f (arg a (arg b no_args)))))) (joined f (divided a) (divided b))) e
+goal-divided (node f (arg a (arg b (arg c ts)))) e = refl
 
-pub variable-converted : (t : T) → part_of_term t ≡ parts.Variable → converted t ≡ one_step (Some (call_of t))
-variable-converted (var v) e = refl
-variable-converted (int i) e = absurd cc
-variable-converted (node f no_args) e = absurd cc
-variable-converted (node f (arg a no_args)) e = absurd cc
-variable-converted (node f (arg a (arg b no_args))) e = absurd ((connective-none f).0 e)
-variable-converted (node f (arg a (arg b (arg c ts)))) e = absurd cc
+pub variable-divided : (t : T) → part_of_term t ≡ parts.Variable → divided t ≡ one_step (Some (call t))
+variable-divided (var v) e = refl
+variable-divided (int i) e = absurd cc
+variable-divided (node f no_args) e = absurd cc
+variable-divided (node f (arg a no_args)) e = absurd cc
+variable-divided (node f (arg a (arg b no_args))) e = absurd ((connective-none f).0 e)
+variable-divided (node f (arg a (arg b (arg c ts)))) e = absurd cc
 
-pub number-converted : (t : T) → part_of_term t ≡ parts.Number → converted t ≡ one_step None
-number-converted (var v) e = absurd cc
-number-converted (int i) e = refl
-number-converted (node f no_args) e = absurd cc
-number-converted (node f (arg a no_args)) e = absurd cc
-number-converted (node f (arg a (arg b no_args))) e = absurd ((connective-none f).1 e)
-number-converted (node f (arg a (arg b (arg c ts)))) e = absurd cc
+pub number-divided : (t : T) → part_of_term t ≡ parts.Number → divided t ≡ one_step None
+number-divided (var v) e = absurd cc
+number-divided (int i) e = refl
+number-divided (node f no_args) e = absurd cc
+number-divided (node f (arg a no_args)) e = absurd cc
+number-divided (node f (arg a (arg b no_args))) e = absurd ((connective-none f).1 e)
+number-divided (node f (arg a (arg b (arg c ts)))) e = absurd cc
 
 -- each conversion costs something
-joined-some : (f : List ℕ) (o : Option T) (m : ℕ) (b : Conversion) → 0 < (joined f (record { body = o; steps = m }) b).steps
+joined-some : (f : List ℕ) (o : Option Body) (m : ℕ) (b : Division) → 0 < (joined f (record { tree = o; steps = m }) b).steps
 joined-some f None m b = omega arith
 joined-some f (Some t) m b = omega arith
 
-of_part-some : (p : Part) (c d : Conversion) → 0 < c.steps → 0 < d.steps → 0 < (of_part p c d).steps
+of_part-some : (p : Part) (c d : Division) → 0 < c.steps → 0 < d.steps → 0 < (of_part p c d).steps
 of_part-some parts.And c d h k = k
 of_part-some parts.Or c d h k = k
 of_part-some parts.Then c d h k = k
@@ -145,107 +145,107 @@ of_part-some parts.Variable c d h k = k
 of_part-some parts.Goal c d h k = h
 of_part-some parts.Number c d h k = k
 
-pub converted-some : (t : T) → 0 < (converted t).steps
-converted-some (var v) = omega arith
-converted-some (int i) = omega arith
-converted-some (node f no_args) = omega arith
-converted-some (node f (arg a no_args)) = omega arith
-converted-some (node f (arg a (arg b no_args))) =
-    of_part-some (connective f) (one_step (Some (node f (arg a (arg b no_args))))) (joined f (converted a) (converted b)) (omega arith) (joined-some f (converted a).body (converted a).steps (converted b))
-converted-some (node f (arg a (arg b (arg c ts)))) = omega arith
+pub divided-some : (t : T) → 0 < (divided t).steps
+divided-some (var v) = omega arith
+divided-some (int i) = omega arith
+divided-some (node f no_args) = omega arith
+divided-some (node f (arg a no_args)) = omega arith
+divided-some (node f (arg a (arg b no_args))) =
+    of_part-some (connective f) (one_step (Some (goal (node f (arg a (arg b no_args)))))) (joined f (divided a) (divided b)) (omega arith) (joined-some f (divided a).tree (divided a).steps (divided b))
+divided-some (node f (arg a (arg b (arg c ts)))) = omega arith
 
-left-same : (b c : Option (Option (List T))) (m n : ℕ) → b ≡ c → m ≡ n → (let x : Left = record { bodies = b; steps = m } in x) ≡ record { bodies = c; steps = n }
-left-same b c m n e f = ap (λ (q : Option (Option (List T))). let x : Left = record { bodies = q; steps = m } in x) e ∙ ap (λ (q : ℕ). let x : Left = record { bodies = c; steps = q } in x) f
+left-same : (b c : Option (Option (List Body))) (m n : ℕ) → b ≡ c → m ≡ n → (let x : Left = record { bodies = b; steps = m } in x) ≡ record { bodies = c; steps = n }
+left-same b c m n e f = ap (λ (q : Option (Option (List Body))). let x : Left = record { bodies = q; steps = m } in x) e ∙ ap (λ (q : ℕ). let x : Left = record { bodies = c; steps = q } in x) f
 
 module _ {P : Type 0} (text : P → T) where
-  pub read-push : (xs : List (BodyNode P)) (x : BodyNode P) (o : Option (List T)) → read text (xs ++ x ∷ []) o ≡ read text xs (option_and_then (took text x) o)
+  pub read-push : (xs : List (BodyNode P)) (x : BodyNode P) (o : Option (List Body)) → read text (xs ++ x ∷ []) o ≡ read text xs (option_and_then (took text x) o)
   read-push [] x o = refl
   read-push (y ∷ ys) x o = ap (option_and_then (took text y)) (read-push ys x o)
 
-  abbrev finished : List (BodyNode P) → Option (List T) → Option (Option (List T))
+  abbrev finished : List (BodyNode P) → Option (List Body) → Option (Option (List Body))
   finished met o = option_map (λ s. read text met (Some s)) o
 
   left-next : (met : List (BodyNode P)) (todo : List P) (next : P) → left_of text met (todo ++ next ∷ [])
-      ≡ record { bodies = finished met (with_first (converted (text next)) (bodies_of (map text (reverse todo)))).bodies; steps = (with_first (converted (text next)) (bodies_of (map text (reverse todo)))).steps }
+      ≡ record { bodies = finished met (with_first (divided (text next)) (bodies_of (map text (reverse todo)))).bodies; steps = (with_first (divided (text next)) (bodies_of (map text (reverse todo)))).steps }
   left-next met todo next =
       ap (λ (ps : List P). let b = bodies_of (map text ps) in let x : Left = record { bodies = finished met b.bodies; steps = b.steps } in x) (reverse-append todo (next ∷ []))
 
-  leaf-bodies : (met : List (BodyNode P)) (x : BodyNode P) (v : T) (o : Option (List T)) → ((s : List T) → took text x s ≡ Some (v ∷ s))
+  leaf-bodies : (met : List (BodyNode P)) (x : BodyNode P) (v : Body) (o : Option (List Body)) → ((s : List Body) → took text x s ≡ Some (v ∷ s))
       → finished met (option_map (λ ts. v ∷ ts) o) ≡ finished (met ++ x ∷ []) o
   leaf-bodies met x v None h = refl
   leaf-bodies met x v (Some ts) h = ap Some (ap (read text met) (sym (h ts)) ∙ sym (read-push met x (Some ts)))
 
   -- a part that is a goal or a variable
-  pub left-leaf : (met new : List (BodyNode P)) (todo : List P) (next : P) (x : BodyNode P) (v : T) → converted (text next) ≡ one_step (Some v)
-      → ((s : List T) → took text x s ≡ Some (v ∷ s)) → new ≡ met ++ x ∷ [] → left_of text met (todo ++ next ∷ []) ≡ step_before (left_of text new todo)
+  pub left-leaf : (met new : List (BodyNode P)) (todo : List P) (next : P) (x : BodyNode P) (v : Body) → divided (text next) ≡ one_step (Some v)
+      → ((s : List Body) → took text x s ≡ Some (v ∷ s)) → new ≡ met ++ x ∷ [] → left_of text met (todo ++ next ∷ []) ≡ step_before (left_of text new todo)
   left-leaf met new todo next x v e h n =
       let r : Bodies = bodies_of (map text (reverse todo)) in
       left-next met todo next
-      ∙ (ap (λ (c : Conversion). let b = with_first c r in let y : Left = record { bodies = finished met b.bodies; steps = b.steps } in y) e
+      ∙ (ap (λ (c : Division). let b = with_first c r in let y : Left = record { bodies = finished met b.bodies; steps = b.steps } in y) e
       ∙ (left-same (finished met (option_map (λ ts. v ∷ ts) r.bodies)) (finished (met ++ x ∷ []) r.bodies) (1 + r.steps) (suc r.steps) (leaf-bodies met x v r.bodies h) (omega arith)
       ∙ ap (λ (ns : List (BodyNode P)). step_before (left_of text ns todo)) (sym n)))
 
-  pub left-refused : (met : List (BodyNode P)) (todo : List P) (next : P) → converted (text next) ≡ one_step None → left_of text met (todo ++ next ∷ []) ≡ refused
+  pub left-refused : (met : List (BodyNode P)) (todo : List P) (next : P) → divided (text next) ≡ one_step None → left_of text met (todo ++ next ∷ []) ≡ refused
   left-refused met todo next e =
       let r : Bodies = bodies_of (map text (reverse todo)) in
-      left-next met todo next ∙ ap (λ (c : Conversion). let b = with_first c r in let y : Left = record { bodies = finished met b.bodies; steps = b.steps } in y) e
+      left-next met todo next ∙ ap (λ (c : Division). let b = with_first c r in let y : Left = record { bodies = finished met b.bodies; steps = b.steps } in y) e
 
-  pair-bodies : (f : List ℕ) (oa ob : Option T) (m n : ℕ) (r : Bodies) (o : Option (List T)) (met : List (BodyNode P)) (x : BodyNode P) → o ≡ r.bodies → ((t u : T) (s : List T) → took text x (t ∷ u ∷ s) ≡ Some (pair f t u ∷ s))
-      → finished met (with_first (joined f (record { body = oa; steps = m }) (record { body = ob; steps = n })) (record { bodies = o; steps = r.steps })).bodies
-      ≡ finished (met ++ x ∷ []) (with_first (record { body = oa; steps = m }) (with_first (record { body = ob; steps = n }) (record { bodies = o; steps = r.steps }))).bodies
+  pair-bodies : (f : List ℕ) (oa ob : Option Body) (m n : ℕ) (r : Bodies) (o : Option (List Body)) (met : List (BodyNode P)) (x : BodyNode P) → o ≡ r.bodies → ((t u : Body) (s : List Body) → took text x (t ∷ u ∷ s) ≡ Some (control f t u ∷ s))
+      → finished met (with_first (joined f (record { tree = oa; steps = m }) (record { tree = ob; steps = n })) (record { bodies = o; steps = r.steps })).bodies
+      ≡ finished (met ++ x ∷ []) (with_first (record { tree = oa; steps = m }) (with_first (record { tree = ob; steps = n }) (record { bodies = o; steps = r.steps }))).bodies
   pair-bodies f None ob m n r o met x e h = refl
   pair-bodies f (Some t) None m n r o met x e h = refl
   pair-bodies f (Some t) (Some u) m n r None met x e h = refl
   pair-bodies f (Some t) (Some u) m n r (Some ts) met x e h = ap Some (ap (read text met) (sym (h t u ts)) ∙ sym (read-push met x (Some (t ∷ u ∷ ts))))
 
-  pair-steps : (f : List ℕ) (oa ob : Option T) (m n : ℕ) (r : Bodies)
-      → (with_first (joined f (record { body = oa; steps = m }) (record { body = ob; steps = n })) r).steps ≡ suc (with_first (record { body = oa; steps = m }) (with_first (record { body = ob; steps = n }) r)).steps
+  pair-steps : (f : List ℕ) (oa ob : Option Body) (m n : ℕ) (r : Bodies)
+      → (with_first (joined f (record { tree = oa; steps = m }) (record { tree = ob; steps = n })) r).steps ≡ suc (with_first (record { tree = oa; steps = m }) (with_first (record { tree = ob; steps = n }) r)).steps
   pair-steps f None ob m n r = refl
   pair-steps f (Some t) None m n r = refl
   pair-steps f (Some t) (Some u) m n r = omega arith
 
   left-parts : (met : List (BodyNode P)) (todo : List P) (a b : P) → left_of text met (todo ++ b ∷ a ∷ [])
-      ≡ record { bodies = finished met (with_first (converted (text a)) (with_first (converted (text b)) (bodies_of (map text (reverse todo))))).bodies; steps = (with_first (converted (text a)) (with_first (converted (text b)) (bodies_of (map text (reverse todo))))).steps }
+      ≡ record { bodies = finished met (with_first (divided (text a)) (with_first (divided (text b)) (bodies_of (map text (reverse todo))))).bodies; steps = (with_first (divided (text a)) (with_first (divided (text b)) (bodies_of (map text (reverse todo))))).steps }
   left-parts met todo a b =
       ap (λ (ps : List P). let b = bodies_of (map text ps) in let x : Left = record { bodies = finished met b.bodies; steps = b.steps } in x) (reverse-append todo (b ∷ a ∷ []))
 
   -- a control construct
-  pub left-pair : (met new : List (BodyNode P)) (todo more : List P) (next a b : P) (x : BodyNode P) (f : List ℕ) → converted (text next) ≡ joined f (converted (text a)) (converted (text b))
-      → ((t u : T) (s : List T) → took text x (t ∷ u ∷ s) ≡ Some (pair f t u ∷ s)) → new ≡ met ++ x ∷ [] → more ≡ todo ++ b ∷ a ∷ []
+  pub left-pair : (met new : List (BodyNode P)) (todo more : List P) (next a b : P) (x : BodyNode P) (f : List ℕ) → divided (text next) ≡ joined f (divided (text a)) (divided (text b))
+      → ((t u : Body) (s : List Body) → took text x (t ∷ u ∷ s) ≡ Some (control f t u ∷ s)) → new ≡ met ++ x ∷ [] → more ≡ todo ++ b ∷ a ∷ []
       → left_of text met (todo ++ next ∷ []) ≡ step_before (left_of text new more)
   left-pair met new todo more next a b x f e h n k =
       let r : Bodies = bodies_of (map text (reverse todo)) in
-      let ca : Conversion = converted (text a) in
-      let cb : Conversion = converted (text b) in
+      let ca : Division = divided (text a) in
+      let cb : Division = divided (text b) in
       left-next met todo next
-      ∙ (ap (λ (c : Conversion). let b = with_first c r in let y : Left = record { bodies = finished met b.bodies; steps = b.steps } in y) e
+      ∙ (ap (λ (c : Division). let b = with_first c r in let y : Left = record { bodies = finished met b.bodies; steps = b.steps } in y) e
       ∙ (left-same (finished met (with_first (joined f ca cb) r).bodies) (finished (met ++ x ∷ []) (with_first ca (with_first cb r)).bodies) (with_first (joined f ca cb) r).steps (suc (with_first ca (with_first cb r)).steps)
-      (pair-bodies f ca.body cb.body ca.steps cb.steps r r.bodies met x refl h) (pair-steps f ca.body cb.body ca.steps cb.steps r)
+      (pair-bodies f ca.tree cb.tree ca.steps cb.steps r r.bodies met x refl h) (pair-steps f ca.tree cb.tree ca.steps cb.steps r)
       ∙ (sym (ap step_before (left-parts (met ++ x ∷ []) todo a b))
       ∙ (ap (λ (ns : List (BodyNode P)). step_before (left_of text ns (todo ++ b ∷ a ∷ []))) (sym n) ∙ ap (λ (ps : List P). step_before (left_of text new ps)) (sym k)))))
 
-  first-some : (o : Option T) (m : ℕ) (r : Bodies) → 0 < m → 0 < (with_first (record { body = o; steps = m }) r).steps
+  first-some : (o : Option Body) (m : ℕ) (r : Bodies) → 0 < m → 0 < (with_first (record { tree = o; steps = m }) r).steps
   first-some None m r h = h
   first-some (Some t) m r h = omega arith
 
   pub left-some : (met : List (BodyNode P)) (todo : List P) (next : P) → 0 < (left_of text met (todo ++ next ∷ [])).steps
   left-some met todo next =
       subst (λ (l : Left). 0 < l.steps) (sym (left-next met todo next))
-      (first-some (converted (text next)).body (converted (text next)).steps (bodies_of (map text (reverse todo))) (converted-some (text next)))
+      (first-some (divided (text next)).tree (divided (text next)).steps (bodies_of (map text (reverse todo))) (divided-some (text next)))
 
   -- the walk begins with the whole
-  start-bodies : (o : Option T) (m : ℕ) → finished [] (with_first (record { body = o; steps = m }) (record { bodies = Some []; steps = 0 })).bodies ≡ option_map (λ t. Some (t ∷ [])) o
+  start-bodies : (o : Option Body) (m : ℕ) → finished [] (with_first (record { tree = o; steps = m }) (record { bodies = Some []; steps = 0 })).bodies ≡ option_map (λ t. Some (t ∷ [])) o
   start-bodies None m = refl
   start-bodies (Some t) m = refl
 
-  start-steps : (o : Option T) (m : ℕ) → (with_first (record { body = o; steps = m }) (record { bodies = Some []; steps = 0 })).steps ≡ m
+  start-steps : (o : Option Body) (m : ℕ) → (with_first (record { tree = o; steps = m }) (record { bodies = Some []; steps = 0 })).steps ≡ m
   start-steps None m = refl
   start-steps (Some t) m = omega arith
 
-  pub left-start : (at : P) → left_of text [] (at ∷ []) ≡ record { bodies = option_map (λ t. Some (t ∷ [])) (converted (text at)).body; steps = (converted (text at)).steps }
+  pub left-start : (at : P) → left_of text [] (at ∷ []) ≡ record { bodies = option_map (λ t. Some (t ∷ [])) (divided (text at)).tree; steps = (divided (text at)).steps }
   left-start at =
-      let c : Conversion = converted (text at) in
-      left-same (finished [] (with_first c (bodies_of [])).bodies) (option_map (λ t. Some (t ∷ [])) c.body) (with_first c (bodies_of [])).steps c.steps (start-bodies c.body c.steps) (start-steps c.body c.steps)
+      let c : Division = divided (text at) in
+      left-same (finished [] (with_first c (bodies_of [])).bodies) (option_map (λ t. Some (t ∷ [])) c.tree) (with_first c (bodies_of [])).steps c.steps (start-bodies c.tree c.steps) (start-steps c.tree c.steps)
 
 -- the places of the goals
 pub leaves-append : {P : Type 0} (xs ys : List (BodyNode P)) → leaves (xs ++ ys) ≡ leaves xs ++ leaves ys

@@ -4,14 +4,14 @@ use Rattle.std.specs.Prelude.{option_map}
 use Rattle.std.proofs.lemmas.List.Elements.{All-push}
 use Rattle.op_logic.specs.Term.{Term, args_of, nth_arg, arity}
 use Rattle.op_logic.specs.Names.{named, HasNames}
-use Rattle.op_store.specs.Body.{part_of_term, converted, call_of, pair}
+use Rattle.op_store.specs.Body.{part_of_term, Body, goal, call, control, divided}
 use Rattle.op_store.specs.Nodes.{leaves}
 use Rattle.op_store.specs.Walk.{took, read, Left, left_of, step_before, refused}
 use Rattle.op_store.specs.declared.body_part.Part.{Part}
 use Rattle.op_store.specs.declared.body_part.Part.TheVariants as parts
 use Rattle.op_store.specs.declared.body_node.BodyNode.{BodyNode}
 use Rattle.op_store.specs.declared.body_node.BodyNode.TheVariants as nodes
-use Rattle.op_store.proofs.Meeting.{T, control_name, IsControl, control-two, control-converted, goal-converted, variable-converted, number-converted, left-leaf, left-refused, left-pair, left-some, left-start, leaves-goal, leaves-other, all-two, part-named, part-has, arity-named}
+use Rattle.op_store.proofs.Meeting.{T, control_name, IsControl, control-two, control-divided, goal-divided, variable-divided, number-divided, left-leaf, left-refused, left-pair, left-some, left-start, leaves-goal, leaves-other, all-two, part-named, part-has, arity-named}
 
 module _ {P : Type 0} (names : List (List ℕ)) (term : P → Term ℕ) (IsPlace : P → Type 0) where
   abbrev pub text : P → T
@@ -31,7 +31,7 @@ module _ {P : Type 0} (names : List (List ℕ)) (term : P → Term ℕ) (IsPlace
       (a : P) × ((b : P) × ((more ≡ todo ++ b ∷ a ∷ []) × IsPlace a × IsPlace b × (term a ≡ nth_arg (args_of (term next)) 0) × (term b ≡ nth_arg (args_of (term next)) 1)))
 
   pub pair-goes : (met new : List (BodyNode P)) (todo more : List P) (next : P) (x : BodyNode P) (p : Part) → p ≡ part_of_term (text next) → IsControl p
-      → ((t u : T) (s : List T) → took text x (t ∷ u ∷ s) ≡ Some (pair (control_name p []) t u ∷ s)) → leaves (x ∷ []) ≡ [] → HasNames (length names) (term next)
+      → ((t u : Body) (s : List Body) → took text x (t ∷ u ∷ s) ≡ Some (control (control_name p []) t u ∷ s)) → leaves (x ∷ []) ≡ [] → HasNames (length names) (term next)
       → new ≡ met ++ x ∷ [] → Parts todo more next → All IsGood todo → All IsGood (leaves met) → Goes met new todo more next
   pair-goes met new todo more next x p e h k l has n made ht hm =
       let a : P = made.0 in
@@ -40,7 +40,7 @@ module _ {P : Type 0} (names : List (List ℕ)) (term : P → Term ℕ) (IsPlace
       let ca = part-named names (term next) (term a) 0 m.3 in
       let cb = part-named names (term next) (term b) 1 m.4 in
       record {
-        left = left-pair text met new todo more next a b x (control_name p []) (control-converted (text next) (text a) (text b) p (sym e) h ca cb) k n m.0;
+        left = left-pair text met new todo more next a b x (control_name p []) (control-divided (text next) (text a) (text b) p (sym e) h ca cb) k n m.0;
         todo_good = all-two IsGood todo more a b m.0 ht (m.1, part-has (length names) (term next) (term a) 0 m.3 has) (m.2, part-has (length names) (term next) (term b) 1 m.4 has);
         met_good = leaves-other IsGood met new x n l hm;
       }
@@ -52,7 +52,7 @@ module _ {P : Type 0} (names : List (List ℕ)) (term : P → Term ℕ) (IsPlace
       → new ≡ met ++ nodes.Goal next ∷ [] → All IsGood todo → All IsGood (leaves met) → Goes met new todo todo next
   goal-goes met new todo next e has place n ht hm =
       record {
-        left = left-leaf text met new todo next (nodes.Goal next) (text next) (goal-converted (text next) (sym e)) (λ s. refl) n;
+        left = left-leaf text met new todo next (nodes.Goal next) (goal (text next)) (goal-divided (text next) (sym e)) (λ s. refl) n;
         todo_good = ht;
         met_good = leaves-goal IsGood met new (nodes.Goal next) next n refl hm (place, has);
       }
@@ -61,13 +61,13 @@ module _ {P : Type 0} (names : List (List ℕ)) (term : P → Term ℕ) (IsPlace
       → new ≡ met ++ nodes.CallOf next ∷ [] → All IsGood todo → All IsGood (leaves met) → Goes met new todo todo next
   variable-goes met new todo next e has place n ht hm =
       record {
-        left = left-leaf text met new todo next (nodes.CallOf next) (call_of (text next)) (variable-converted (text next) (sym e)) (λ s. refl) n;
+        left = left-leaf text met new todo next (nodes.CallOf next) (call (text next)) (variable-divided (text next) (sym e)) (λ s. refl) n;
         todo_good = ht;
         met_good = leaves-goal IsGood met new (nodes.CallOf next) next n refl hm (place, has);
       }
 
   pub number-refused : (met : List (BodyNode P)) (todo : List P) (next : P) → parts.Number ≡ part_of_term (text next) → left_of text met (todo ++ next ∷ []) ≡ refused
-  number-refused met todo next e = left-refused text met todo next (number-converted (text next) (sym e))
+  number-refused met todo next e = left-refused text met todo next (number-divided (text next) (sym e))
 
   last-of : (todo : List P) (next : P) → All IsGood (todo ++ next ∷ []) → IsGood next
   last-of [] next h = h 0 next (omega arith)
@@ -75,8 +75,8 @@ module _ {P : Type 0} (names : List (List ℕ)) (term : P → Term ℕ) (IsPlace
 
   -- between two parts: the whole is what is left, with the steps that were made
   pub record IsWalk (at : P) (start now : ℕ) (met : List (BodyNode P)) (todo : List P) : Type 0 where
-    pub bodies : (left_of text met todo).bodies ≡ option_map (λ t. Some (t ∷ [])) (converted (text at)).body
-    pub steps : start + (left_of text met todo).steps ≡ now + (converted (text at)).steps
+    pub bodies : (left_of text met todo).bodies ≡ option_map (λ t. Some (t ∷ [])) (divided (text at)).tree
+    pub steps : start + (left_of text met todo).steps ≡ now + (divided (text at)).steps
     pub falls : now ≤ start
     pub todo_good : All IsGood todo
     pub met_good : All IsGood (leaves met)
@@ -105,19 +105,19 @@ module _ {P : Type 0} (names : List (List ℕ)) (term : P → Term ℕ) (IsPlace
   pub walk-next : (at : P) (start now : ℕ) (met : List (BodyNode P)) (todo : List P) (next : P) → IsWalk at start now met (todo ++ next ∷ []) → IsGood next
   walk-next at start now met todo next w = last-of todo next w.todo_good
 
-  pub walk-spent : (at : P) (start now : ℕ) (met : List (BodyNode P)) (todo : List P) (next : P) → now < 1 → IsWalk at start now met (todo ++ next ∷ []) → start < (converted (text at)).steps
+  pub walk-spent : (at : P) (start now : ℕ) (met : List (BodyNode P)) (todo : List P) (next : P) → now < 1 → IsWalk at start now met (todo ++ next ∷ []) → start < (divided (text at)).steps
   walk-spent at start now met todo next h w = omega (arith, w.steps, left-some text met todo next)
 
-  no-body : (o : Option T) → option_map (λ t. Some (t ∷ [])) o ≡ None → o ≡ None
+  no-body : (o : Option Body) → option_map (λ t. Some (t ∷ [])) o ≡ None → o ≡ None
   no-body None e = refl
   no-body (Some t) e = absurd cc
 
   pub walk-refused : (at : P) (start now spent : ℕ) (met : List (BodyNode P)) (todo : List P) (next : P) → now ≡ spent + 1 → left_of text met (todo ++ next ∷ []) ≡ refused
-      → IsWalk at start now met (todo ++ next ∷ []) → ((converted (text at)).body ≡ None) × (start ≡ spent + (converted (text at)).steps)
+      → IsWalk at start now met (todo ++ next ∷ []) → ((divided (text at)).tree ≡ None) × (start ≡ spent + (divided (text at)).steps)
   walk-refused at start now spent met todo next e r w =
       let k : (left_of text met (todo ++ next ∷ [])).steps ≡ 1 = ap (λ (l : Left). l.steps) r in
-      (no-body (converted (text at)).body (sym w.bodies ∙ ap (λ (l : Left). l.bodies) r), omega (arith, k, w.steps))
+      (no-body (divided (text at)).tree (sym w.bodies ∙ ap (λ (l : Left). l.bodies) r), omega (arith, k, w.steps))
 
   pub walk-ends : (at : P) (start now : ℕ) (met : List (BodyNode P)) → IsWalk at start now met []
-      → (option_map (λ t. Some (t ∷ [])) (converted (text at)).body ≡ Some (read text met (Some []))) × (start ≡ now + (converted (text at)).steps)
+      → (option_map (λ t. Some (t ∷ [])) (divided (text at)).tree ≡ Some (read text met (Some []))) × (start ≡ now + (divided (text at)).steps)
   walk-ends at start now met w = (sym w.bodies, omega (arith, w.steps))

@@ -21,42 +21,62 @@ part_of_term (int i) = Number
 part_of_term (node f (arg t (arg u no_args))) = connective f
 part_of_term (node f ts) = Goal
 
--- a converted term, or None where it was refused; and the steps
-pub record Conversion : Type 0 where
-  pub body : Option (Term (List ℕ))
+-- a body: a goal, a call of a variable, or the control construct of a name with its two parts
+pub data Body : Type 0 where
+  goal : Term (List ℕ) → Body
+  call : Term (List ℕ) → Body
+  control : List ℕ → Body → Body → Body
+
+-- a term as a body, or None where it was refused; and the steps
+pub record Division : Type 0 where
+  pub tree : Option Body
   pub steps : ℕ
 
-abbrev pub one_step : Option (Term (List ℕ)) → Conversion
-one_step b = record { body = b; steps = 1 }
+abbrev pub one_step : Option Body → Division
+one_step b = record { tree = b; steps = 1 }
 
+-- behind a part that was refused nothing is converted
+abbrev pub joined : List ℕ → Division → Division → Division
+joined f a b =
+    elim (a.tree) [
+      | None ↦ record { tree = None; steps = suc a.steps }
+      | Some t ↦ record { tree = option_map (control f t) b.tree; steps = suc (a.steps + b.steps) }
+    ]
+
+abbrev pub of_part : Part → Division → Division → Division
+of_part Goal whole parts = whole
+of_part part whole parts = parts
+
+abbrev pub compound : List ℕ → Args (List ℕ) → List Division → Division
+compound f ts (a ∷ b ∷ []) = of_part (connective f) (one_step (Some (goal (node f ts)))) (joined f a b)
+compound f ts parts = one_step (Some (goal (node f ts)))
+
+abbrev mutual
+  pub divided : Term (List ℕ) → Division
+  divided (var v) = one_step (Some (call (var v)))
+  divided (int i) = one_step None
+  divided (node f ts) = compound f ts (divisions ts)
+
+  pub divisions : Args (List ℕ) → List Division
+  divisions no_args = []
+  divisions (arg t ts) = divided t ∷ divisions ts
+
+-- a body as a term
 abbrev pub call_of : Term (List ℕ) → Term (List ℕ)
 call_of t = node (codes "call") (arg t no_args)
 
 abbrev pub pair : List ℕ → Term (List ℕ) → Term (List ℕ) → Term (List ℕ)
 pair f t u = node f (arg t (arg u no_args))
 
--- behind a part that was refused nothing is converted
-abbrev pub joined : List ℕ → Conversion → Conversion → Conversion
-joined f a b =
-    elim (a.body) [
-      | None ↦ record { body = None; steps = suc a.steps }
-      | Some t ↦ record { body = option_map (pair f t) b.body; steps = suc (a.steps + b.steps) }
-    ]
+abbrev pub term_of : Body → Term (List ℕ)
+term_of (goal t) = t
+term_of (call t) = call_of t
+term_of (control f a b) = pair f (term_of a) (term_of b)
 
-abbrev pub of_part : Part → Conversion → Conversion → Conversion
-of_part Goal goal control = goal
-of_part part goal control = control
+-- the term of the body that a term stands for, or None where it was refused; and the steps
+pub record Conversion : Type 0 where
+  pub body : Option (Term (List ℕ))
+  pub steps : ℕ
 
-abbrev pub compound : List ℕ → Args (List ℕ) → List Conversion → Conversion
-compound f ts (a ∷ b ∷ []) = of_part (connective f) (one_step (Some (node f ts))) (joined f a b)
-compound f ts parts = one_step (Some (node f ts))
-
-abbrev mutual
-  pub converted : Term (List ℕ) → Conversion
-  converted (var v) = one_step (Some (call_of (var v)))
-  converted (int i) = one_step None
-  converted (node f ts) = compound f ts (conversions ts)
-
-  pub conversions : Args (List ℕ) → List Conversion
-  conversions no_args = []
-  conversions (arg t ts) = converted t ∷ conversions ts
+abbrev pub converted : Term (List ℕ) → Conversion
+converted t = record { body = option_map term_of (divided t).tree; steps = (divided t).steps }

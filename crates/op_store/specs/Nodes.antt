@@ -1,32 +1,32 @@
 -- What the nodes of a body stand for: each part of a control construct has a greater number than the construct.
 use Rattle.std.specs.Prelude.{ℕ, suc, pos, ◌-◌, ◌<◌, List, [], ◌∷◌, length, slice_index_or, codes}
 use Rattle.op_logic.specs.Term.{Term, int}
-use Rattle.op_store.specs.Body.{call_of, pair}
+use Rattle.op_store.specs.Body.{Body, goal, call, control}
 use Rattle.op_store.specs.declared.body_node.BodyNode.{BodyNode}
 use Rattle.op_store.specs.declared.body_node.BodyNode.TheVariants.{Goal, CallOf, And, Or, Then}
 
--- the term of a node, by those of the places and of the nodes behind it
-abbrev pub node_term : {P : Type 0} → (P → Term (List ℕ)) → (ℕ → Term (List ℕ)) → BodyNode P → Term (List ℕ)
-node_term place at (Goal p) = place p
-node_term place at (CallOf p) = call_of (place p)
-node_term place at (And a b) = pair (codes ",") (at a) (at b)
-node_term place at (Or a b) = pair (codes ";") (at a) (at b)
-node_term place at (Then a b) = pair (codes "->") (at a) (at b)
+-- the body of a node, by the terms of the places and the bodies of the nodes behind it
+abbrev pub node_tree : {P : Type 0} → (P → Term (List ℕ)) → (ℕ → Body) → BodyNode P → Body
+node_tree place at (Goal p) = goal (place p)
+node_tree place at (CallOf p) = call (place p)
+node_tree place at (And a b) = control (codes ",") (at a) (at b)
+node_tree place at (Or a b) = control (codes ";") (at a) (at b)
+node_tree place at (Then a b) = control (codes "->") (at a) (at b)
 
--- the term of the node with a number, where these are the terms of the nodes from number i on
-abbrev pub numbered : ℕ → List (Term (List ℕ)) → ℕ → Term (List ℕ)
-numbered i ts k = slice_index_or ts (k - i) (int (pos 0))
+-- the body of the node with a number, where these are the bodies of the nodes from number i on
+abbrev pub numbered : ℕ → List Body → ℕ → Body
+numbered i bs k = slice_index_or bs (k - i) (goal (int (pos 0)))
 
--- the terms of these nodes, of which the first has the number i
-abbrev pub node_terms : {P : Type 0} → (P → Term (List ℕ)) → ℕ → List (BodyNode P) → List (Term (List ℕ))
-node_terms place i [] = []
-node_terms place i (x ∷ xs) =
-    let later = node_terms place (suc i) xs in
-    node_term place (numbered (suc i) later) x ∷ later
+-- the bodies of these nodes, of which the first has the number i
+abbrev pub node_trees : {P : Type 0} → (P → Term (List ℕ)) → ℕ → List (BodyNode P) → List Body
+node_trees place i [] = []
+node_trees place i (x ∷ xs) =
+    let later = node_trees place (suc i) xs in
+    node_tree place (numbered (suc i) later) x ∷ later
 
--- the term of a body, which is that of its first node
-abbrev pub body_term : {P : Type 0} → (P → Term (List ℕ)) → List (BodyNode P) → Term (List ℕ)
-body_term place xs = numbered 0 (node_terms place 0 xs) 0
+-- the body that the nodes make up, which is that of the first
+abbrev pub body_tree : {P : Type 0} → (P → Term (List ℕ)) → List (BodyNode P) → Body
+body_tree place xs = numbered 0 (node_trees place 0 xs) 0
 
 -- the places of a body's goals
 abbrev pub leaf : {P : Type 0} → BodyNode P → List P → List P

@@ -2,42 +2,42 @@
 -- before its parts.
 use Rattle.std.specs.Prelude.{ℕ, suc, ◌+◌, List, [], ◌∷◌, map, reverse, Option, Some, None, option_map, option_and_then, codes}
 use Rattle.op_logic.specs.Term.{Term}
-use Rattle.op_store.specs.Body.{Conversion, converted, call_of, pair}
+use Rattle.op_store.specs.Body.{Body, goal, call, control, Division, divided}
 use Rattle.op_store.specs.declared.body_node.BodyNode.{BodyNode}
 use Rattle.op_store.specs.declared.body_node.BodyNode.TheVariants.{Goal, CallOf, And, Or, Then}
 
 -- the bodies of some terms, or None where one was refused; and the steps
 pub record Bodies : Type 0 where
-  pub bodies : Option (List (Term (List ℕ)))
+  pub bodies : Option (List Body)
   pub steps : ℕ
 
-abbrev pub with_first : Conversion → Bodies → Bodies
-with_first c r =
-    elim (c.body) [
-      | None ↦ record { bodies = None; steps = c.steps }
-      | Some t ↦ record { bodies = option_map (λ ts. t ∷ ts) r.bodies; steps = c.steps + r.steps }
+abbrev pub with_first : Division → Bodies → Bodies
+with_first d r =
+    elim (d.tree) [
+      | None ↦ record { bodies = None; steps = d.steps }
+      | Some b ↦ record { bodies = option_map (λ bs. b ∷ bs) r.bodies; steps = d.steps + r.steps }
     ]
 
 abbrev pub bodies_of : List (Term (List ℕ)) → Bodies
 bodies_of [] = record { bodies = Some []; steps = 0 }
-bodies_of (t ∷ ts) = with_first (converted t) (bodies_of ts)
+bodies_of (t ∷ ts) = with_first (divided t) (bodies_of ts)
 
--- a node in front of the terms behind it, of which a control construct takes two
-abbrev pub took : {P : Type 0} → (P → Term (List ℕ)) → BodyNode P → List (Term (List ℕ)) → Option (List (Term (List ℕ)))
-took text (Goal p) s = Some (text p ∷ s)
-took text (CallOf p) s = Some (call_of (text p) ∷ s)
-took text (And a b) (t ∷ u ∷ s) = Some (pair (codes ",") t u ∷ s)
-took text (Or a b) (t ∷ u ∷ s) = Some (pair (codes ";") t u ∷ s)
-took text (Then a b) (t ∷ u ∷ s) = Some (pair (codes "->") t u ∷ s)
+-- a node in front of the bodies behind it, of which a control construct takes two
+abbrev pub took : {P : Type 0} → (P → Term (List ℕ)) → BodyNode P → List Body → Option (List Body)
+took text (Goal p) s = Some (goal (text p) ∷ s)
+took text (CallOf p) s = Some (call (text p) ∷ s)
+took text (And a b) (t ∷ u ∷ s) = Some (control (codes ",") t u ∷ s)
+took text (Or a b) (t ∷ u ∷ s) = Some (control (codes ";") t u ∷ s)
+took text (Then a b) (t ∷ u ∷ s) = Some (control (codes "->") t u ∷ s)
 took text x s = None
 
-abbrev pub read : {P : Type 0} → (P → Term (List ℕ)) → List (BodyNode P) → Option (List (Term (List ℕ))) → Option (List (Term (List ℕ)))
+abbrev pub read : {P : Type 0} → (P → Term (List ℕ)) → List (BodyNode P) → Option (List Body) → Option (List Body)
 read text [] o = o
 read text (x ∷ xs) o = option_and_then (took text x) (read text xs o)
 
 -- what is left of a walk: what the nodes met and the parts to be met, the last of them first, come to; and the steps
 pub record Left : Type 0 where
-  pub bodies : Option (Option (List (Term (List ℕ))))
+  pub bodies : Option (Option (List Body))
   pub steps : ℕ
 
 abbrev pub left_of : {P : Type 0} → (P → Term (List ℕ)) → List (BodyNode P) → List P → Left

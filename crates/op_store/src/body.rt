@@ -4,7 +4,7 @@ ghost use Rattle.op_store.specs.Nodes.{IsBody, IsLinked};
 use crate::body_node::BodyNode;
 use std::marker::Model;
 
-/// A body as a list of nodes, the first of them the whole. A clause sees the list; `body_term` says which term it stands for.
+/// A body as a list of nodes, the first of them the whole. A clause sees the list; `body_tree` says which body the nodes make up.
 #[derive(Drop)]
 pub struct Body<P> {
     nodes: Vec<BodyNode<P>>,

@@ -1,7 +1,7 @@
-ghost use Rattle.std.specs.Prelude.{◌≡◌, ◌<◌, ◌≤◌, ◌++◌, ◌∷◌, [], ℕ, List, length, reverse, All, IfOk, OnOk, Some};
-ghost use Rattle.op_logic.specs.Term.{Term as SpecTerm};
+ghost use Rattle.std.specs.Prelude.{◌≡◌, ◌<◌, ◌≤◌, ◌++◌, ◌∷◌, [], ℕ, List, length, reverse, map, All, IfOk, OnOk, Some, option_map};
 ghost use Rattle.op_logic.specs.Names.{name_at, named};
 ghost use Rattle.op_term.specs.Cells.{AllBelow};
+ghost use Rattle.op_store.specs.Body.{Body, term_of};
 ghost use Rattle.op_store.specs.Nodes.{leaves};
 ghost use Rattle.op_store.specs.Walk.{needs, took, read};
 ghost use Rattle.op_store.specs.Converted.{AreConnectives, texts_at, paired, called};
@@ -74,8 +74,9 @@ fn push_part<T: Tree>(
     requires parts { needs node ≤ length stack.old.items }
     requires there { AllBelow (length made.old) (reverse stack.old.items) }
     ensures there { OnOk result (AllBelow (length made.new) (reverse stack.new.items)) }
-    ensures took { OnOk result ((names : List (List ℕ)) → AreConnectives names known
-        → took (λ p. named names (T.term tree.now p)) node (texts_at names made.old (reverse stack.old.items))
+    ensures took { OnOk result ((names : List (List ℕ)) (bodies : List Body) → AreConnectives names known
+        → map term_of bodies ≡ texts_at names made.old (reverse stack.old.items)
+        → option_map (λ bs. map term_of bs) (took (λ p. named names (T.term tree.now p)) node bodies)
         ≡ Some (texts_at names made.new (reverse stack.new.items))) }
 {
     match node {
@@ -98,10 +99,10 @@ pub(crate) fn build_body<T: Tree>(
     mut met: Vec<BodyNode<T::At>>,
 ) -> Result<Term, Memory>
     requires places { All (λ p. T.IsPlace tree.now p) (leaves met.items) }
-    requires body { (names : List (List ℕ)) × ((t : SpecTerm (List ℕ)) × (AreConnectives names known
-        × (read (λ p. named names (T.term tree.now p)) met.items (Some []) ≡ Some (t ∷ [])))) }
-    ensures { IfOk result (λ b. (names : List (List ℕ)) (t : SpecTerm (List ℕ)) → AreConnectives names known
-        → read (λ p. named names (T.term tree.now p)) met.items (Some []) ≡ Some (t ∷ []) → named names b ≡ t) }
+    requires body { (names : List (List ℕ)) × ((b : Body) × (AreConnectives names known
+        × (read (λ p. named names (T.term tree.now p)) met.items (Some []) ≡ Some (b ∷ [])))) }
+    ensures { IfOk result (λ t. (names : List (List ℕ)) (b : Body) → AreConnectives names known
+        → read (λ p. named names (T.term tree.now p)) met.items (Some []) ≡ Some (b ∷ []) → named names t ≡ term_of b) }
 {
     let mut made = Builder::new(alloc);
     let mut stack = Vec::new(alloc);

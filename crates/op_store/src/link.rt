@@ -1,6 +1,7 @@
 ghost use Rattle.std.specs.Prelude.{◌≡◌, ◌≤◌, ◌∷◌, [], ℕ, List, reverse, length, IfOk, Some};
 ghost use Rattle.op_logic.specs.Term.{Term as SpecTerm};
-ghost use Rattle.op_store.specs.Nodes.{body_term, leaves};
+ghost use Rattle.op_store.specs.Body.{Body as BodyTree};
+ghost use Rattle.op_store.specs.Nodes.{body_tree, leaves};
 ghost use Rattle.op_store.specs.Walk.{needs, linked_node, unlinked, read};
 
 use crate::body::Body;
@@ -42,8 +43,8 @@ fn link<P: Copy>(node: BodyNode<P>, stack: &mut Vec<u64>) -> BodyNode<P>
 
 /// The body of nodes that were met, each control construct before its parts: the nodes get the numbers of their parts.
 pub(crate) fn linked<P: Copy>(alloc: Global, mut met: Vec<BodyNode<P>>) -> Result<Body<P>, Memory>
-    requires { (text : P → SpecTerm (List ℕ)) × ((t : SpecTerm (List ℕ)) × (read text met.items (Some []) ≡ Some (t ∷ []))) }
-    ensures term { IfOk result (λ b. (text : P → SpecTerm (List ℕ)) → read text met.items (Some []) ≡ Some (body_term text b ∷ [])) }
+    requires { (text : P → SpecTerm (List ℕ)) × ((b : BodyTree) × (read text met.items (Some []) ≡ Some (b ∷ []))) }
+    ensures tree { IfOk result (λ b. (text : P → SpecTerm (List ℕ)) → read text met.items (Some []) ≡ Some (body_tree text b ∷ [])) }
     ensures leaves { IfOk result (λ b. leaves b ≡ leaves met.items) }
 {
     let mut stack = Vec::new(alloc);

@@ -4,8 +4,10 @@ use Rattle.std.proofs.lemmas.Bool.Decides.{nat_tests}
 use Rattle.op_logic.specs.Term.{Term, shift}
 use Rattle.op_logic.specs.Bind.{Bindings, Solved as Result, solve}
 use Rattle.op_trace.specs.declared.port.Port.TheVariants as port
-use Rattle.op_trace.specs.World.{Text, text_eq, Clause, World, Setup, Barrier, Item, Goal, Exit, Shown, procedure}
-use Rattle.op_trace.specs.Visit.{Verdict, Failed, Stopped, Spent, Visited, with_turns, and_then, on_failed, with_event, event_of, pays, spends, Control, Succeed, Give_up, Both, Invoke, Visitor, Choice, Redo, More, Fail, matched, tries, alternatives, after, boxed, selected, visit_with, visit_by, visit}
+use Rattle.op_trace.specs.declared.barrier.Barrier.{Barrier}
+use Rattle.op_trace.specs.declared.barrier.Barrier.TheVariants.{Within, Past}
+use Rattle.op_trace.specs.World.{Text, text_eq, Clause, World, Setup, same_barrier, Item, Goal, Cut, Exit, Shown, procedure}
+use Rattle.op_trace.specs.Visit.{Verdict, Failed, CutTo, Stopped, Spent, Visited, gives, with_turns, and_then, on_failed, reaches, on_condition, cut, with_event, event_of, pays, spends, Control, Succeed, Give_up, Commit, Both, Either, If, Invoke, Visitor, Choice, Redo, Branch, More, Fail, Condition, matched, tries, alternatives, branches, after, boxed, selected, visit_with, visit_by, visit}
 use Rattle.op_trace.proofs.Later.{VisitsLater, Later, IsLess, within-less, tries-later, visit_with-later, visit_by-later}
 
 -- two visitors that agree wherever more than n steps were made, and no more than b
@@ -25,8 +27,20 @@ spends-same s n w h i e = pays-same (nat_le (w.steps + n) s.budget) s n w h i re
 
 pub on_failed-same : (h i : World → Visited) (r : Verdict) (w : World) → h w ≡ i w → on_failed h r w ≡ on_failed i r w
 on_failed-same h i Failed w e = e
+on_failed-same h i (CutTo m) w e = refl
 on_failed-same h i Stopped w e = refl
 on_failed-same h i Spent w e = refl
+
+pub reaches-same : (t : Bool) (h i k : World → Visited) (w : World) → h w ≡ i w → reaches t h k w ≡ reaches t i k w
+reaches-same true h i k w e = e
+reaches-same false h i k w e = refl
+
+pub on_condition-same : (n : ℕ) (h i : World → Visited) (r : Verdict) (w : World) → h w ≡ i w → on_condition n h r w ≡ on_condition n i r w
+on_condition-same n h i Failed w e = e
+on_condition-same n h i (CutTo m) w e =
+    reaches-same (same_barrier m (Within n)) h i (reaches (same_barrier m (Past n)) (gives Failed) (gives (CutTo m))) w e
+on_condition-same n h i Stopped w e = refl
+on_condition-same n h i Spent w e = refl
 
 pub and_then-same : (v u : Visited) (h i : Verdict → World → Visited) → v ≡ u → h v.verdict v.world ≡ i v.verdict v.world → and_then v h ≡ and_then u i
 and_then-same v u h i e k = ap (with_turns v.turns) k ∙ ap (λ (x : Visited). and_then x i) e
@@ -53,10 +67,24 @@ module _ (f g : Visitor) (s : Setup) (n : ℕ) (agree : Agree s.budget n f g) (l
       on_failed-same _ _ r w (and_then-same (tries f s c k t σ J w) (tries g s c k t σ J w) (alternatives f s cs k t σ J) (alternatives g s cs k t σ J) (tries-same c k t σ J w low high)
       (alternatives-same cs k t σ J (tries f s c k t σ J w).verdict (tries f s c k t σ J w).world (omega (arith, tried.0)) tried.1))
 
+  pub branches-same : (t : Term Text) (m : Barrier) (σ : Bindings Text) (J : List Item) (w : World)
+      → n ≤ w.steps → w.steps ≤ s.budget → branches f s t m σ J w ≡ branches g s t m σ J w
+  branches-same t m σ J w low high = spends-same s 1 w (f (Goal t m ∷ J) σ) (g (Goal t m ∷ J) σ) (λ fits. agree _ _ _ (omega arith) fits)
+
   pub after-same : (c : Choice) (r : Verdict) (w : World) → n ≤ w.steps → w.steps ≤ s.budget → after f s c r w ≡ after g s c r w
   after-same (Redo k t σ J) r w low high = refl
   after-same (More cs k t σ J) r w low high = alternatives-same cs k t σ J r w low high
+  after-same (Branch t m σ J) r w low high = on_failed-same (branches f s t m σ J) (branches g s t m σ J) r w (branches-same t m σ J w low high)
   after-same (Fail k t σ J) r w low high = refl
+  after-same (Condition c t m σ J) r w low high = on_condition-same c (branches f s t m σ J) (branches g s t m σ J) r w (branches-same t m σ J w low high)
+
+  -- the walks of the same items, and then the same choice
+  pub chosen-same : (I : List Item) (c : Choice) (σ : Bindings Text) (w : World) → n < w.steps → w.steps ≤ s.budget
+      → and_then (f I σ w) (after f s c) ≡ and_then (g I σ w) (after g s c)
+  chosen-same I c σ w low high =
+      let inner : Later s.budget w.steps (f I σ w) = later I σ w high in
+      and_then-same (f I σ w) (g I σ w) (after f s c) (after g s c) (agree I σ w low high)
+      (after-same c (f I σ w).verdict (f I σ w).world (omega (arith, inner.0)) inner.1)
 
   pub boxed-same : (t : Term Text) (J : List Item) (σ : Bindings Text) (w : World) → n ≤ w.steps → w.steps ≤ s.budget → boxed f s t J σ w ≡ boxed g s t J σ w
   boxed-same t J σ w low high =
@@ -70,7 +98,12 @@ module _ (f g : Visitor) (s : Setup) (n : ℕ) (agree : Agree s.budget n f g) (l
       → n < w.steps → w.steps ≤ s.budget → selected f s q t m J σ w ≡ selected g s q t m J σ w
   selected-same Succeed t m J σ w low high = agree _ _ _ low high
   selected-same Give_up t m J σ w low high = refl
+  selected-same Commit t m J σ w low high = ap (λ (x : Visited). and_then x (cut m)) (agree J σ w low high)
   selected-same (Both a b) t m J σ w low high = agree _ _ _ low high
+  selected-same (Either a b) t m J σ w low high = chosen-same (Goal a m ∷ J) (Branch b m σ J) σ w low high
+  selected-same (If c a b) t m J σ w low high =
+      chosen-same (Goal c (Within (w.conditions + 1)) ∷ Cut (Past (w.conditions + 1)) ∷ Goal a m ∷ J) (Condition (w.conditions + 1) b m σ J) σ
+      (record w { conditions = w.conditions + 1 }) low high
   selected-same Invoke t m J σ w low high = boxed-same t J σ w (omega arith) high
 
   pub visit_with-same : (I : List Item) (σ : Bindings Text) (w : World) → n ≤ w.steps → w.steps ≤ s.budget → visit_with f s I σ w ≡ visit_with g s I σ w
@@ -81,6 +114,7 @@ module _ (f g : Visitor) (s : Setup) (n : ℕ) (agree : Agree s.budget n f g) (l
       ap (with_turns (Shown (event_of port.Exit k t σ J w) (with_event w) ∷ []))
       (and_then-same (visit_with f s J σ (with_event w)) (visit_with g s J σ (with_event w)) (after f s (Redo k t σ J)) (after g s (Redo k t σ J)) (visit_with-same J σ (with_event w) low high)
       (after-same (Redo k t σ J) (visit_with f s J σ (with_event w)).verdict (visit_with f s J σ (with_event w)).world (omega (arith, inner.0)) inner.1))
+  visit_with-same (Cut m ∷ J) σ w low high = ap (λ (x : Visited). and_then x (cut m)) (visit_with-same J σ w low high)
   visit_with-same (Goal t m ∷ J) σ w low high =
       spends-same s 1 w _ _ (λ fits. selected-same _ t m J σ (record w { steps = w.steps + 1 }) (omega arith) fits)
 

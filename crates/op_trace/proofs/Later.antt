@@ -3,8 +3,10 @@ use Rattle.std.proofs.Common.{◌≡◌, ℕ, zero, suc, ◌+◌, ◌-◌, ◌�
 use Rattle.std.proofs.lemmas.Bool.Decides.{nat_tests}
 use Rattle.op_logic.specs.Term.{Term, shift}
 use Rattle.op_logic.specs.Bind.{Bindings, Solved as Result, within, solve}
-use Rattle.op_trace.specs.World.{Text, text_eq, Clause, World, Setup, Barrier, Item, Goal, Exit, procedure}
-use Rattle.op_trace.specs.Visit.{Verdict, Failed, Stopped, Spent, Visited, and_then, on_failed, with_event, pays, spends, Control, Succeed, Give_up, Both, Invoke, control, Visitor, Choice, Redo, More, Fail, matched, tries, alternatives, after, boxed, selected, visit_with, visit_by, visit}
+use Rattle.op_trace.specs.declared.barrier.Barrier.{Barrier}
+use Rattle.op_trace.specs.declared.barrier.Barrier.TheVariants.{Call, Within, Past}
+use Rattle.op_trace.specs.World.{Text, text_eq, Clause, World, Setup, same_barrier, Item, Goal, Cut, Exit, procedure}
+use Rattle.op_trace.specs.Visit.{Verdict, Failed, CutTo, Stopped, Spent, Visited, gives, and_then, on_failed, reaches, on_end, on_condition, cut, with_event, pays, spends, Control, Succeed, Give_up, Commit, Both, Either, If, Invoke, control, Visitor, Choice, Redo, Branch, More, Fail, Condition, matched, tries, alternatives, branches, after, boxed, conditional, selected, visit_with, visit_by, visit}
 
 -- a walk from n steps on, with a budget of b
 abbrev pub Later : ℕ → ℕ → Visited → Type 0
@@ -29,8 +31,27 @@ spends-later s n w h below l = pays-later (nat_le (w.steps + n) s.budget) s n w 
 
 pub on_failed-later : (b n : ℕ) (h : World → Visited) (r : Verdict) (w : World) → n ≤ w.steps → w.steps ≤ b → Later b n (h w) → Later b n (on_failed h r w)
 on_failed-later b n h Failed w low high l = l
+on_failed-later b n h (CutTo m) w low high l = (low, high)
 on_failed-later b n h Stopped w low high l = (low, high)
 on_failed-later b n h Spent w low high l = (low, high)
+
+pub reaches-later : (b n : ℕ) (t : Bool) (h i : World → Visited) (w : World) → Later b n (h w) → Later b n (i w) → Later b n (reaches t h i w)
+reaches-later b n true h i w l m = l
+reaches-later b n false h i w l m = m
+
+pub on_end-later : (b n : ℕ) (m : Barrier) (h : World → Visited) (r : Verdict) (w : World) → n ≤ w.steps → w.steps ≤ b → Later b n (h w) → Later b n (on_end m h r w)
+on_end-later b n m h Failed w low high l = l
+on_end-later b n m h (CutTo x) w low high l = reaches-later b n (same_barrier x m) h (gives (CutTo x)) w l (low, high)
+on_end-later b n m h Stopped w low high l = (low, high)
+on_end-later b n m h Spent w low high l = (low, high)
+
+pub on_condition-later : (b n c : ℕ) (h : World → Visited) (r : Verdict) (w : World) → n ≤ w.steps → w.steps ≤ b → Later b n (h w) → Later b n (on_condition c h r w)
+on_condition-later b n c h Failed w low high l = l
+on_condition-later b n c h (CutTo x) w low high l =
+    reaches-later b n (same_barrier x (Within c)) h (reaches (same_barrier x (Past c)) (gives Failed) (gives (CutTo x))) w l
+    (reaches-later b n (same_barrier x (Past c)) (gives Failed) (gives (CutTo x)) w (low, high) (low, high))
+on_condition-later b n c h Stopped w low high l = (low, high)
+on_condition-later b n c h Spent w low high l = (low, high)
 
 pub and_then-later : (b n : ℕ) (v : Visited) (h : Verdict → World → Visited) → Later b n v
     → ((r : Verdict) (u : World) → n ≤ u.steps → u.steps ≤ b → Later b n (h r u)) → Later b n (and_then v h)
@@ -76,11 +97,21 @@ alternatives-later visit s (c ∷ cs) k g σ J n r w lv low high =
     (later_from s.budget n w.steps _ low (tries-later visit s c k g σ J w lv high))
     (λ q u l h. alternatives-later visit s cs k g σ J n q u lv l h))
 
+pub branches-later : (visit : Visitor) (s : Setup) (t : Term Text) (m : Barrier) (σ : Bindings Text) (J : List Item) (n : ℕ) (w : World)
+    → VisitsLater s.budget visit → n ≤ w.steps → w.steps ≤ s.budget → Later s.budget n (branches visit s t m σ J w)
+branches-later visit s t m σ J n w lv low high =
+    later_from s.budget n w.steps _ low
+    (spends-later s 1 w _ high (λ fits. later_from s.budget w.steps (w.steps + 1) _ (omega arith) (lv (Goal t m ∷ J) σ (record w { steps = w.steps + 1 }) fits)))
+
 pub after-later : (visit : Visitor) (s : Setup) (c : Choice) (n : ℕ) (r : Verdict) (w : World)
     → VisitsLater s.budget visit → n ≤ w.steps → w.steps ≤ s.budget → Later s.budget n (after visit s c r w)
 after-later visit s (Redo k g σ J) n r w lv low high = on_failed-later s.budget n _ r w low high (low, high)
+after-later visit s (Branch t m σ J) n r w lv low high =
+    on_failed-later s.budget n (branches visit s t m σ J) r w low high (branches-later visit s t m σ J n w lv low high)
 after-later visit s (More cs k g σ J) n r w lv low high = alternatives-later visit s cs k g σ J n r w lv low high
-after-later visit s (Fail k g σ J) n r w lv low high = on_failed-later s.budget n _ r w low high (low, high)
+after-later visit s (Fail k g σ J) n r w lv low high = on_end-later s.budget n (Call k) _ r w low high (low, high)
+after-later visit s (Condition c t m σ J) n r w lv low high =
+    on_condition-later s.budget n c (branches visit s t m σ J) r w low high (branches-later visit s t m σ J n w lv low high)
 
 pub boxed-later : (visit : Visitor) (s : Setup) (g : Term Text) (J : List Item) (σ : Bindings Text) (w : World)
     → VisitsLater s.budget visit → w.steps ≤ s.budget → Later s.budget w.steps (boxed visit s g J σ w)
@@ -89,11 +120,28 @@ boxed-later visit s g J σ w lv below =
     (alternatives-later visit s (procedure w.clauses g) (w.calls + 1) g σ J w.steps Failed (with_event (record w { calls = w.calls + 1 })) lv (omega arith) below)
     (λ r u l h. after-later visit s (Fail (w.calls + 1) g σ J) w.steps r u lv l h)
 
+pub cut-later : (b n : ℕ) (m : Barrier) (v : Visited) → Later b n v → Later b n (and_then v (cut m))
+cut-later b n m v l = and_then-later b n v (cut m) l (λ r u low high. on_failed-later b n (gives (CutTo m)) r u low high (low, high))
+
+pub conditional-later : (visit : Visitor) (s : Setup) (c t e : Term Text) (m : Barrier) (J : List Item) (σ : Bindings Text) (w : World)
+    → VisitsLater s.budget visit → w.steps ≤ s.budget → Later s.budget w.steps (conditional visit s c t e m J σ w)
+conditional-later visit s c t e m J σ w lv below =
+    let n : ℕ = w.conditions + 1 in
+    let u : World = record w { conditions = n } in
+    and_then-later s.budget w.steps (visit (Goal c (Within n) ∷ Cut (Past n) ∷ Goal t m ∷ J) σ u) (after visit s (Condition n e m σ J))
+    (lv (Goal c (Within n) ∷ Cut (Past n) ∷ Goal t m ∷ J) σ u below)
+    (λ r u l h. after-later visit s (Condition n e m σ J) w.steps r u lv l h)
+
 pub selected-later : (visit : Visitor) (s : Setup) (q : Control) (t : Term Text) (m : Barrier) (J : List Item) (σ : Bindings Text) (w : World)
     → VisitsLater s.budget visit → w.steps ≤ s.budget → Later s.budget w.steps (selected visit s q t m J σ w)
 selected-later visit s Succeed t m J σ w lv below = lv J σ w below
 selected-later visit s Give_up t m J σ w lv below = (omega arith, below)
+selected-later visit s Commit t m J σ w lv below = cut-later s.budget w.steps m (visit J σ w) (lv J σ w below)
 selected-later visit s (Both a b) t m J σ w lv below = lv _ σ w below
+selected-later visit s (Either a b) t m J σ w lv below =
+    and_then-later s.budget w.steps (visit (Goal a m ∷ J) σ w) (after visit s (Branch b m σ J)) (lv (Goal a m ∷ J) σ w below)
+    (λ r u l h. after-later visit s (Branch b m σ J) w.steps r u lv l h)
+selected-later visit s (If c a b) t m J σ w lv below = conditional-later visit s c a b m J σ w lv below
 selected-later visit s Invoke t m J σ w lv below = boxed-later visit s t J σ w lv below
 
 pub visit_with-later : (visit : Visitor) (s : Setup) → VisitsLater s.budget visit → VisitsLater s.budget (visit_with visit s)
@@ -102,6 +150,7 @@ visit_with-later visit s lv [] σ w below = (omega arith, below)
 visit_with-later visit s lv (Exit k g ∷ J) σ w below =
     and_then-later s.budget w.steps (visit_with visit s J σ (with_event w)) (after visit s (Redo k g σ J)) (visit_with-later visit s lv J σ (with_event w) below)
     (λ r u l h. after-later visit s (Redo k g σ J) w.steps r u lv l h)
+visit_with-later visit s lv (Cut m ∷ J) σ w below = cut-later s.budget w.steps m (visit_with visit s J σ w) (visit_with-later visit s lv J σ w below)
 visit_with-later visit s lv (Goal t m ∷ J) σ w below =
     spends-later s 1 w _ below (λ fits. later_from s.budget w.steps (w.steps + 1) _ (omega arith)
     (selected-later visit s (control t) t m J σ (record w { steps = w.steps + 1 }) lv fits))

@@ -1,2 +1,3 @@
 pub mod Later
 pub mod Agree
+pub mod Only

@@ -14,6 +14,12 @@ name f = atom f
 abbrev both : Term Text → Term Text → Term Text
 both a b = node (codes ",") (arg a (arg b no_args))
 
+abbrev either : Term Text → Term Text → Term Text
+either a b = node (codes ";") (arg a (arg b no_args))
+
+abbrev then : Term Text → Term Text → Term Text
+then a b = node (codes "->") (arg a (arg b no_args))
+
 abbrev clause : ℕ → Text → Term Text → Clause
 clause i f b = record { id = i; head = name f; body = b; variables = 0 }
 
@@ -22,6 +28,9 @@ event n k p d q f = record { chrono = n; call = k; parent = p; depth = d; port =
 
 abbrev setup : Setup
 setup = record { budget = 100; wanted = 1 }
+
+abbrev all : Setup
+all = record { budget = 100; wanted = 0 }
 
 -- a :- b, c. b. c.
 abbrev first_program : World
@@ -57,6 +66,125 @@ second_events = refl
 pub second_ending : (run setup (name (codes "p")) 0 second_program).ending ≡ Failed
 unfolding visit visit_by visit_with
 second_ending = refl
+
+-- p :- q, !, r. p. q. q. r :- fail. The cut removes the second q and the second p.
+abbrev cut_program : World
+cut_program = loaded (clause 0 (codes "p") (both (name (codes "q")) (both (name (codes "!")) (name (codes "r")))) ∷ clause 1 (codes "p") (name (codes "true")) ∷ clause 2 (codes "q") (name (codes "true")) ∷ clause 3 (codes "q") (name (codes "true")) ∷ clause 4 (codes "r") (name (codes "fail")) ∷ [])
+
+pub cut_events : events_of (run setup (name (codes "p")) 0 cut_program).turns
+    ≡ event 1 1 0 1 port.Call (codes "p") ∷ event 2 2 1 2 port.Call (codes "q") ∷ event 3 2 1 2 port.Exit (codes "q") ∷ event 4 3 1 2 port.Call (codes "r") ∷ event 5 3 1 2 port.Fail (codes "r") ∷ event 6 1 0 1 port.Fail (codes "p") ∷ []
+unfolding visit visit_by visit_with
+cut_events = refl
+
+pub cut_ending : (run setup (name (codes "p")) 0 cut_program).ending ≡ Failed
+unfolding visit visit_by visit_with
+cut_ending = refl
+
+pub cut_steps : (run setup (name (codes "p")) 0 cut_program).world.steps ≡ 13
+unfolding visit visit_by visit_with
+cut_steps = refl
+
+-- p :- ( q, ! -> r ; s ). p. q. r. s. The cut is local to the condition.
+abbrev condition_program : World
+condition_program = loaded (clause 0 (codes "p") (either (then (both (name (codes "q")) (name (codes "!"))) (name (codes "r"))) (name (codes "s"))) ∷ clause 1 (codes "p") (name (codes "true")) ∷ clause 2 (codes "q") (name (codes "true")) ∷ clause 3 (codes "r") (name (codes "true")) ∷ clause 4 (codes "s") (name (codes "true")) ∷ [])
+
+pub condition_events : events_of (run all (name (codes "p")) 0 condition_program).turns
+    ≡ event 1 1 0 1 port.Call (codes "p") ∷ event 2 2 1 2 port.Call (codes "q") ∷ event 3 2 1 2 port.Exit (codes "q") ∷ event 4 3 1 2 port.Call (codes "r") ∷ event 5 3 1 2 port.Exit (codes "r") ∷ event 6 1 0 1 port.Exit (codes "p") ∷ event 7 1 0 1 port.Redo (codes "p") ∷ event 8 3 1 2 port.Redo (codes "r") ∷ event 9 3 1 2 port.Fail (codes "r") ∷ event 10 1 0 1 port.Exit (codes "p") ∷ event 11 1 0 1 port.Redo (codes "p") ∷ event 12 1 0 1 port.Fail (codes "p") ∷ []
+unfolding visit visit_by visit_with
+condition_events = refl
+
+pub condition_ending : (run all (name (codes "p")) 0 condition_program).ending ≡ Failed
+unfolding visit visit_by visit_with
+condition_ending = refl
+
+pub condition_steps : (run all (name (codes "p")) 0 condition_program).world.steps ≡ 14
+unfolding visit visit_by visit_with
+condition_steps = refl
+
+-- p :- ( q, !, fail -> r ; s ). q. q. s. The cut leaves the condition no solution, and the else branch is tried.
+abbrev else_program : World
+else_program = loaded (clause 0 (codes "p") (either (then (both (name (codes "q")) (both (name (codes "!")) (name (codes "fail")))) (name (codes "r"))) (name (codes "s"))) ∷ clause 1 (codes "q") (name (codes "true")) ∷ clause 2 (codes "q") (name (codes "true")) ∷ clause 3 (codes "s") (name (codes "true")) ∷ [])
+
+pub else_events : events_of (run setup (name (codes "p")) 0 else_program).turns
+    ≡ event 1 1 0 1 port.Call (codes "p") ∷ event 2 2 1 2 port.Call (codes "q") ∷ event 3 2 1 2 port.Exit (codes "q") ∷ event 4 3 1 2 port.Call (codes "s") ∷ event 5 3 1 2 port.Exit (codes "s") ∷ event 6 1 0 1 port.Exit (codes "p") ∷ []
+unfolding visit visit_by visit_with
+else_events = refl
+
+pub else_ending : (run setup (name (codes "p")) 0 else_program).ending ≡ Stopped
+unfolding visit visit_by visit_with
+else_ending = refl
+
+pub else_steps : (run setup (name (codes "p")) 0 else_program).world.steps ≡ 15
+unfolding visit visit_by visit_with
+else_steps = refl
+
+-- p :- ( q ; r ). q :- fail. r.
+abbrev branch_program : World
+branch_program = loaded (clause 0 (codes "p") (either (name (codes "q")) (name (codes "r"))) ∷ clause 1 (codes "q") (name (codes "fail")) ∷ clause 2 (codes "r") (name (codes "true")) ∷ [])
+
+pub branch_events : events_of (run setup (name (codes "p")) 0 branch_program).turns
+    ≡ event 1 1 0 1 port.Call (codes "p") ∷ event 2 2 1 2 port.Call (codes "q") ∷ event 3 2 1 2 port.Fail (codes "q") ∷ event 4 3 1 2 port.Call (codes "r") ∷ event 5 3 1 2 port.Exit (codes "r") ∷ event 6 1 0 1 port.Exit (codes "p") ∷ []
+unfolding visit visit_by visit_with
+branch_events = refl
+
+pub branch_ending : (run setup (name (codes "p")) 0 branch_program).ending ≡ Stopped
+unfolding visit visit_by visit_with
+branch_ending = refl
+
+pub branch_steps : (run setup (name (codes "p")) 0 branch_program).world.steps ≡ 12
+unfolding visit visit_by visit_with
+branch_steps = refl
+
+-- p :- ( q -> r ). q :- fail.
+abbrev bare_program : World
+bare_program = loaded (clause 0 (codes "p") (then (name (codes "q")) (name (codes "r"))) ∷ clause 1 (codes "q") (name (codes "fail")) ∷ [])
+
+pub bare_events : events_of (run setup (name (codes "p")) 0 bare_program).turns
+    ≡ event 1 1 0 1 port.Call (codes "p") ∷ event 2 2 1 2 port.Call (codes "q") ∷ event 3 2 1 2 port.Fail (codes "q") ∷ event 4 1 0 1 port.Fail (codes "p") ∷ []
+unfolding visit visit_by visit_with
+bare_events = refl
+
+pub bare_ending : (run setup (name (codes "p")) 0 bare_program).ending ≡ Failed
+unfolding visit visit_by visit_with
+bare_ending = refl
+
+pub bare_steps : (run setup (name (codes "p")) 0 bare_program).world.steps ≡ 10
+unfolding visit visit_by visit_with
+bare_steps = refl
+
+-- p :- ( fail ; !, r ). p. r :- fail. The cut in a branch is one of the clause.
+abbrev transparent_program : World
+transparent_program = loaded (clause 0 (codes "p") (either (name (codes "fail")) (both (name (codes "!")) (name (codes "r")))) ∷ clause 1 (codes "p") (name (codes "true")) ∷ clause 2 (codes "r") (name (codes "fail")) ∷ [])
+
+pub transparent_events : events_of (run setup (name (codes "p")) 0 transparent_program).turns
+    ≡ event 1 1 0 1 port.Call (codes "p") ∷ event 2 2 1 2 port.Call (codes "r") ∷ event 3 2 1 2 port.Fail (codes "r") ∷ event 4 1 0 1 port.Fail (codes "p") ∷ []
+unfolding visit visit_by visit_with
+transparent_events = refl
+
+pub transparent_ending : (run setup (name (codes "p")) 0 transparent_program).ending ≡ Failed
+unfolding visit visit_by visit_with
+transparent_ending = refl
+
+pub transparent_steps : (run setup (name (codes "p")) 0 transparent_program).world.steps ≡ 12
+unfolding visit visit_by visit_with
+transparent_steps = refl
+
+-- q. q. The goal is q, !.
+abbrev top_program : World
+top_program = loaded (clause 0 (codes "q") (name (codes "true")) ∷ clause 1 (codes "q") (name (codes "true")) ∷ [])
+
+pub top_events : events_of (run all (both (name (codes "q")) (name (codes "!"))) 0 top_program).turns
+    ≡ event 1 1 0 1 port.Call (codes "q") ∷ event 2 1 0 1 port.Exit (codes "q") ∷ []
+unfolding visit visit_by visit_with
+top_events = refl
+
+pub top_ending : (run all (both (name (codes "q")) (name (codes "!"))) 0 top_program).ending ≡ Failed
+unfolding visit visit_by visit_with
+top_ending = refl
+
+pub top_steps : (run all (both (name (codes "q")) (name (codes "!"))) 0 top_program).world.steps ≡ 5
+unfolding visit visit_by visit_with
+top_steps = refl
 
 -- p :- p.
 abbrev loop_program : World

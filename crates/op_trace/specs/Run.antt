@@ -1,13 +1,16 @@
 -- A run: its turns in order, its ending, and the world at its end.
 use Rattle.std.specs.Prelude.{ℕ, ◌-◌, nat_le, List, [], ◌∷◌, if◌then◌else◌, slice_index_or}
 use Rattle.op_logic.specs.Term.{Term}
-use Rattle.op_trace.specs.World.{Text, World, Setup, Call, Goal, Event, Turn, Shown, Solved}
+use Rattle.op_trace.specs.declared.barrier.Barrier.TheVariants.{Call}
+use Rattle.op_trace.specs.World.{Text, World, Setup, Goal, Event, Turn, Shown, Solved}
 use Rattle.op_trace.specs.Visit.{Verdict, Visited, visit}
 use Rattle.op_trace.specs.Visit as verdict
 use Rattle.op_trace.specs.Ending.{Ending, Stopped, Failed, Spent}
 
+-- a cut out of the whole goal leaves no alternative
 abbrev pub ending_of : Verdict → Ending
 ending_of verdict.Failed = Failed
+ending_of (verdict.CutTo m) = Failed
 ending_of verdict.Stopped = Stopped
 ending_of verdict.Spent = Spent
 

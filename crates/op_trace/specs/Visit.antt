@@ -2,15 +2,19 @@
 -- box model. Success is the rest of a list of items, and failure the return of the recursion. Bindings only grow, and
 -- nothing is undone. Each step is taken before what it pays for; where it isn't there, the walk is Spent.
 use Rattle.std.specs.Prelude.{ℕ, zero, suc, ◌+◌, ◌-◌, ◌==◌, nat_le, Bool, true, false, List, [], ◌∷◌, ◌++◌, length, codes, if◌then◌else◌, Option, Some, None}
-use Rattle.op_logic.specs.Term.{Term, node, no_args, arg, shift}
+use Rattle.op_logic.specs.Term.{Term, node, no_args, arg, atom, shift}
 use Rattle.op_logic.specs.Bind.{Bindings, apply, unify, Solved as Result}
 use Rattle.op_trace.specs.declared.port.Port.{Port}
 use Rattle.op_trace.specs.declared.port.Port.TheVariants as port
-use Rattle.op_trace.specs.World.{Text, text_eq, Clause, World, Setup, Barrier, Call, Item, Goal, Exit, open_boxes, head_number, Event, Turn, Shown, Solved, procedure}
+use Rattle.op_trace.specs.declared.barrier.Barrier.{Barrier}
+use Rattle.op_trace.specs.declared.barrier.Barrier.TheVariants.{Call, Within, Past}
+use Rattle.op_trace.specs.World.{Text, text_eq, Clause, World, Setup, same_barrier, Item, Goal, Cut, Exit, open_boxes, head_number, Event, Turn, Shown, Solved, procedure}
 
--- how a walk ends: no solution is left, the wanted solution was found, or one more step would pass the budget
+-- how a walk ends: no solution is left; none is left, and a cut drops all alternatives up to a barrier; the wanted solution was found; or one
+-- more step would pass the budget
 pub data Verdict : Type 0 where
   Failed : Verdict
+  CutTo : Barrier → Verdict
   Stopped : Verdict
   Spent : Verdict
 
@@ -33,8 +37,24 @@ and_then v h = with_turns v.turns (h v.verdict v.world)
 -- only after Failed; other results are handed on
 abbrev pub on_failed : (World → Visited) → Verdict → World → Visited
 on_failed h Failed w = h w
+on_failed h (CutTo m) w = gives (CutTo m) w
 on_failed h Stopped w = gives Stopped w
 on_failed h Spent w = gives Spent w
+
+abbrev pub reaches : Bool → (World → Visited) → (World → Visited) → World → Visited
+reaches true h i w = h w
+reaches false h i w = i w
+
+-- after Failed, and after a cut to this barrier
+abbrev pub on_end : Barrier → (World → Visited) → Verdict → World → Visited
+on_end b h Failed w = h w
+on_end b h (CutTo m) w = reaches (same_barrier m b) h (gives (CutTo m)) w
+on_end b h Stopped w = gives Stopped w
+on_end b h Spent w = gives Spent w
+
+-- a cut to a barrier: where what comes after it fails, nothing up to there is tried
+abbrev pub cut : Barrier → Verdict → World → Visited
+cut m r w = on_failed (gives (CutTo m)) r w
 
 -- the event of a box that was called before these items
 abbrev pub event_of : Port → ℕ → Term Text → Bindings Text → List Item → World → Event
@@ -64,15 +84,31 @@ spends s n w h = pays (nat_le (w.steps + n) s.budget) s n w h
 pub data Control : Type 0 where
   Succeed : Control
   Give_up : Control
+  Commit : Control
   Both : Term Text → Term Text → Control
+  Either : Term Text → Term Text → Control
+  If : Term Text → Term Text → Term Text → Control
   Invoke : Control
 
 abbrev pub control_of_atom : Text → Control
 control_of_atom f =
-    if text_eq f (codes "true") then Succeed else (if text_eq f (codes "fail") then Give_up else (if text_eq f (codes "false") then Give_up else Invoke))
+    if text_eq f (codes "true") then Succeed else
+    if text_eq f (codes "fail") then Give_up else
+    if text_eq f (codes "false") then Give_up else
+    if text_eq f (codes "!") then Commit else
+    Invoke
+
+-- a disjunction, whose first part may be a condition with what follows its success
+abbrev pub disjunction : Term Text → Term Text → Control
+disjunction (node f (arg c (arg t no_args))) b = if text_eq f (codes "->") then If c t b else Either (node f (arg c (arg t no_args))) b
+disjunction a b = Either a b
 
 abbrev pub control_of_pair : Text → Term Text → Term Text → Control
-control_of_pair f a b = if text_eq f (codes ",") then Both a b else Invoke
+control_of_pair f a b =
+    if text_eq f (codes ",") then Both a b else
+    if text_eq f (codes ";") then disjunction a b else
+    if text_eq f (codes "->") then If a b (atom (codes "fail")) else
+    Invoke
 
 abbrev pub control : Term Text → Control
 control (node f no_args) = control_of_atom f
@@ -92,11 +128,14 @@ abbrev pub Visitor : Type 0
 Visitor = List Item → Bindings Text → World → Visited
 
 -- what is left to do on backtracking, and after each other result, by a row of the walk that was entered:
--- an exit is redone; a box has further clauses; a box has no further alternative
+-- an exit is redone; a disjunction has a second branch; a box has further clauses; a box has no further alternative; a condition with this
+-- number has an else branch
 pub data Choice : Type 0 where
   Redo : ℕ → Term Text → Bindings Text → List Item → Choice
+  Branch : Term Text → Barrier → Bindings Text → List Item → Choice
   More : List Clause → ℕ → Term Text → Bindings Text → List Item → Choice
   Fail : ℕ → Term Text → Bindings Text → List Item → Choice
+  Condition : ℕ → Term Text → Barrier → Bindings Text → List Item → Choice
 
 -- a head that was unified with the goal, or not, or whose steps were not there
 abbrev pub matched : Visitor → Setup → Clause → ℕ → Term Text → List Item → World → Option (Result Text) → Visited
@@ -116,11 +155,24 @@ alternatives visit s [] k g σ J r w = gives r w
 alternatives visit s (c ∷ cs) k g σ J r w =
     on_failed (λ u. and_then (tries visit s c k g σ J u) (alternatives visit s cs k g σ J)) r w
 
+-- another branch: one step, and its goal
+abbrev pub branches : Visitor → Setup → Term Text → Barrier → Bindings Text → List Item → World → Visited
+branches visit s t m σ J w = spends s 1 w (visit (Goal t m ∷ J) σ)
+
+-- a condition that has no solution is followed by the else branch, also where a cut inside it left none; the cut that its success made ends here
+abbrev pub on_condition : ℕ → (World → Visited) → Verdict → World → Visited
+on_condition n h Failed w = h w
+on_condition n h (CutTo m) w = reaches (same_barrier m (Within n)) h (reaches (same_barrier m (Past n)) (gives Failed) (gives (CutTo m))) w
+on_condition n h Stopped w = gives Stopped w
+on_condition n h Spent w = gives Spent w
+
 -- what each kind of choice does after a result
 abbrev pub after : Visitor → Setup → Choice → Verdict → World → Visited
 after visit s (Redo k g σ J) r w = on_failed (λ u. shows port.Redo k g σ J u (gives Failed)) r w
+after visit s (Branch t m σ J) r w = on_failed (branches visit s t m σ J) r w
 after visit s (More cs k g σ J) r w = alternatives visit s cs k g σ J r w
-after visit s (Fail k g σ J) r w = on_failed (λ u. shows port.Fail k g σ J u (gives Failed)) r w
+after visit s (Fail k g σ J) r w = on_end (Call k) (λ u. shows port.Fail k g σ J u (gives Failed)) r w
+after visit s (Condition n t m σ J) r w = on_condition n (branches visit s t m σ J) r w
 
 -- a goal with a box: the next call number, the event call, its alternatives, and the event fail after them
 abbrev pub boxed : Visitor → Setup → Term Text → List Item → Bindings Text → World → Visited
@@ -129,10 +181,19 @@ boxed visit s g J σ w =
     shows port.Call k g σ J (record w { calls = k }) (λ u.
     and_then (alternatives visit s (procedure u.clauses g) k g σ J Failed u) (after visit s (Fail k g σ J)))
 
+-- the condition, the cut of its success and what follows it; on failure the else branch
+abbrev pub conditional : Visitor → Setup → Term Text → Term Text → Term Text → Barrier → List Item → Bindings Text → World → Visited
+conditional visit s c t e m J σ w =
+    let n : ℕ = w.conditions + 1 in
+    and_then (visit (Goal c (Within n) ∷ Cut (Past n) ∷ Goal t m ∷ J) σ (record w { conditions = n })) (after visit s (Condition n e m σ J))
+
 abbrev pub selected : Visitor → Setup → Control → Term Text → Barrier → List Item → Bindings Text → World → Visited
 selected visit s Succeed t m J σ w = visit J σ w
 selected visit s Give_up t m J σ w = gives Failed w
+selected visit s Commit t m J σ w = and_then (visit J σ w) (cut m)
 selected visit s (Both a b) t m J σ w = visit (Goal a m ∷ Goal b m ∷ J) σ w
+selected visit s (Either a b) t m J σ w = and_then (visit (Goal a m ∷ J) σ w) (after visit s (Branch b m σ J))
+selected visit s (If c a b) t m J σ w = conditional visit s c a b m J σ w
 selected visit s Invoke t m J σ w = boxed visit s t J σ w
 
 -- a solution, which ends the walk if it is the wanted one
@@ -146,9 +207,10 @@ unfoldable pub visit_with : Visitor → Setup → List Item → Bindings Text �
 visit_with visit s [] σ w = solved s σ w
 visit_with visit s (Exit k g ∷ J) σ w =
     shows port.Exit k g σ J w (λ u. and_then (visit_with visit s J σ u) (after visit s (Redo k g σ J)))
+visit_with visit s (Cut m ∷ J) σ w = and_then (visit_with visit s J σ w) (cut m)
 visit_with visit s (Goal t m ∷ J) σ w = spends s 1 w (selected visit s (control t) t m J σ)
 
--- the walk of at most so many steps in a row
+-- the walk, given up where it calls itself at a greater depth than this
 unfoldable pub visit_by : ℕ → Setup → List Item → Bindings Text → World → Visited
 visit_by zero s I σ w = gives Spent w
 visit_by (suc f) s I σ w = visit_with (visit_by f s) s I σ w

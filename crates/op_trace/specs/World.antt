@@ -1,8 +1,10 @@
 -- What a run is made of. Names are texts, as lists of bytes.
-use Rattle.std.specs.Prelude.{ℕ, ◌==◌, Bool, false, ◌&&◌, List, [], ◌∷◌, filter, bytes_eq}
+use Rattle.std.specs.Prelude.{◌≡◌, ◌⊎◌, ℕ, ◌==◌, Bool, false, ◌&&◌, List, [], ◌∷◌, filter, bytes_eq}
 use Rattle.op_logic.specs.Term.{Term, node, arity}
 use Rattle.op_logic.specs.Bind.{Bindings}
 use Rattle.op_trace.specs.declared.port.Port.{Port}
+use Rattle.op_trace.specs.declared.barrier.Barrier.{Barrier}
+use Rattle.op_trace.specs.declared.barrier.Barrier.TheVariants.{Call, Within, Past}
 
 abbrev pub Text : Type 0
 Text = List ℕ
@@ -25,9 +27,10 @@ pub record World : Type 0 where
   -- what the program has written, and how many bytes of its input it has looked at
   pub output : List ℕ
   pub looked : ℕ
-  -- how many variables and call numbers were given out
+  -- how many variables, call numbers and numbers of conditions were given out
   pub variables : ℕ
   pub calls : ℕ
+  pub conditions : ℕ
   -- how many steps were made, how many events and solutions were shown
   pub steps : ℕ
   pub events : ℕ
@@ -35,27 +38,38 @@ pub record World : Type 0 where
 
 -- the world of a program that was loaded and not run
 abbrev pub loaded : List Clause → World
-loaded cs = record { clauses = cs; output = []; looked = 0; variables = 0; calls = 0; steps = 0; events = 0; solutions = 0 }
+loaded cs = record { clauses = cs; output = []; looked = 0; variables = 0; calls = 0; conditions = 0; steps = 0; events = 0; solutions = 0 }
 
 -- what is fixed for a whole run: it may take so many steps, and ends at this solution (0: at none)
 pub record Setup : Type 0 where
   pub budget : ℕ
   pub wanted : ℕ
 
--- where a cut in a goal cuts to (7.8.4)
-pub data Barrier : Type 0 where
-  Call : ℕ → Barrier
+abbrev pub same_barrier : Barrier → Barrier → Bool
+same_barrier (Call a) (Call b) = a == b
+same_barrier (Within a) (Within b) = a == b
+same_barrier (Past a) (Past b) = a == b
+same_barrier _ _ = false
 
--- what is still to be done: a goal, or the exit of a box that was called with a goal
+-- what is still to be done: a goal, the cut of a condition that has succeeded, or the exit of a box that was called with a goal
 pub data Item : Type 0 where
   Goal : Term Text → Barrier → Item
+  Cut : Barrier → Item
   Exit : ℕ → Term Text → Item
 
 -- the call numbers of the boxes that are open, the innermost first
 abbrev pub open_boxes : List Item → List ℕ
 open_boxes [] = []
 open_boxes (Goal t m ∷ J) = open_boxes J
+open_boxes (Cut m ∷ J) = open_boxes J
 open_boxes (Exit k g ∷ J) = k ∷ open_boxes J
+
+-- a barrier of these items
+abbrev pub Has : Barrier → List Item → Type 0
+Has n [] = ⊥
+Has n (Goal t m ∷ J) = (n ≡ m) ⊎ Has n J
+Has n (Cut m ∷ J) = (n ≡ m) ⊎ Has n J
+Has n (Exit k g ∷ J) = Has n J
 
 -- an event of the box model: its place in the order of events, its box's call number, parent and depth, and the goal as the port shows it
 pub record Event : Type 0 where

@@ -2,11 +2,17 @@
 
 ghost use Rattle.std.specs.Prelude.{◌≡◌, ◌≤◌, List};
 ghost use Rattle.op_logic.specs.Bind.{Bindings};
-ghost use Rattle.op_trace.specs.World.{Text, World, Setup, Item};
-ghost use Rattle.op_trace.specs.Visit.{visit, visit_with};
+ghost use Rattle.op_trace.specs.declared.barrier.Barrier.{Barrier};
+ghost use Rattle.op_trace.specs.World.{Text, World, Setup, Item, Has};
+ghost use Rattle.op_trace.specs.Visit.{CutTo, visit, visit_with};
 
 /// The walk is what its rows say: how many steps are left decides nothing but where it is spent.
 pub fn visit_rows()
     ensures { (s : Setup) (I : List Item) (σ : Bindings Text) (w : World) → w.steps ≤ s.budget
         → visit s I σ w ≡ visit_with (visit s) s I σ w }
+{}
+
+/// A walk cuts to no barrier but those of its items.
+pub fn visit_cuts()
+    ensures { (s : Setup) (I : List Item) (σ : Bindings Text) (w : World) (m : Barrier) → (visit s I σ w).verdict ≡ CutTo m → Has m I }
 {}

@@ -1,7 +1,9 @@
 //! What a run of a program is: its worlds, the walk over its search tree, its turns and its ending, and the places in it.
 #![tactic(auto)]
 
+mod barrier;
 pub mod laws;
 mod port;
 
+pub use barrier::Barrier;
 pub use port::Port;

@@ -18,7 +18,7 @@ use Rattle.op_bind.specs.declared.places.Clause.{Clause as Rule}
 use Rattle.op_store.specs.declared.pi.Pi.{Pi}
 use Rattle.op_store.specs.Rows.{Rows, all_rules, IsRule, AreRows}
 use Rattle.op_store.specs.World.{Key, key, key_of, World, procedure_in}
-use Rattle.opium.specs.Runnable.{is_silent_name, is_silent, is_goal, is_conjunction, is_runnable, all_runnable}
+use Rattle.opium.specs.Runnable.{is_goal, is_connective_name, is_connective, is_runnable, all_runnable}
 
 -- a compound's procedure, and what is asked of a goal of it
 pub goal-struct : (w : World) (names : List Text) (t : Term ℕ) (f : Sym) (n : ℕ) → nodes.Struct f n ≡ head t
@@ -40,30 +40,30 @@ goal-struct w names (node g (arg a ts)) f n e =
     unsilent : (m : ℕ) → is_some (procedure_in w.procedures (key (name_at names g) (suc m))) ≡ is_goal w (Some (key (name_at names g) (suc m)))
     unsilent m = rw (never m) refl
 
--- a conjunction is a compound of two arguments with the name `,`
-pub conjunction-pair : (names : List Text) (t : Term ℕ) (f : Sym) (n : ℕ) → nodes.Struct f n ≡ head t → n ≡ 2 → text_eq (name_at names f.0) (codes ",") ≡ is_conjunction (named names t)
-conjunction-pair names (var v) f n e two = absurd cc
-conjunction-pair names (int i) f n e two = absurd cc
-conjunction-pair names (node g no_args) f n e two = absurd cc
-conjunction-pair names (node g (arg a no_args)) f n e two = let k : n ≡ 1 = cc in absurd (omega arith)
-conjunction-pair names (node g (arg a (arg b no_args))) f n e two = let s : f ≡ name g = cc in ap (λ (x : Sym). text_eq (name_at names x.0) (codes ",")) s
-conjunction-pair names (node g (arg a (arg b (arg c ts)))) f n e two = let k : n ≡ suc (suc (suc (arity ts))) = cc in absurd (omega arith)
+-- a connective is a compound of two arguments with the name `,`, `;` or `->`
+pub connective-pair : (names : List Text) (t : Term ℕ) (f : Sym) (n : ℕ) → nodes.Struct f n ≡ head t → n ≡ 2 → is_connective_name (name_at names f.0) ≡ is_connective (named names t)
+connective-pair names (var v) f n e two = absurd cc
+connective-pair names (int i) f n e two = absurd cc
+connective-pair names (node g no_args) f n e two = absurd cc
+connective-pair names (node g (arg a no_args)) f n e two = let k : n ≡ 1 = cc in absurd (omega arith)
+connective-pair names (node g (arg a (arg b no_args))) f n e two = let s : f ≡ name g = cc in ap (λ (x : Sym). is_connective_name (name_at names x.0)) s
+connective-pair names (node g (arg a (arg b (arg c ts)))) f n e two = let k : n ≡ suc (suc (suc (arity ts))) = cc in absurd (omega arith)
 
-pub conjunction-other : (names : List Text) (t : Term ℕ) (f : Sym) (n : ℕ) → nodes.Struct f n ≡ head t → n ≢ 2 → is_conjunction (named names t) ≡ false
-conjunction-other names (var v) f n e two = absurd cc
-conjunction-other names (int i) f n e two = absurd cc
-conjunction-other names (node g no_args) f n e two = absurd cc
-conjunction-other names (node g (arg a no_args)) f n e two = refl
-conjunction-other names (node g (arg a (arg b no_args))) f n e two = let k : n ≡ 2 = cc in absurd (two k)
-conjunction-other names (node g (arg a (arg b (arg c ts)))) f n e two = refl
+pub connective-other : (names : List Text) (t : Term ℕ) (f : Sym) (n : ℕ) → nodes.Struct f n ≡ head t → n ≢ 2 → is_connective (named names t) ≡ false
+connective-other names (var v) f n e two = absurd cc
+connective-other names (int i) f n e two = absurd cc
+connective-other names (node g no_args) f n e two = absurd cc
+connective-other names (node g (arg a no_args)) f n e two = refl
+connective-other names (node g (arg a (arg b no_args))) f n e two = let k : n ≡ 2 = cc in absurd (two k)
+connective-other names (node g (arg a (arg b (arg c ts)))) f n e two = refl
 
--- a conjunction's two parts
+-- a connective's two parts
 pub record Parts (w : World) (names : List Text) (t : Term ℕ) : Type 0 where
   pub two : arity (args_of t) ≡ 2
   pub run : is_runnable w (named names t) ≡ (is_runnable w (named names (nth_arg (args_of t) 0)) && is_runnable w (named names (nth_arg (args_of t) 1)))
   pub less : size (nth_arg (args_of t) 0) + size (nth_arg (args_of t) 1) < size t
 
-pub parts-of : (w : World) (names : List Text) (t : Term ℕ) → is_conjunction (named names t) ≡ true → Parts w names t
+pub parts-of : (w : World) (names : List Text) (t : Term ℕ) → is_connective (named names t) ≡ true → Parts w names t
 parts-of w names (var v) e = absurd cc
 parts-of w names (int i) e = absurd cc
 parts-of w names (node f no_args) e = absurd cc
@@ -75,7 +75,7 @@ parts-of w names (node f (arg a (arg b no_args))) e = record {
 }
 parts-of w names (node f (arg a (arg b (arg c ts)))) e = absurd cc
 
-pub part-names : (w : World) (names : List Text) (t : Term ℕ) (n : ℕ) → is_conjunction (named names t) ≡ true → HasNames n t
+pub part-names : (w : World) (names : List Text) (t : Term ℕ) (n : ℕ) → is_connective (named names t) ≡ true → HasNames n t
     → HasNames n (nth_arg (args_of t) 0) × HasNames n (nth_arg (args_of t) 1)
 part-names w names (var v) n e h = absurd cc
 part-names w names (int i) n e h = absurd cc
@@ -84,7 +84,7 @@ part-names w names (node f (arg a no_args)) n e h = absurd cc
 part-names w names (node f (arg a (arg b no_args))) n e h = (h.1.0, h.1.1.0)
 part-names w names (node f (arg a (arg b (arg c ts)))) n e h = absurd cc
 
-pub other-part : (w : World) (names : List Text) (t : Term ℕ) → is_conjunction (named names t) ≡ false → is_goal w (key_of (named names t)) ≡ is_runnable w (named names t)
+pub other-part : (w : World) (names : List Text) (t : Term ℕ) → is_connective (named names t) ≡ false → is_goal w (key_of (named names t)) ≡ is_runnable w (named names t)
 other-part w names (var v) e = refl
 other-part w names (int i) e = refl
 other-part w names (node f no_args) e = refl
@@ -116,23 +116,13 @@ and-turned true false = refl
 and-turned false true = refl
 and-turned false false = refl
 
-and-both : (a b c : Bool) → (a && ((b && c) && true)) ≡ (a && (c && (b && true)))
-and-both true true true = refl
-and-both true true false = refl
-and-both true false true = refl
-and-both true false false = refl
-and-both false true true = refl
-and-both false true false = refl
-and-both false false true = refl
-and-both false false false = refl
-
 -- the places that are left to be met
 module _ {A : Type 0} (w : World) (names : List Text) (term : A → Term ℕ) where
   abbrev pub shown : A → Term Text
   shown p = named names (term p)
 
-  -- a part that is no conjunction is met
-  pub met-one : (ps : List A) (p : A) (b : Bool) → is_conjunction (shown p) ≡ false → b ≡ is_goal w (key_of (shown p))
+  -- a part that is no connective is met
+  pub met-one : (ps : List A) (p : A) (b : Bool) → is_connective (shown p) ≡ false → b ≡ is_goal w (key_of (shown p))
       → all_runnable w (map shown (ps ++ p ∷ [])) ≡ (b && all_runnable w (map shown ps))
   met-one ps p b other e =
       ap (all_runnable w) (map-append shown ps (p ∷ []))
@@ -140,8 +130,8 @@ module _ {A : Type 0} (w : World) (names : List Text) (term : A → Term ℕ) wh
       ∙ and-turned (all_runnable w (map shown ps)) (is_runnable w (shown p))
       ∙ ap (λ (x : Bool). x && all_runnable w (map shown ps)) (sym (e ∙ other-part w names (term p) other))
 
-  -- a conjunction leaves its two parts
-  pub met-two : (ps qs rs : List A) (p a b : A) → is_conjunction (shown p) ≡ true → qs ≡ ps ++ b ∷ [] → rs ≡ qs ++ a ∷ []
+  -- a connective leaves its two parts
+  pub met-two : (ps qs rs : List A) (p a b : A) → is_connective (shown p) ≡ true → qs ≡ ps ++ b ∷ [] → rs ≡ qs ++ a ∷ []
       → term a ≡ nth_arg (args_of (term p)) 0 → term b ≡ nth_arg (args_of (term p)) 1
       → all_runnable w (map shown (ps ++ p ∷ [])) ≡ all_runnable w (map shown rs)
   met-two ps qs rs p a b pair eq er ea eb =
@@ -178,7 +168,7 @@ module _ {A : Type 0} (w : World) (names : List Text) (term : A → Term ℕ) wh
       let s = size-some (term p) in
       rw e (omega arith)
 
-  pub less-two : (ps qs rs : List A) (p a b : A) → is_conjunction (shown p) ≡ true → qs ≡ ps ++ b ∷ [] → rs ≡ qs ++ a ∷ []
+  pub less-two : (ps qs rs : List A) (p a b : A) → is_connective (shown p) ≡ true → qs ≡ ps ++ b ∷ [] → rs ≡ qs ++ a ∷ []
       → term a ≡ nth_arg (args_of (term p)) 0 → term b ≡ nth_arg (args_of (term p)) 1 → weight rs < weight (ps ++ p ∷ [])
   less-two ps qs rs p a b pair eq er ea eb =
       let parts = parts-of w names (term p) pair in

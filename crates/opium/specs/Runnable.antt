@@ -1,5 +1,5 @@
--- Which goals can be run by now. A body is a conjunction of parts, and each is `true`, `fail` or `false`, or its procedure is one of the
--- program: it has a clause, or it is dynamic. The other control constructs and the builtins have none (ISO/IEC 13211-1, 7.8 and 8).
+-- Which goals can be run by now. A body is made of parts by `,`, `;` and `->`, and each part is `true`, `fail`, `false` or `!`, or its
+-- procedure is one of the program: it has a clause, or it is dynamic. The builtins have none (ISO/IEC 13211-1, 7.8 and 8).
 use Rattle.std.specs.Prelude.{ℕ, ◌==◌, ◌||◌, ◌&&◌, Bool, true, false, List, [], ◌∷◌, Option, Some, None, is_some, codes, if◌then◌else◌}
 use Rattle.std.specs.List.{list_all}
 use Rattle.op_logic.specs.Term.{Term, var, int, node, Args, no_args, arg}
@@ -8,23 +8,27 @@ use Rattle.op_store.specs.World.{Key, key, key_of, World, procedure_in, clauses_
 
 -- the control constructs without parts that are run
 abbrev pub is_silent_name : Text → Bool
-is_silent_name f = text_eq f (codes "true") || (text_eq f (codes "fail") || text_eq f (codes "false"))
+is_silent_name f = text_eq f (codes "true") || (text_eq f (codes "fail") || (text_eq f (codes "false") || text_eq f (codes "!")))
 
 abbrev pub is_silent : Key → Bool
 is_silent k = (k.arity == 0) && is_silent_name k.name
 
--- a part that is no conjunction
+-- the control constructs of two parts
+abbrev pub is_connective_name : Text → Bool
+is_connective_name f = text_eq f (codes ",") || (text_eq f (codes ";") || text_eq f (codes "->"))
+
+-- a part that has no parts of its own
 abbrev pub is_goal : World → Option Key → Bool
 is_goal w None = false
 is_goal w (Some k) = is_silent k || is_some (procedure_in w.procedures k)
 
-abbrev pub is_conjunction : Term Text → Bool
-is_conjunction (node f (arg a (arg b no_args))) = text_eq f (codes ",")
-is_conjunction t = false
+abbrev pub is_connective : Term Text → Bool
+is_connective (node f (arg a (arg b no_args))) = is_connective_name f
+is_connective t = false
 
 -- a compound, by what holds of its arguments
 abbrev pub is_compound : World → Text → Args Text → List Bool → Bool
-is_compound w f ts (a ∷ b ∷ []) = if text_eq f (codes ",") then a && b else is_goal w (key_of (node f ts))
+is_compound w f ts (a ∷ b ∷ []) = if is_connective_name f then a && b else is_goal w (key_of (node f ts))
 is_compound w f ts bs = is_goal w (key_of (node f ts))
 
 abbrev mutual

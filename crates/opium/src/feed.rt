@@ -43,6 +43,7 @@ impl Feed {
         requires reads { IsReader commands }
         ensures feeds { Feeds (traced_by machine) at_start result }
         ensures steps { result.machine.steps ≡ 0 }
+        ensures machine { result.machine ≡ machine }
     {
         Feed {
             machine,

@@ -7,6 +7,8 @@ ghost use Rattle.std.specs.Prelude.{◌≡◌, ◌<◌};
 mod answer;
 mod call;
 mod command;
+#[cfg(test)]
+mod cuts;
 mod feed;
 mod line;
 mod runnable;

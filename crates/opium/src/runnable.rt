@@ -1,5 +1,4 @@
-ghost use Rattle.std.specs.Prelude.{◌≡◌, ◌<◌, ◌++◌, ◌∷◌, [], ◌&&◌, ℕ, List, length, map, All, sum_by, codes, IfOk, OnOk};
-ghost use Rattle.op_trace.specs.World.{text_eq};
+ghost use Rattle.std.specs.Prelude.{◌≡◌, ◌<◌, ◌++◌, ◌∷◌, [], ◌&&◌, ℕ, List, length, map, All, sum_by, IfOk, OnOk};
 ghost use Rattle.std.specs.List.{list_all};
 ghost use Rattle.op_bind.specs.declared.places.Clause.{Clause as Rule};
 ghost use Rattle.op_logic.specs.Term.{size};
@@ -7,7 +6,7 @@ ghost use Rattle.op_logic.specs.Names.{HasNames, named};
 ghost use Rattle.op_store.specs.World.{key_of};
 ghost use Rattle.op_store.specs.Stored.{world_of};
 ghost use Rattle.op_store.specs.Queries.{IsSoundGoal};
-ghost use Rattle.opium.specs.Runnable.{is_silent_name as the_silent, is_goal as the_goal, is_conjunction as the_conjunction, is_runnable, all_runnable, are_runnable as the_runnable};
+ghost use Rattle.opium.specs.Runnable.{is_silent_name as the_silent, is_goal as the_goal, is_connective_name as the_connective_name, is_connective as the_connective, is_runnable, all_runnable, are_runnable as the_runnable};
 
 use op_base::Memory;
 use op_store::{Goal, Pi, Snapshot, Store};
@@ -17,16 +16,16 @@ use std::alloc::Global;
 fn is_silent_name(name: &str) -> bool
     ensures { result ≡ the_silent name.now }
 {
-    name == "true" || name == "fail" || name == "false"
+    name == "true" || name == "fail" || name == "false" || name == "!"
 }
 
-fn is_comma(name: &str) -> bool
-    ensures { result ≡ text_eq name.now (codes ",") }
+fn is_connective_name(name: &str) -> bool
+    ensures { result ≡ the_connective_name name.now }
 {
-    name == ","
+    name == "," || name == ";" || name == "->"
 }
 
-// Whether a part that is no conjunction can be run.
+// Whether a part that has no parts of its own can be run.
 fn is_goal<T: Tree>(store: &Store, tree: &T, at: &T::At) -> bool
     requires place { T.IsPlace tree.now at.now }
     requires names { HasNames (length store.now.names) (T.term tree.now at.now) }
@@ -43,18 +42,19 @@ fn is_goal<T: Tree>(store: &Store, tree: &T, at: &T::At) -> bool
     }
 }
 
-fn is_conjunction<T: Tree>(store: &Store, tree: &T, at: &T::At) -> bool
+fn is_connective<T: Tree>(store: &Store, tree: &T, at: &T::At) -> bool
     requires place { T.IsPlace tree.now at.now }
     requires names { HasNames (length store.now.names) (T.term tree.now at.now) }
-    ensures { result ≡ the_conjunction (named store.now.names (T.term tree.now at.now)) }
+    ensures { result ≡ the_connective (named store.now.names (T.term tree.now at.now)) }
 {
     match tree.node(at) {
-        Node::Struct(name, arity) => arity == 2 && is_comma(store.symbols().name_of(name)),
+        Node::Struct(name, arity) => arity == 2
+            && is_connective_name(store.symbols().name_of(name)),
         _ => false,
     }
 }
 
-// A conjunction leaves its parts to be met; another part is looked at.
+// A control construct leaves its parts to be met; another part is looked at.
 fn meet<T: Tree>(store: &Store, tree: &T, at: T::At, todo: &mut Vec<T::At>) -> Result<bool, Memory>
     requires place { T.IsPlace tree.now at }
     requires names { HasNames (length store.now.names) (T.term tree.now at) }
@@ -64,7 +64,7 @@ fn meet<T: Tree>(store: &Store, tree: &T, at: T::At, todo: &mut Vec<T::At>) -> R
     ensures todo { OnOk result (All (λ p. T.IsPlace tree.now p × HasNames (length store.now.names) (T.term tree.now p)) todo.new.items) }
     ensures less { OnOk result (sum_by (λ p. size (T.term tree.now p)) todo.new.items < sum_by (λ p. size (T.term tree.now p)) (todo.old.items ++ at ∷ [])) }
 {
-    let pair = is_conjunction(store, tree, &at);
+    let pair = is_connective(store, tree, &at);
     if pair {
         todo.push(tree.part(&at, 1))?;
         todo.push(tree.part(&at, 0))?;

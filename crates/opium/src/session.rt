@@ -81,7 +81,34 @@ fn refuse_more<D: Desk>(desk: &mut D) -> Result<(), Status>
     say(desk, b"opium: too long commands\n")
 }
 
-// Answers the commands, one after the other, over the events of a machine that has made no step.
+// Answers the commands, one after the other, over the events of a feed at the start.
+fn answer_feed<D: Desk, L: Ledger>(
+    alloc: Global,
+    feed: &mut Feed,
+    cutter: &mut Cutter,
+    desk: &mut D,
+    steps: &mut Steps<L>,
+) -> Status
+    requires { Holds (traced_by feed.old.machine)
+        (sight (D.left desk.old) (D.written desk.old) (D.shelf desk.old) (D.steady desk.old) (D.read_faults desk.old) (D.write_faults desk.old))
+        (sight (D.left desk.old) (D.written desk.old) (D.shelf desk.old) (D.steady desk.old) (D.read_faults desk.old) (D.write_faults desk.old)) 0 steps.old steps.old cutter.old feed.old }
+    ensures { Leaves (Some (Session (traced_by feed.old.machine))) result
+        (sight (D.left desk.old) (D.written desk.old) (D.shelf desk.old) (D.steady desk.old) (D.read_faults desk.old) (D.write_faults desk.old))
+        (sight (D.left desk.new) (D.written desk.new) (D.shelf desk.new) (D.steady desk.new) (D.read_faults desk.new) (D.write_faults desk.new)) steps.old steps.new }
+{
+    for _ in 0..CHANNEL_LIMIT {
+        match answer_byte(alloc, feed, cutter, desk, steps) {
+            Ok(true) => {}
+            Ok(false) => {
+                return ended_as(Status::Done, answer_rest(alloc, feed, cutter, desk, steps));
+            }
+            Err(status) => return status,
+        }
+    }
+    ended_as(Status::TooLong, refuse_more(desk))
+}
+
+// Answers the commands over the events of a machine that has made no step.
 fn answer_all<D: Desk, L: Ledger>(
     alloc: Global,
     machine: Machine,
@@ -97,19 +124,7 @@ fn answer_all<D: Desk, L: Ledger>(
 {
     let mut feed = Feed::new(machine, commands);
     let mut cutter = Cutter::new(alloc);
-    for _ in 0..CHANNEL_LIMIT {
-        match answer_byte(alloc, &mut feed, &mut cutter, desk, steps) {
-            Ok(true) => {}
-            Ok(false) => {
-                return ended_as(
-                    Status::Done,
-                    answer_rest(alloc, &mut feed, &cutter, desk, steps),
-                );
-            }
-            Err(status) => return status,
-        }
-    }
-    ended_as(Status::TooLong, refuse_more(desk))
+    answer_feed(alloc, &mut feed, &mut cutter, desk, steps)
 }
 
 // The bytes from the first one that isn't layout.
@@ -139,8 +154,8 @@ fn begin(alloc: Global, store: Store, goal: Goal, budget: u64) -> Result<(Machin
     ensures steps { IfOk result (λ p. p.0.steps ≡ 0) }
     ensures reads { IfOk result (λ p. IsReader p.1) }
 {
-    let machine = Machine::start(alloc, store, &goal, budget, 1)?;
     let commands = Store::new(alloc, Locked::Analysis)?;
+    let machine = Machine::start(alloc, store, &goal, budget, 1)?;
     Ok((machine, commands))
 }
 

@@ -38,8 +38,8 @@ finish-requires g c =
     (root-is term c.args.known c.requires.body.0 c.requires.body.1.0 c.args.met.items c.back.made c.back.stack.items c.index-root.result.now c.index-root.ensures c.requires.body.1.1.0 c.requires.body.1.1.1 m).0
 
 pub returns : goal.returns
-returns g c = λ names t k e.
+returns g c = λ names b k e.
     let term = g.T.Tree.term c.args.tree.now in
     let empty = none-left c.back.met.items (omega (arith, c.in_default.ensures.cases.0, c.back.met.ok.0)) in
     let m = subst (λ (xs : List (BodyNode _)). IsMaking term c.args.known c.args.met.items xs c.back.made c.back.stack.items) empty c.back.invariant.making in
-    ap (named names) c.finish.ensures ∙ (root-is term c.args.known names t c.args.met.items c.back.made c.back.stack.items c.index-root.result.now c.index-root.ensures k e m).1
+    ap (named names) c.finish.ensures ∙ (root-is term c.args.known names b c.args.met.items c.back.made c.back.stack.items c.index-root.result.now c.index-root.ensures k e m).1

@@ -1,4 +1,4 @@
-use Rattle.std.proofs.Common.{◌≡◌, Bool, List, sym, ap, ◌∙◌, subst, All, IfOk, length, map}
+use Rattle.std.proofs.Common.{◌≡◌, Bool, sym, ap, ◌∙◌, subst, All, IfOk, length}
 use Rattle.std.specs.List.{list_all}
 use Rattle.op_logic.specs.Names.{HasNames, named}
 use Rattle.op_bind.specs.declared.places.Clause.{Clause as Rule}

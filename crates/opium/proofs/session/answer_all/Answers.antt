@@ -1,31 +1,15 @@
-use Rattle.std.proofs.Common.{◌≡◌, suc, ◌+◌, arith}
-use Rattle.opium.specs.Call.{channel_limit}
+use Rattle.std.proofs.Common.{sym, subst}
+use Rattle.op_machine.specs.Machine.{Kept}
+use Rattle.opium.specs.Moves.{at_start}
+use Rattle.opium.specs.Feeding.{Feeds, traced_by}
 use Rattle.opium.proofs.Holding.{holds_start}
-use Rattle.opium.proofs.Finishing.{leaves_broken, rest_leaves, limit_leaves}
 use Rattle.opium.proofs.session.answer_all.Goals as goal
 
-pub loop-init : goal.loop-init
-loop-init g c = rw c.new-cutter.ensures.empty (holds_start _ _ _ _ c.new-feed.ensures.feeds c.new-feed.ensures.steps)
-
-pub returns-in-Ok-false : goal.returns-in-Ok-false
-returns-in-Ok-false g c =
-    let e = rw c.in-Ok-false.field-0-test at (c.in-Ok-false.ensures _ _ _ _ c.loop.invariant) in
-    rw c.ended_as.ensures (rest_leaves _ _ _ _ _ c.answer_rest.result (c.answer_rest.ensures _ _ _ _ c.loop-test.true e.1 e.0))
-
-pub returns-in-Err : goal.returns-in-Err
-returns-in-Err g c = leaves_broken _ _ _ _ _ _ (c.in-Err.ensures _ _ _ _ c.loop.invariant)
+pub answer_feed-requires : goal.answer_feed-requires
+answer_feed-requires g c =
+    let feeds : Feeds (traced_by c.new-feed.result.machine) at_start c.new-feed.result =
+    subst (λ (m : Kept). Feeds (traced_by m) at_start c.new-feed.result) (sym c.new-feed.ensures.machine) c.new-feed.ensures.feeds in
+    rw c.new-cutter.ensures.empty (holds_start _ _ _ _ feeds c.new-feed.ensures.steps)
 
 pub returns : goal.returns
-returns g c =
-    let full : c.loop.counter ≡ channel_limit = omega (arith, c.loop-test.false, c.loop.auto.counter-end) in
-    rw c.ended_as-2.ensures (limit_leaves _ _ _ _ _ _ _ _ _ c.refuse_more.result full c.loop.invariant c.refuse_more.ensures)
-
-pub loop-preserved : goal.loop-preserved
-loop-preserved g c =
-    let next : suc c.loop.counter ≡ c.loop.counter + 1 = omega arith in
-    rw next at (rw c.in-Ok-true.field-0-test at (c.in-Ok-true.ensures _ _ _ _ c.loop.invariant))
-
-pub answer_rest-requires : goal.answer_rest-requires
-answer_rest-requires g c =
-    let e = rw c.in-Ok-false.field-0-test at (c.in-Ok-false.ensures _ _ _ _ c.loop.invariant) in
-    e.0.feeds.reads
+returns g c = rw c.new-feed.ensures.machine at c.answer_feed.ensures

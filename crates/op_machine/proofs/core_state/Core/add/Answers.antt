@@ -16,4 +16,4 @@ returns-clause-choices c =
 pub returns-clause-good : goal.returns-clause-good
 returns-clause-good c =
     let old : Core = c.args.self.now in
-    subst (λ (L : List (List Item)). IsGood (record old { lists = L })) (sym c.in_ok-add.ensures.ok) (added-good old c.args.item c.args.rest c.requires.good c.requires.item c.requires.there)
+    subst (λ (L : List (List Item)). IsGood (record old { lists = L })) (sym c.in_ok-add.ensures.ok) (added-good old c.args.item c.args.rest c.requires.good c.requires.item c.requires.there c.requires.entered)

@@ -1,33 +1,19 @@
-use Rattle.std.proofs.Common.{◌≡◌, ◌+◌, ℕ, List, length, sym, ap, ◌∙◌, subst, refl, arith}
-use Rattle.op_logic.specs.Term.{IsWithin, shift}
-use Rattle.op_logic.proofs.Shifting.{shift-none}
-use Rattle.op_bind.specs.State.{State}
-use Rattle.op_store.specs.declared.goal.Goal.{Goal}
-use Rattle.op_machine.specs.Core.{AreValues}
-use Rattle.op_machine.proofs.Beginning.{first-begun, first-sound, first-made}
+use Rattle.std.proofs.Common.{length, refl}
+use Rattle.op_machine.specs.declared.core_state.Core.{Core}
+use Rattle.op_machine.specs.declared.parts.Parts.{Parts}
+use Rattle.op_machine.proofs.Beginning.{core_of, first-core, first-begun, first-sound}
 use Rattle.op_machine.proofs.core_state.Core.begin.Goals as goal
-
-pub load-requires : goal.load-requires
-load-requires c =
-    let q : Goal = c.args.goal.now in
-    let first : c.in_ok-first.first ≡ 0 = c.in_ok-first.ensures.number ∙ ap (λ (s : State). s.count) c.new-bindings.ensures in
-    let count : c.load_values.new.bindings.count ≡ q.vars =
-    c.in_ok-values.ensures.count ∙ (ap (λ (s : State). s.count) c.in_ok-first.ensures.ok ∙ (ap (λ (s : State). s.count + q.vars) c.new-bindings.ensures ∙ omega arith)) in
-    subst (λ (n : ℕ). IsWithin n (shift c.in_ok-first.first q.body)) (sym count)
-    (subst (λ (k : ℕ). IsWithin q.vars (shift k q.body)) (sym first) (subst (IsWithin q.vars) (sym (shift-none q.body)) c.requires.goal.within))
 
 pub returns-clause-begun : goal.returns-clause-begun
 returns-clause-begun c =
-    first-begun _ c.args.goal.now c.in_ok-body.body (length c.args.store.names) c.args.budget c.args.wanted c.requires.goal
-    (first-made _ c.args.goal.now c.in_ok-body.body c.in_ok-first.first c.new-bindings.result c.fresh.new.self c.load_values.new.bindings c.mark-floor.result c.new-lists.result c.in_ok-items.items
-    c.new-bindings.ensures c.in_ok-first.ensures.number c.in_ok-first.ensures.ok c.in_ok-values.ensures.bound c.in_ok-values.ensures.count (subst (λ (ns : List (List ℕ × ℕ)). AreValues c.load_values.new.bindings.terms c.in_ok-values.values.items ns) c.in_ok-names.ensures c.in_ok-values.ensures.values)
-    c.mark-floor.ensures.mark c.in_ok-body.ensures.there c.in_ok-body.ensures.value c.in_ok-body.ensures.bound c.in_ok-body.ensures.count c.in_ok-body.ensures.grows
-    c.new-lists.ensures c.in_ok-items.ensures.number c.in_ok-items.ensures.ok c.new.ensures.items refl c.in_ok-names.ensures refl (refl, refl, refl, refl)) refl refl
+    let p : Parts = c.in_ok-parts.parts in
+    let core : Core = core_of c.args.store c.new.result p c.args.budget c.args.wanted in
+    first-begun core c.args.goal.now p.body (length c.args.store.names) c.args.budget c.args.wanted c.requires.goal
+    (first-core c.args.store c.new.result p c.args.goal.now c.args.budget c.args.wanted c.in_ok-parts.ensures c.new.ensures.choices c.new.ensures.boxes) refl refl
 
 pub returns-clause-sound : goal.returns-clause-sound
 returns-clause-sound c =
-    first-sound _ c.args.goal.now c.in_ok-body.body c.requires.goal
-    (first-made _ c.args.goal.now c.in_ok-body.body c.in_ok-first.first c.new-bindings.result c.fresh.new.self c.load_values.new.bindings c.mark-floor.result c.new-lists.result c.in_ok-items.items
-    c.new-bindings.ensures c.in_ok-first.ensures.number c.in_ok-first.ensures.ok c.in_ok-values.ensures.bound c.in_ok-values.ensures.count (subst (λ (ns : List (List ℕ × ℕ)). AreValues c.load_values.new.bindings.terms c.in_ok-values.values.items ns) c.in_ok-names.ensures c.in_ok-values.ensures.values)
-    c.mark-floor.ensures.mark c.in_ok-body.ensures.there c.in_ok-body.ensures.value c.in_ok-body.ensures.bound c.in_ok-body.ensures.count c.in_ok-body.ensures.grows
-    c.new-lists.ensures c.in_ok-items.ensures.number c.in_ok-items.ensures.ok c.new.ensures.items refl c.in_ok-names.ensures refl (refl, refl, refl, refl)) c.requires.limit
+    let p : Parts = c.in_ok-parts.parts in
+    let core : Core = core_of c.args.store c.new.result p c.args.budget c.args.wanted in
+    first-sound core c.args.goal.now p.body c.requires.goal
+    (first-core c.args.store c.new.result p c.args.goal.now c.args.budget c.args.wanted c.in_ok-parts.ensures c.new.ensures.choices c.new.ensures.boxes) c.requires.limit

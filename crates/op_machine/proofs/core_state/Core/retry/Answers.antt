@@ -1,7 +1,9 @@
-use Rattle.std.proofs.Common.{◌≡◌, ℕ, suc, ◌+◌, length, arith, sym, ap, subst, ◌∙◌}
+use Rattle.std.proofs.Common.{◌≡◌, ℕ, suc, ◌+◌, List, length, arith, sym, ap, subst, ◌∙◌}
 use Rattle.op_bind.specs.declared.places.Clause.{Clause as Rule}
 use Rattle.op_machine.specs.declared.core_state.Core.{Core}
 use Rattle.op_machine.specs.Core.{goal_now, bindings_now, items_now, choices_in}
+use Rattle.op_frames.specs.declared.boxes.BoxFrame.{BoxFrame}
+use Rattle.op_machine.specs.Boxes.{IsCalled}
 use Rattle.op_machine.specs.Program.{clauses_from, IsKnown}
 use Rattle.op_machine.specs.Resume.{with_more}
 use Rattle.op_machine.proofs.Rowing.{IfOk-then, retry-moved, retry-advances}
@@ -28,3 +30,10 @@ attempt-requires-clause-known c =
     let known : IsKnown (length c.args.self.now.store.names) r =
     subst (λ (q : Rule). IsKnown (length c.args.self.now.store.names) q) (sym c.clause.ensures) (c.requires.known c.args.next r c.requires.here) in
     subst (λ (x : Core). IsKnown (length x.store.names) r) (sym c.in_ok-push_more.ensures.rest) known
+
+pub attempt-requires-clause-called : goal.attempt-requires-clause-called
+attempt-requires-clause-called c =
+    let old : Core = c.args.self.now in
+    let mid : Core = c.push_more.new.self in
+    subst (λ (x : Core). IsCalled mid.frames.boxes x.calls x.lists c.args.call c.args.goal c.args.rest) (sym c.in_ok-push_more.ensures.rest)
+    (subst (λ (B : List BoxFrame). IsCalled B old.calls old.lists c.args.call c.args.goal c.args.rest) (sym c.in_ok-push_more.ensures.boxes) c.requires.called)

@@ -1,0 +1,16 @@
+//! What a machine keeps of a walk over a search tree: the boxes that were called, and the choices that are left.
+#![tactic(auto)]
+
+mod boxes;
+mod choice;
+mod frames;
+pub mod laws;
+mod open_boxes;
+
+pub use boxes::BoxFrame;
+pub use choice::{Choice, ChoiceKind};
+pub use frames::Frames;
+pub use open_boxes::OpenBoxes;
+
+#[cfg(test)]
+mod tests;

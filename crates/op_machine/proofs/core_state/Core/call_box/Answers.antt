@@ -1,0 +1,26 @@
+use Rattle.std.proofs.Common.{◌+◌, refl, sym, subst, arith}
+use Rattle.op_frames.specs.Frames.{Framed}
+use Rattle.op_frames.specs.declared.boxes.BoxFrame.{BoxFrame}
+use Rattle.op_machine.specs.declared.held.Held.{Held}
+use Rattle.op_machine.specs.declared.core_state.Core.{Core}
+use Rattle.op_machine.specs.Core.{IsGood}
+use Rattle.op_machine.specs.Boxes.{IsCalled}
+use Rattle.op_machine.proofs.Boxing.{pushed-called}
+use Rattle.op_machine.proofs.Adding.{called-good}
+use Rattle.op_machine.proofs.core_state.Core.call_box.Goals as goal
+
+pub push_box-requires : goal.push_box-requires
+push_box-requires c = record { rises = λ i d h. omega (arith, c.requires.good.boxes.numbers i d h) }
+
+pub returns-clause-called : goal.returns-clause-called
+returns-clause-called c =
+    let old : Core = c.args.self.now in
+    let b : BoxFrame = record { number = old.calls + 1; parent = c.parent-parent.result; goal = c.args.goal; mark = c.mark-mark.result } in
+    subst (λ (x : Framed Held). IsCalled x.boxes (old.calls + 1) old.lists (old.calls + 1) c.args.goal c.args.rest) (sym c.in_ok-push_box.ensures.ok)
+    (pushed-called old.frames.boxes old.calls old.lists b c.args.rest refl c.parent-parent.ensures c.requires.there c.requires.good.boxes)
+
+pub returns-clause-good : goal.returns-clause-good
+returns-clause-good c =
+    let old : Core = c.args.self.now in
+    let b : BoxFrame = record { number = old.calls + 1; parent = c.parent-parent.result; goal = c.args.goal; mark = c.mark-mark.result } in
+    subst (λ (x : Framed Held). IsGood (record old { calls = old.calls + 1; frames = x })) (sym c.in_ok-push_box.ensures.ok) (called-good old b c.requires.good refl)

@@ -1,0 +1,172 @@
+ghost use Rattle.std.specs.Prelude.{◌≡◌, ◌+◌, ◌<◌, ◌≤◌, ◌^◌, ◌∷◌, length, codes, IfOk, OnOk};
+ghost use Rattle.op_logic.specs.Term.{args_of, arity, nth_arg, atom};
+ghost use Rattle.op_term.specs.Places.{term_at};
+ghost use Rattle.op_trace.specs.declared.barrier.Barrier.TheVariants.{Within, Past};
+ghost use Rattle.op_trace.specs.World.{Goal, Cut};
+ghost use Rattle.op_trace.specs.Visit.{If, disjunction};
+ghost use Rattle.op_machine.specs.declared.core_state.Step.TheVariants as step;
+ghost use Rattle.op_machine.specs.Core.{world_in, level_in, items_now, goal_now, bindings_now, choices_in, IsGood, IsGoal};
+ghost use Rattle.op_machine.specs.Program.{goal_named};
+ghost use Rattle.op_machine.specs.Resume.{chosen};
+ghost use Rattle.op_machine.specs.Rows.{Keeps, Advances, branch_tried, either_before, condition_before};
+
+use crate::core_state::{Core, Mode, Step};
+use crate::kind::is_then;
+use crate::lists::Item;
+use op_base::Memory;
+use op_bind::Ref;
+use op_trace::Barrier;
+
+impl Core {
+    // A disjunction: a condition with an else branch, or two branches.
+    pub(crate) fn fork(&mut self, goal: Ref, barrier: Barrier, rest: u64) -> Result<(), Memory>
+        requires good { IsGood self.old }
+        requires there { rest < length self.old.lists }
+        requires goal { IsGoal (length self.old.store.names) self.old.bindings.terms goal }
+        requires two { arity (args_of (term_at self.old.bindings.terms goal)) ≡ 2 }
+        requires conditions { self.old.conditions < 2 ^ 63 }
+        ensures advances { OnOk result (Advances self.old self.new (chosen
+            (disjunction (goal_named self.old.store (nth_arg (args_of (term_at self.old.bindings.terms goal)) 0)) (goal_named self.old.store (nth_arg (args_of (term_at self.old.bindings.terms goal)) 1)))
+            (goal_now self.old goal) barrier (items_now self.old rest) (choices_in self.old) (bindings_now self.old) (world_in self.old)) step.Silent) }
+        ensures keeps { Keeps self.old self.new }
+    {
+        let first = self.bindings.argument(&goal, 0);
+        let second = self.bindings.argument(&goal, 1);
+        if is_then(&self.store, self.bindings.outline(&first)) {
+            let condition = self.bindings.argument(&first, 0);
+            let then = self.bindings.argument(&first, 1);
+            self.ask(condition, then, second, barrier, rest)
+        } else {
+            self.branch(first, second, barrier, rest)
+        }
+    }
+
+    // A condition without an else branch, which fails where it has no solution.
+    pub(crate) fn ask_alone(&mut self, goal: Ref, barrier: Barrier, rest: u64) -> Result<(), Memory>
+        requires good { IsGood self.old }
+        requires there { rest < length self.old.lists }
+        requires goal { IsGoal (length self.old.store.names) self.old.bindings.terms goal }
+        requires two { arity (args_of (term_at self.old.bindings.terms goal)) ≡ 2 }
+        requires conditions { self.old.conditions < 2 ^ 63 }
+        ensures advances { OnOk result (Advances self.old self.new (chosen
+            (If (goal_named self.old.store (nth_arg (args_of (term_at self.old.bindings.terms goal)) 0)) (goal_named self.old.store (nth_arg (args_of (term_at self.old.bindings.terms goal)) 1)) (atom (codes "fail")))
+            (goal_now self.old goal) barrier (items_now self.old rest) (choices_in self.old) (bindings_now self.old) (world_in self.old)) step.Silent) }
+        ensures keeps { Keeps self.old self.new }
+    {
+        let _names = self.store.symbols().count();
+        let condition = self.bindings.argument(&goal, 0);
+        let then = self.bindings.argument(&goal, 1);
+        self.ask(condition, then, self.failure, barrier, rest)
+    }
+
+    // Two branches: the first comes next, and the second is kept as a choice.
+    fn branch(&mut self, first: Ref, second: Ref, barrier: Barrier, rest: u64) -> Result<(), Memory>
+        requires good { IsGood self.old }
+        requires there { rest < length self.old.lists }
+        requires first { IsGoal (length self.old.store.names) self.old.bindings.terms first }
+        requires second { IsGoal (length self.old.store.names) self.old.bindings.terms second }
+        ensures advances { OnOk result (Advances self.old self.new (either_before self.old first second barrier rest) step.Silent) }
+        ensures keeps { Keeps self.old self.new }
+    {
+        self.push_branch(second, barrier, rest)?;
+        let items = self.add(
+            Item::Goal {
+                goal: first,
+                barrier,
+            },
+            rest,
+        )?;
+        self.mode = Mode::Forward { items };
+        Ok(())
+    }
+
+    // A condition comes next, and the cut of its success behind it; the else branch is kept as a choice.
+    fn ask(
+        &mut self,
+        condition: Ref,
+        then: Ref,
+        otherwise: Ref,
+        barrier: Barrier,
+        rest: u64,
+    ) -> Result<(), Memory>
+        requires good { IsGood self.old }
+        requires there { rest < length self.old.lists }
+        requires condition { IsGoal (length self.old.store.names) self.old.bindings.terms condition }
+        requires then { IsGoal (length self.old.store.names) self.old.bindings.terms then }
+        requires otherwise { IsGoal (length self.old.store.names) self.old.bindings.terms otherwise }
+        requires conditions { self.old.conditions < 2 ^ 63 }
+        ensures advances { OnOk result (Advances self.old self.new (condition_before self.old condition then otherwise barrier rest) step.Silent) }
+        ensures keeps { Keeps self.old self.new }
+    {
+        self.conditions += 1;
+        let number = self.conditions;
+        self.push_condition(number, otherwise, barrier, rest)?;
+        let items = self.add_condition(number, condition, then, barrier, rest)?;
+        self.mode = Mode::Forward { items };
+        Ok(())
+    }
+
+    // A condition with its number, the cut of its success and what follows it, before a list.
+    fn add_condition(
+        &mut self,
+        number: u64,
+        condition: Ref,
+        then: Ref,
+        barrier: Barrier,
+        rest: u64,
+    ) -> Result<u64, Memory>
+        requires good { IsGood self.old }
+        requires there { rest < length self.old.lists }
+        requires condition { IsGoal (length self.old.store.names) self.old.bindings.terms condition }
+        requires then { IsGoal (length self.old.store.names) self.old.bindings.terms then }
+        ensures within { IfOk result (λ n. n < length self.new.lists) }
+        ensures items { IfOk result (λ n. items_now self.new n
+            ≡ Goal (goal_now self.old condition) (Within number) ∷ Cut (Past number) ∷ Goal (goal_now self.old then) barrier ∷ items_now self.old rest) }
+        ensures choices { OnOk result (choices_in self.new ≡ choices_in self.old) }
+        ensures good { OnOk result (IsGood self.new) }
+        ensures rest { self.new ≡ record self.old { lists = self.new.lists } }
+    {
+        let tail = self.add(
+            Item::Goal {
+                goal: then,
+                barrier,
+            },
+            rest,
+        )?;
+        let cut = self.add(
+            Item::Cut {
+                barrier: Barrier::Past(number),
+            },
+            tail,
+        )?;
+        self.add(
+            Item::Goal {
+                goal: condition,
+                barrier: Barrier::Within(number),
+            },
+            cut,
+        )
+    }
+
+    // Another branch is tried: a step, and its goal.
+    pub(crate) fn try_branch(
+        &mut self,
+        goal: Ref,
+        barrier: Barrier,
+        rest: u64,
+    ) -> Result<Step, Memory>
+        requires good { IsGood self.old }
+        requires there { rest < length self.old.lists }
+        requires goal { IsGoal (length self.old.store.names) self.old.bindings.terms goal }
+        requires steps { self.old.steps ≤ self.old.budget }
+        ensures advances { IfOk result (Advances self.old self.new (branch_tried self.old goal barrier rest)) }
+        ensures keeps { Keeps self.old self.new }
+    {
+        if !self.spend() {
+            return Ok(Step::Silent);
+        }
+        let items = self.add(Item::Goal { goal, barrier }, rest)?;
+        self.mode = Mode::Forward { items };
+        Ok(Step::Silent)
+    }
+}

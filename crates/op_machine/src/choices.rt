@@ -1,0 +1,263 @@
+ghost use Rattle.std.specs.Prelude.{◌≡◌, ◌<◌, ◌≤◌, [], ◌∷◌, length, take, reverse, OnOk, IfNone, MatchOption};
+ghost use Rattle.op_trace.specs.Visit as visit;
+ghost use Rattle.op_machine.specs.Core.{level_in, items_now, goal_now, bindings_now, choices_in, choice_by, IsGood, IsGoal, IsKind};
+ghost use Rattle.op_machine.specs.Program.{clauses_from, AreKnown};
+ghost use Rattle.op_machine.specs.Resume.{keep, with_more};
+ghost use Rattle.op_machine.specs.Boxes.{IsCalled, IsTried};
+ghost use Rattle.op_machine.specs.Kept.{frame_stays, frame_goes, keep_frames};
+
+use crate::core_state::Core;
+use crate::held::Held;
+use op_base::Memory;
+use op_bind::Ref;
+use op_frames::{Choice, ChoiceKind};
+use op_store::Snapshot;
+use op_trace::Barrier;
+
+// Whether a cut to a barrier comes to a choice and keeps it.
+fn stays(choice: &Choice<Held>, barrier: Barrier) -> bool
+    ensures { result ≡ frame_stays choice.now barrier }
+{
+    match choice.kind {
+        ChoiceKind::Redo(_) => false,
+        ChoiceKind::Branch(_) => false,
+        ChoiceKind::More(_) => false,
+        ChoiceKind::Fail(call) => barrier.is(Barrier::Call(call)),
+        ChoiceKind::Condition(_) => barrier.is(Barrier::Within(choice.kept.condition)),
+        ChoiceKind::Catch(call) => barrier.is(Barrier::Call(call)),
+        ChoiceKind::Findall(call) => barrier.is(Barrier::Call(call)),
+    }
+}
+
+// Whether a cut to a barrier comes to a choice and drops it as the last.
+fn goes(choice: &Choice<Held>, barrier: Barrier) -> bool
+    ensures { result ≡ frame_goes choice.now barrier }
+{
+    match choice.kind {
+        ChoiceKind::Condition(_) => barrier.is(Barrier::Past(choice.kept.condition)),
+        _ => false,
+    }
+}
+
+// How many of some choices a cut to a barrier keeps.
+fn kept_by(choices: &[Choice<Held>], barrier: Barrier) -> u64
+    ensures within { result ≤ length choices.now }
+    ensures kept { reverse (take result choices.now) ≡ keep_frames barrier (reverse choices.now) }
+{
+    let mut n = choices.len();
+    while n > 0 {
+        if stays(&choices[n - 1], barrier) {
+            return n as u64;
+        }
+        if goes(&choices[n - 1], barrier) {
+            return n as u64 - 1;
+        }
+        n -= 1;
+    }
+    0
+}
+
+impl Core {
+    // A choice above the others, made now.
+    pub(crate) fn push(&mut self, kind: ChoiceKind, rest: u64, kept: Held) -> Result<(), Memory>
+        requires good { IsGood self.old }
+        requires there { rest < length self.old.lists }
+        requires goal { IsGoal (length self.old.store.names) self.old.bindings.terms kept.goal }
+        requires lists { kept.lists ≡ length self.old.lists }
+        requires kind { IsKind (length self.old.store.names) kind kept }
+        requires calls { kept.calls ≡ self.old.calls }
+        requires tried { IsTried self.old.frames.boxes self.old.lists kind kept rest }
+        ensures choices { OnOk result (choices_in self.new ≡ choice_by self.old.store (level_in self.old) kind kept rest ∷ choices_in self.old) }
+        ensures good { OnOk result (IsGood self.new) }
+        ensures rest { self.new ≡ record self.old { frames = self.new.frames } }
+        ensures boxes { self.new.frames.boxes ≡ self.old.frames.boxes }
+    {
+        let mark = self.bindings.mark();
+        self.frames.push_choice(Choice {
+            mark,
+            rest,
+            kind,
+            kept,
+        })?;
+        Ok(())
+    }
+
+    // The exit of a box is redone.
+    pub(crate) fn push_redo(&mut self, call: u64, goal: Ref, rest: u64) -> Result<(), Memory>
+        requires good { IsGood self.old }
+        requires there { rest < length self.old.lists }
+        requires goal { IsGoal (length self.old.store.names) self.old.bindings.terms goal }
+        ensures choices { OnOk result (choices_in self.new ≡ visit.Redo call (goal_now self.old goal) (bindings_now self.old) (items_now self.old rest) ∷ choices_in self.old) }
+        ensures good { OnOk result (IsGood self.new) }
+        ensures rest { self.new ≡ record self.old { frames = self.new.frames } }
+        ensures boxes { self.new.frames.boxes ≡ self.old.frames.boxes }
+    {
+        let lists = self.lists.len();
+        let calls = self.calls;
+        self.push(
+            ChoiceKind::Redo(call),
+            rest,
+            Held {
+                goal,
+                lists,
+                calls,
+                barrier: Barrier::Call(call),
+                condition: 0,
+                rules: None,
+                next: 0,
+            },
+        )
+    }
+
+    // A box has no further alternative.
+    pub(crate) fn push_fail(&mut self, call: u64, goal: Ref, rest: u64) -> Result<(), Memory>
+        requires good { IsGood self.old }
+        requires there { rest < length self.old.lists }
+        requires goal { IsGoal (length self.old.store.names) self.old.bindings.terms goal }
+        ensures choices { OnOk result (choices_in self.new ≡ visit.Fail call (goal_now self.old goal) (bindings_now self.old) (items_now self.old rest) ∷ choices_in self.old) }
+        ensures good { OnOk result (IsGood self.new) }
+        ensures rest { self.new ≡ record self.old { frames = self.new.frames } }
+        ensures boxes { self.new.frames.boxes ≡ self.old.frames.boxes }
+    {
+        let lists = self.lists.len();
+        let calls = self.calls;
+        self.push(
+            ChoiceKind::Fail(call),
+            rest,
+            Held {
+                goal,
+                lists,
+                calls,
+                barrier: Barrier::Call(call),
+                condition: 0,
+                rules: None,
+                next: 0,
+            },
+        )
+    }
+
+    // Clauses from one on are tried, where there are any.
+    pub(crate) fn push_more(
+        &mut self,
+        rules: &Snapshot,
+        next: u64,
+        call: u64,
+        goal: Ref,
+        rest: u64,
+    ) -> Result<(), Memory>
+        requires good { IsGood self.old }
+        requires there { rest < length self.old.lists }
+        requires goal { IsGoal (length self.old.store.names) self.old.bindings.terms goal }
+        requires known { AreKnown (length self.old.store.names) rules.now }
+        requires called { IsCalled self.old.frames.boxes self.old.calls self.old.lists call goal rest }
+        ensures choices { OnOk result (choices_in self.new ≡ with_more (clauses_from self.old.store rules.now next) call (goal_now self.old goal)
+            (bindings_now self.old) (items_now self.old rest) (choices_in self.old)) }
+        ensures good { OnOk result (IsGood self.new) }
+        ensures rest { self.new ≡ record self.old { frames = self.new.frames } }
+        ensures boxes { self.new.frames.boxes ≡ self.old.frames.boxes }
+    {
+        if next < rules.len() {
+            let rules = rules.copy()?;
+            let lists = self.lists.len();
+            let calls = self.calls;
+            let kept = Held {
+                goal,
+                lists,
+                calls,
+                barrier: Barrier::Call(call),
+                condition: 0,
+                rules: Some(rules),
+                next,
+            };
+            self.push(ChoiceKind::More(call), rest, kept)?;
+        }
+        Ok(())
+    }
+
+    // A second branch is tried.
+    pub(crate) fn push_branch(
+        &mut self,
+        goal: Ref,
+        barrier: Barrier,
+        rest: u64,
+    ) -> Result<(), Memory>
+        requires good { IsGood self.old }
+        requires there { rest < length self.old.lists }
+        requires goal { IsGoal (length self.old.store.names) self.old.bindings.terms goal }
+        ensures choices { OnOk result (choices_in self.new ≡ visit.Branch (goal_now self.old goal) barrier (bindings_now self.old) (items_now self.old rest) ∷ choices_in self.old) }
+        ensures good { OnOk result (IsGood self.new) }
+        ensures rest { self.new ≡ record self.old { frames = self.new.frames } }
+        ensures boxes { self.new.frames.boxes ≡ self.old.frames.boxes }
+    {
+        let lists = self.lists.len();
+        let calls = self.calls;
+        self.push(
+            ChoiceKind::Branch(rest),
+            rest,
+            Held {
+                goal,
+                lists,
+                calls,
+                barrier,
+                condition: 0,
+                rules: None,
+                next: 0,
+            },
+        )
+    }
+
+    // A condition has no solution, and its else branch is tried.
+    pub(crate) fn push_condition(
+        &mut self,
+        condition: u64,
+        goal: Ref,
+        barrier: Barrier,
+        rest: u64,
+    ) -> Result<(), Memory>
+        requires good { IsGood self.old }
+        requires there { rest < length self.old.lists }
+        requires goal { IsGoal (length self.old.store.names) self.old.bindings.terms goal }
+        ensures choices { OnOk result (choices_in self.new ≡ visit.Condition condition (goal_now self.old goal) barrier (bindings_now self.old) (items_now self.old rest) ∷ choices_in self.old) }
+        ensures good { OnOk result (IsGood self.new) }
+        ensures rest { self.new ≡ record self.old { frames = self.new.frames } }
+        ensures boxes { self.new.frames.boxes ≡ self.old.frames.boxes }
+    {
+        let lists = self.lists.len();
+        let calls = self.calls;
+        self.push(
+            ChoiceKind::Condition(rest),
+            rest,
+            Held {
+                goal,
+                lists,
+                calls,
+                barrier,
+                condition,
+                rules: None,
+                next: 0,
+            },
+        )
+    }
+
+    // The last choice, which is dropped.
+    pub(crate) fn pop(&mut self) -> Option<Choice<Held>>
+        ensures frames { MatchOption result (reverse self.old.frames.choices ≡ []) (λ f. reverse self.old.frames.choices ≡ f ∷ reverse self.new.frames.choices) }
+        ensures empty { IfNone result (reverse self.new.frames.choices ≡ []) }
+        ensures rest { self.new ≡ record self.old { frames = self.new.frames } }
+        ensures boxes { self.new.frames.boxes ≡ self.old.frames.boxes }
+    {
+        self.frames.pop_choice()
+    }
+
+    // A cut is made at once: what it drops is freed.
+    pub(crate) fn prune(&mut self, barrier: Barrier)
+        requires good { IsGood self.old }
+        ensures choices { choices_in self.new ≡ keep barrier (choices_in self.old) }
+        ensures good { IsGood self.new }
+        ensures rest { self.new ≡ record self.old { frames = self.new.frames } }
+        ensures boxes { self.new.frames.boxes ≡ self.old.frames.boxes }
+    {
+        let kept = kept_by(self.frames.choices(), barrier);
+        self.frames.cut_to(kept);
+    }
+}

@@ -1,0 +1,164 @@
+-- A walk cuts to no barrier but those of its items.
+use Rattle.std.proofs.Common.{◌≡◌, inl, inr, ◌⊎◌, ℕ, zero, suc, ◌+◌, ◌-◌, ◌==◌, nat_le, Bool, true, false, List, [], ◌∷◌, Option, Some, None, refl, sym, subst, ◌∙◌, ap, arith, if◌then◌else◌}
+use Rattle.std.proofs.lemmas.Bool.Decides.{nat_tests}
+use Rattle.op_logic.specs.Term.{Term, shift}
+use Rattle.op_logic.specs.Bind.{Bindings, unify, Solved as Result}
+use Rattle.op_trace.specs.declared.barrier.Barrier.{Barrier}
+use Rattle.op_trace.specs.declared.barrier.Barrier.TheVariants.{Call, Within, Past}
+use Rattle.op_trace.specs.World.{Text, text_eq, Clause, World, Setup, same_barrier, Item, Goal, Cut, Exit, Has, procedure}
+use Rattle.op_trace.specs.Visit.{Verdict, Failed, CutTo, Stopped, Spent, Visited, gives, on_failed, reaches, on_end, on_condition, cut, pays, Control, Succeed, Give_up, Commit, Both, Either, If, Invoke, control, is_true, entered, with_event, shows, Visitor, matched, tries, alternatives, branches, boxed, conditional, selected, visit_with, visit_by, visit}
+use Rattle.op_trace.specs.declared.port.Port.TheVariants as port
+
+abbrev pub Only : List Item → Verdict → Type 0
+Only I Failed = Unit {0}
+Only I (CutTo n) = Has n I
+Only I Stopped = Unit {0}
+Only I Spent = Unit {0}
+
+abbrev pub VisitsOnly : Visitor → Type 0
+VisitsOnly visit = (I : List Item) (σ : Bindings Text) (w : World) → Only I (visit I σ w).verdict
+
+pub only-of : (I J : List Item) (r : Verdict) → ((n : Barrier) → Has n I → Has n J) → Only I r → Only J r
+only-of I J Failed h o = tt
+only-of I J (CutTo n) h o = h n o
+only-of I J Stopped h o = tt
+only-of I J Spent h o = tt
+
+pub same-refl : (b : Barrier) → same_barrier b b ≡ true
+same-refl (Call n) = grind (arith, nat_tests)
+same-refl (Within n) = grind (arith, nat_tests)
+same-refl (Past n) = grind (arith, nat_tests)
+
+pub other : {A : Type 0} (x b : Barrier) → same_barrier x b ≡ false → (x ≡ b) ⊎ A → A
+other {A} x b e h = elim h [ inl s ↦ differ s | inr a ↦ a ]
+  where
+    differ : x ≡ b → A
+    differ s = let t : true ≡ false = sym (same-refl b) ∙ (ap (λ (y : Barrier). same_barrier y b) (sym s) ∙ e) in cc
+
+pub pays-only : (t : Bool) (s : Setup) (n : ℕ) (w : World) (h : World → Visited) (I : List Item)
+    → ((u : World) → Only I (h u).verdict) → Only I (pays t s n w h).verdict
+pays-only true s n w h I o = o _
+pays-only false s n w h I o = tt
+
+pub on_failed-only : (h : World → Visited) (r : Verdict) (w : World) (I : List Item)
+    → Only I r → ((u : World) → Only I (h u).verdict) → Only I (on_failed h r w).verdict
+on_failed-only h Failed w I o k = k w
+on_failed-only h (CutTo m) w I o k = o
+on_failed-only h Stopped w I o k = tt
+on_failed-only h Spent w I o k = tt
+
+pub cut-only : (m : Barrier) (J : List Item) (r : Verdict) (w : World) → Only J r → Only (Cut m ∷ J) (cut m r w).verdict
+cut-only m J Failed w o = inl refl
+cut-only m J (CutTo n) w o = inr o
+cut-only m J Stopped w o = tt
+cut-only m J Spent w o = tt
+
+-- a box ends the cuts to its own call
+pub on_end-only : (k : ℕ) (h : World → Visited) (J : List Item) (r : Verdict) (w : World)
+    → Only (Cut (Call k) ∷ J) r → ((u : World) → Only J (h u).verdict) → Only J (on_end (Call k) h r w).verdict
+on_end-only k h J Failed w o i = i w
+on_end-only k h J (CutTo x) w o i = go (same_barrier x (Call k)) refl
+  where
+    go : (b : Bool) → same_barrier x (Call k) ≡ b → Only J (reaches b h (gives (CutTo x)) w).verdict
+    go true e = i w
+    go false e = other x (Call k) e o
+on_end-only k h J Stopped w o i = tt
+on_end-only k h J Spent w o i = tt
+
+-- a condition ends the cuts to its own marks
+pub on_condition-only : (n : ℕ) (m : Barrier) (h : World → Visited) (J : List Item) (r : Verdict) (w : World)
+    → Only (Cut (Within n) ∷ Cut (Past n) ∷ Cut m ∷ J) r → ((u : World) → Only (Cut m ∷ J) (h u).verdict) → Only (Cut m ∷ J) (on_condition n h r w).verdict
+on_condition-only n m h J Failed w o i = i w
+on_condition-only n m h J (CutTo x) w o i = go (same_barrier x (Within n)) (same_barrier x (Past n)) refl refl
+  where
+    go : (a b : Bool) → same_barrier x (Within n) ≡ a → same_barrier x (Past n) ≡ b
+        → Only (Cut m ∷ J) (reaches a h (reaches b (gives Failed) (gives (CutTo x))) w).verdict
+    go true b d e = i w
+    go false true d e = tt
+    go false false d e = other x (Past n) e (other x (Within n) d o)
+on_condition-only n m h J Stopped w o i = tt
+on_condition-only n m h J Spent w o i = tt
+
+pub entered-only : (f : ℕ) (c : Clause) (k : ℕ) (g : Term Text) (J : List Item) (n : Barrier) → Has n (entered f c k g J) → Has n (Cut (Call k) ∷ J)
+entered-only f c k g J n = go (is_true c.body)
+  where
+    go : (b : Bool) → Has n (if b then Exit k g ∷ J else Goal (shift f c.body) (Call k) ∷ Exit k g ∷ J) → Has n (Cut (Call k) ∷ J)
+    go true h = inr h
+    go false h = h
+
+module _ (visit : Visitor) (s : Setup) (only : VisitsOnly visit) where
+  pub matched-only : (c : Clause) (k : ℕ) (g : Term Text) (J : List Item) (w : World) (o : Option (Result Text))
+      → Only (Cut (Call k) ∷ J) (matched visit s c k g J w o).verdict
+  matched-only c k g J w None = tt
+  matched-only c k g J w (Some (None, left)) = tt
+  matched-only c k g J w (Some (Some τ, left)) =
+      pays-only (nat_le (s.budget - left + c.variables) s.budget) s c.variables (record w { steps = s.budget - left })
+      (λ u. visit (entered w.variables c k g J) τ (record u { variables = u.variables + c.variables })) (Cut (Call k) ∷ J)
+      (λ u. only-of (entered w.variables c k g J) (Cut (Call k) ∷ J) _ (entered-only w.variables c k g J) (only (entered w.variables c k g J) τ _))
+
+  pub tries-only : (c : Clause) (k : ℕ) (g : Term Text) (σ : Bindings Text) (J : List Item) (w : World) → Only (Cut (Call k) ∷ J) (tries visit s c k g σ J w).verdict
+  tries-only c k g σ J w =
+      pays-only (nat_le (w.steps + 1) s.budget) s 1 w (λ u. matched visit s c k g J u (unify text_eq (s.budget - u.steps) σ ((g, shift u.variables c.head) ∷ []))) (Cut (Call k) ∷ J)
+      (λ u. matched-only c k g J u (unify text_eq (s.budget - u.steps) σ ((g, shift u.variables c.head) ∷ [])))
+
+  pub alternatives-only : (cs : List Clause) (k : ℕ) (g : Term Text) (σ : Bindings Text) (J : List Item) (r : Verdict) (w : World)
+      → Only (Cut (Call k) ∷ J) r → Only (Cut (Call k) ∷ J) (alternatives visit s cs k g σ J r w).verdict
+  alternatives-only [] k g σ J r w o = o
+  alternatives-only (c ∷ cs) k g σ J r w o =
+      on_failed-only _ r w (Cut (Call k) ∷ J) o
+      (λ u. alternatives-only cs k g σ J (tries visit s c k g σ J u).verdict (tries visit s c k g σ J u).world (tries-only c k g σ J u))
+
+  pub branches-only : (t : Term Text) (m : Barrier) (σ : Bindings Text) (J : List Item) (w : World) → Only (Cut m ∷ J) (branches visit s t m σ J w).verdict
+  branches-only t m σ J w = pays-only (nat_le (w.steps + 1) s.budget) s 1 w (visit (Goal t m ∷ J) σ) (Cut m ∷ J) (λ u. only (Goal t m ∷ J) σ u)
+
+  pub boxed-only : (g : Term Text) (J : List Item) (σ : Bindings Text) (w : World) → Only J (boxed visit s g J σ w).verdict
+  boxed-only g J σ w =
+      let k : ℕ = w.calls + 1 in
+      let v : Visited = alternatives visit s (procedure w.clauses g) k g σ J Failed (with_event (record w { calls = k })) in
+      on_end-only k (λ u. shows port.Fail k g σ J u (gives Failed)) J v.verdict v.world
+      (alternatives-only (procedure w.clauses g) k g σ J Failed (with_event (record w { calls = k })) tt) (λ u. tt)
+
+  pub conditional-only : (c t e : Term Text) (m : Barrier) (J : List Item) (σ : Bindings Text) (w : World) → Only (Cut m ∷ J) (conditional visit s c t e m J σ w).verdict
+  conditional-only c t e m J σ w =
+      let n : ℕ = w.conditions + 1 in
+      let v : Visited = visit (Goal c (Within n) ∷ Cut (Past n) ∷ Goal t m ∷ J) σ (record w { conditions = n }) in
+      on_condition-only n m (branches visit s e m σ J) J v.verdict v.world
+      (only (Goal c (Within n) ∷ Cut (Past n) ∷ Goal t m ∷ J) σ (record w { conditions = n })) (branches-only e m σ J)
+
+  pub selected-only : (q : Control) (t : Term Text) (m : Barrier) (J : List Item) (σ : Bindings Text) (w : World) → Only (Cut m ∷ J) (selected visit s q t m J σ w).verdict
+  selected-only Succeed t m J σ w = only-of J (Cut m ∷ J) (visit J σ w).verdict (λ n h. inr h) (only J σ w)
+  selected-only Give_up t m J σ w = tt
+  selected-only Commit t m J σ w = cut-only m J (visit J σ w).verdict (visit J σ w).world (only J σ w)
+  selected-only (Both a b) t m J σ w =
+      only-of (Goal a m ∷ Goal b m ∷ J) (Cut m ∷ J) (visit (Goal a m ∷ Goal b m ∷ J) σ w).verdict
+      (λ n h. elim h [ inl e ↦ inl e | inr k ↦ k ]) (only (Goal a m ∷ Goal b m ∷ J) σ w)
+  selected-only (Either a b) t m J σ w =
+      on_failed-only (branches visit s b m σ J) (visit (Goal a m ∷ J) σ w).verdict (visit (Goal a m ∷ J) σ w).world (Cut m ∷ J)
+      (only (Goal a m ∷ J) σ w) (branches-only b m σ J)
+  selected-only (If c a b) t m J σ w = conditional-only c a b m J σ w
+  selected-only Invoke t m J σ w = only-of J (Cut m ∷ J) (boxed visit s t J σ w).verdict (λ n h. inr h) (boxed-only t J σ w)
+
+  pub visit_with-only : VisitsOnly (visit_with visit s)
+  unfolding visit_with
+  visit_with-only [] σ w = go (w.solutions + 1 == s.wanted)
+    where
+      go : (b : Bool) → Only [] (if b then Stopped else Failed)
+      go true = tt
+      go false = tt
+  visit_with-only (Exit k g ∷ J) σ w =
+      let v : Visited = visit_with visit s J σ (with_event w) in
+      on_failed-only (λ u. shows port.Redo k g σ J u (gives Failed)) v.verdict v.world J (visit_with-only J σ (with_event w)) (λ u. tt)
+  visit_with-only (Cut m ∷ J) σ w = cut-only m J (visit_with visit s J σ w).verdict (visit_with visit s J σ w).world (visit_with-only J σ w)
+  visit_with-only (Goal t m ∷ J) σ w = pays-only (nat_le (w.steps + 1) s.budget) s 1 w (selected visit s (control t) t m J σ) (Cut m ∷ J) (λ u. selected-only (control t) t m J σ u)
+
+pub visit_by-only : (f : ℕ) (s : Setup) → VisitsOnly (visit_by f s)
+unfolding visit_by
+visit_by-only zero s I σ w = tt
+visit_by-only (suc f) s I σ w = visit_with-only (visit_by f s) s (visit_by-only f s) I σ w
+
+pub visit-only : (s : Setup) → VisitsOnly (visit s)
+unfolding visit
+visit-only s I σ w = visit_by-only (suc (s.budget - w.steps)) s I σ w
+
+pub visit_cuts : (s : Setup) (I : List Item) (σ : Bindings Text) (w : World) (m : Barrier) → (visit s I σ w).verdict ≡ CutTo m → Has m I
+visit_cuts s I σ w m e = subst (Only I) e (visit-only s I σ w)

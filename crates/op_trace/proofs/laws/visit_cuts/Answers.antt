@@ -1,0 +1,5 @@
+use Rattle.op_trace.proofs.Only.{visit_cuts}
+use Rattle.op_trace.proofs.laws.visit_cuts.Goals as goal
+
+pub returns : goal.returns
+returns c = visit_cuts
