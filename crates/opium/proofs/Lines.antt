@@ -1,5 +1,5 @@
 -- The line of an event, put together from its parts.
-use Rattle.std.proofs.Common.{◌≡◌, ℕ, false, List, ◌++◌, decimal, refl, sym, ap, ◌∙◌, append_assoc}
+use Rattle.std.proofs.Common.{◌≡◌, ℕ, false, List, ◌++◌, decimal, sym, ap, ◌∙◌, append_assoc}
 use Rattle.op_term.specs.Ops.{Table}
 use Rattle.op_writer.specs.Cut.{short}
 use Rattle.op_trace.specs.World.{Event}

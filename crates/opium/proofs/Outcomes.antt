@@ -1,7 +1,6 @@
 -- The outcome of a call, step by step.
-use Rattle.std.proofs.Common.{◌≡◌, ◌||◌, ℕ, suc, ◌<◌, ◌≤◌, true, false, Bool, cond, drop, List, [], ◌∷◌, length, codes, Option, Some, None, option_map, Result, Ok, Err, IsTrue, refl, sym, ap, ◌∙◌, subst, arith, IsSomeAnd}
-use Rattle.std.specs.Prelude.{nat_lt, option_and_then, bytes_eq}
-use Rattle.std.specs.List.{list_any}
+use Rattle.std.proofs.Common.{◌≡◌, ℕ, ◌<◌, ◌≤◌, true, false, Bool, cond, drop, List, [], ◌∷◌, length, codes, Option, Some, None, option_map, Result, Ok, Err, IsTrue, refl, sym, ap, ◌∙◌, subst, arith, IsSomeAnd}
+use Rattle.std.specs.Prelude.{nat_lt}
 use Rattle.std.proofs.lemmas.Bool.Decides.{nat_tests}
 use Rattle.op_desk.specs.Contents.{Known, Files, bytes_of, IsFile, IsLonger, IsMissing}
 use Rattle.op_store.specs.declared.locked.Locked.TheVariants.{Program}
@@ -29,11 +28,10 @@ use Rattle.opium.specs.declared.status.Status.{Status}
 use Rattle.opium.specs.declared.status.Status.TheVariants as status
 use Rattle.opium.specs.Words.{fault_words, load_line}
 use Rattle.opium.specs.Runnable.{is_runnable, are_runnable}
-use Rattle.opium.specs.Traced.{Traced}
-use Rattle.opium.specs.Call.{Outcome, Line, Session, file_limit, first_world, traced_of, refused, unrunnable, goal_name, with_bytes, with_loaded, with_world, with_goal, with_query, outcome_of, long_line}
+use Rattle.opium.specs.Call.{Outcome, Line, Session, file_limit, first_world, traced_of, unrunnable, goal_name, with_bytes, with_loaded, with_world, with_goal, with_query, outcome_of, long_line}
 use Rattle.opium.specs.Promise.{WhenTold, IsBroken, IsRefused, IsFaultless, IsWordsRefusal, HasFile, DoneAs, CostsAs, RefusedAs, TooLongAs, BrokenAs}
 use Rattle.opium.proofs.Leaving.{retell, leaves_usage, leaves_memory, leaves_load}
-use Rattle.opium.specs.Progress.{Leaves, IsOutcome, IsUsage}
+use Rattle.opium.specs.Progress.{Leaves, IsOutcome}
 use Rattle.opium.specs.Sight.{Sight, Says, Unread, Untouched, ended_as}
 
 abbrev pub told_outcome : Option Files → List ℕ → List ℕ → Option Outcome

@@ -1,23 +1,22 @@
 -- Which goals can be run, by their outermost nodes, and a walk over the parts of a body.
-use Rattle.std.proofs.Common.{◌≡◌, ◌≢◌, ℕ, zero, suc, ◌+◌, ◌<◌, ◌≤◌, ◌==◌, ◌||◌, ◌&&◌, Bool, true, false, List, [], ◌∷◌, ◌++◌, map, Option, Some, None, is_some, codes, refl, sym, ap, ◌∙◌, subst, arith, sum_by, cond, All}
+use Rattle.std.proofs.Common.{◌≡◌, ◌≢◌, ℕ, suc, ◌+◌, ◌<◌, ◌==◌, ◌&&◌, Bool, true, false, List, [], ◌∷◌, ◌++◌, map, Some, is_some, refl, sym, ap, ◌∙◌, arith, sum_by, All}
 use Rattle.std.proofs.lemmas.Bool.Decides.{nat_tests}
 use Rattle.std.proofs.lemmas.List.{map-append}
 use Rattle.std.proofs.lemmas.List.Folds.{list_all-append}
 use Rattle.std.proofs.lemmas.List.Sums.{sum_by-append}
 use Rattle.std.proofs.lemmas.List.Elements.{All-append}
 use Rattle.std.specs.List.{list_all}
-use Rattle.op_logic.specs.Term.{Term, var, int, node, Args, no_args, arg, args_of, nth_arg, arity, size, args_size}
+use Rattle.op_logic.specs.Term.{Term, var, int, node, no_args, arg, args_of, nth_arg, arity, size}
 use Rattle.op_logic.specs.Names.{name_at, named, HasNames}
 use Rattle.op_logic.proofs.Renaming.{arity-rename}
 use Rattle.op_term.specs.Head.{head, sym as name}
 use Rattle.op_term.specs.declared.symbols.Sym.{Sym}
-use Rattle.op_term.specs.declared.node.Node.{Node}
 use Rattle.op_term.specs.declared.node.Node.TheVariants as nodes
-use Rattle.op_trace.specs.World.{Text, text_eq}
+use Rattle.op_trace.specs.World.{Text}
 use Rattle.op_bind.specs.declared.places.Clause.{Clause as Rule}
 use Rattle.op_store.specs.declared.pi.Pi.{Pi}
 use Rattle.op_store.specs.Rows.{Rows, all_rules, IsRule, AreRows}
-use Rattle.op_store.specs.World.{Key, key, key_of, World, procedure_in}
+use Rattle.op_store.specs.World.{key, key_of, World, procedure_in}
 use Rattle.opium.specs.Runnable.{is_goal, is_connective_name, is_connective, is_runnable, all_runnable}
 
 -- a compound's procedure, and what is asked of a goal of it

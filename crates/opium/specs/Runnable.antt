@@ -1,10 +1,10 @@
 -- Which goals can be run by now. A body is made of parts by `,`, `;` and `->`, and each part is `true`, `fail`, `false` or `!`, or its
 -- procedure is one of the program: it has a clause, or it is dynamic. The builtins have none (ISO/IEC 13211-1, 7.8 and 8).
-use Rattle.std.specs.Prelude.{ℕ, ◌==◌, ◌||◌, ◌&&◌, Bool, true, false, List, [], ◌∷◌, Option, Some, None, is_some, codes, if◌then◌else◌}
+use Rattle.std.specs.Prelude.{◌==◌, ◌||◌, ◌&&◌, Bool, false, List, [], ◌∷◌, Option, Some, None, is_some, codes, if◌then◌else◌}
 use Rattle.std.specs.List.{list_all}
 use Rattle.op_logic.specs.Term.{Term, var, int, node, Args, no_args, arg}
 use Rattle.op_trace.specs.World.{Text, text_eq, Clause}
-use Rattle.op_store.specs.World.{Key, key, key_of, World, procedure_in, clauses_of_world}
+use Rattle.op_store.specs.World.{Key, key_of, World, procedure_in, clauses_of_world}
 
 -- the control constructs without parts that are run
 abbrev pub is_silent_name : Text → Bool

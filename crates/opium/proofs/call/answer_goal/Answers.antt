@@ -1,9 +1,9 @@
-use Rattle.std.proofs.Common.{◌≡◌, ◌∙◌, ap, sym, length, Err, Ok, List, ℕ, subst, Result}
-use Rattle.op_store.specs.Load.{goal_of, Query, Found}
+use Rattle.std.proofs.Common.{◌≡◌, ◌∙◌, ap, sym, length, Err, Ok, List, ℕ, subst}
+use Rattle.op_store.specs.Load.{goal_of}
 use Rattle.op_store.specs.World.{World}
 use Rattle.op_store.specs.Stored.{world_of}
 use Rattle.op_store.specs.Queries.{query_named, TellsGoal}
-use Rattle.opium.specs.Call.{with_goal, with_query}
+use Rattle.opium.specs.Call.{with_query}
 use Rattle.opium.proofs.Outcomes.{outcome_goal, renamed, goal-sound, goal-refused}
 use Rattle.opium.proofs.call.answer_goal.Goals as goal
 

@@ -1,4 +1,4 @@
-use Rattle.std.proofs.Common.{◌≡◌, false, ◌∙◌, sym}
+use Rattle.std.proofs.Common.{◌∙◌, sym}
 use Rattle.op_store.specs.Stored.{world_of}
 use Rattle.opium.proofs.Leaving.{leaves_memory, leaves_load, untouched_start}
 use Rattle.opium.proofs.Outcomes.{outcome_unrunnable, renamed}

@@ -1,4 +1,4 @@
-use Rattle.std.proofs.Common.{◌≡◌, Some, ap}
+use Rattle.std.proofs.Common.{ap}
 use Rattle.op_store.specs.Load.{load_text}
 use Rattle.op_store.specs.Stored.{Stored, world_of}
 use Rattle.opium.specs.Call.{with_loaded}

@@ -1,4 +1,4 @@
-use Rattle.std.proofs.Common.{◌≡◌, ◌++◌, List, ℕ, false, sym, ap, ◌∙◌, subst, OnOk}
+use Rattle.std.proofs.Common.{◌≡◌, List, ℕ, false, sym, ap, ◌∙◌, subst, OnOk}
 use Rattle.op_logic.specs.Term.{Term}
 use Rattle.op_logic.specs.Names.{named}
 use Rattle.op_bind.specs.State.{State, value_of}

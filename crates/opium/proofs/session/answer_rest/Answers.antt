@@ -1,6 +1,5 @@
 use Rattle.std.proofs.Common.{sym, ap, ◌∙◌}
 use Rattle.opium.specs.Session.{from_first}
-use Rattle.opium.specs.Progress.{Ends}
 use Rattle.opium.proofs.session.answer_rest.Goals as goal
 use Rattle.opium.proofs.Finishing.{rest_ends, text_rest, no_end_rest, ends_empty}
 

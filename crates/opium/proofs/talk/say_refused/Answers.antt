@@ -1,4 +1,4 @@
-use Rattle.std.proofs.Common.{◌∙◌, ap, List, ℕ}
+use Rattle.std.proofs.Common.{◌∙◌, ap}
 use Rattle.opium.specs.Words.{load_line}
 use Rattle.opium.proofs.Outcomes.{says_as}
 use Rattle.opium.proofs.talk.say_refused.Goals as goal
