@@ -13,6 +13,3 @@ mod unify;
 pub use bindings::Bindings;
 pub use laws::{growth_joins, marks_nest, terms_stay, undone_is_then};
 pub use places::{Clause, Mark, Ref, Unified};
-
-#[cfg(test)]
-mod tests;

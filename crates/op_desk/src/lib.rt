@@ -13,8 +13,6 @@ mod shelf;
 mod source;
 mod sources;
 mod stream;
-#[cfg(test)]
-mod tests;
 mod whole;
 
 pub use bytes::Bytes;

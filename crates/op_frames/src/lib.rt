@@ -11,6 +11,3 @@ pub use boxes::BoxFrame;
 pub use choice::{Choice, ChoiceKind};
 pub use frames::Frames;
 pub use open_boxes::OpenBoxes;
-
-#[cfg(test)]
-mod tests;

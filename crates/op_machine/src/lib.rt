@@ -22,6 +22,3 @@ pub use core_state::Ending;
 pub use machine::{Host, Machine};
 pub use turn::{Cause, MachineFault, Turn};
 pub use view::{EventView, SolutionView};
-
-#[cfg(test)]
-mod tests;

@@ -132,10 +132,11 @@ impl Machine {
         &self.core.store
     }
 
-    // How many choices are kept.
-    #[cfg(test)]
-    pub(crate) fn kept_choices(&self) -> usize {
-        self.core.frames.choices().len()
+    /// How many choice points are kept: what backtracking could still go back to.
+    pub fn choice_points(&self) -> u64
+        ensures { result ≡ length self.now.frames.choices }
+    {
+        self.core.frames.choices().len() as u64
     }
 
     /// The event that was the last turn; None where the last turn was no event or a fault was answered.

@@ -30,8 +30,3 @@ pub use fault::{ReadFault, ReadFaultKind};
 pub use names::Names;
 pub use quotes::DoubleQuotes;
 pub use term_reader::{Read, Reading, read_term};
-
-#[cfg(test)]
-mod read_tests;
-#[cfg(test)]
-mod row_tests;

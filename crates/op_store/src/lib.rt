@@ -51,10 +51,3 @@ pub use locked::Locked;
 pub use pi::Pi;
 pub use snapshot::Snapshot;
 pub use store::Store;
-
-#[cfg(test)]
-mod body_tests;
-#[cfg(test)]
-mod load_tests;
-#[cfg(test)]
-mod tests;

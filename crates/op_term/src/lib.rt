@@ -17,6 +17,3 @@ pub use ops::{Meaning, OpFault, OpKind, Ops};
 pub use symbols::{Sym, Symbols};
 pub use term::{Term, Whole};
 pub use walk::WalkFault;
-
-#[cfg(test)]
-mod tests;

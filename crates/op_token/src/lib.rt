@@ -16,8 +16,6 @@ mod quoted;
 mod scanner;
 mod set;
 mod spelling;
-#[cfg(test)]
-mod tests;
 mod token;
 mod unquote;
 mod walk;

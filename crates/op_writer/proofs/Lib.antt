@@ -6,4 +6,3 @@ mod Expanding
 mod Fronts
 mod Quotes
 mod Cutting
-mod Named

@@ -4,5 +4,4 @@ pub mod Pieces
 pub mod Text
 pub mod Cut
 pub mod Stack
-pub mod Named
 pub mod Examples

@@ -23,8 +23,3 @@ mod written;
 pub use fault::TextFault;
 pub use style::Style;
 pub use text::{write_cut, write_text};
-
-#[cfg(test)]
-mod sample;
-#[cfg(test)]
-mod tests;

@@ -4,25 +4,9 @@
 
 ghost use Rattle.std.specs.Prelude.{◌≡◌, ◌<◌};
 
-mod answer;
-mod call;
-mod command;
-#[cfg(test)]
-mod cuts;
-mod feed;
-mod line;
-mod runnable;
-mod session;
-mod status;
-mod talk;
-#[cfg(test)]
-mod tests;
-mod words;
-
-use call::opium;
 use op_base::Steps;
 use op_desk::FileDesk;
-use status::Status;
+use op_session::{Status, opium};
 use std::marker::Brand;
 use std::process::ExitCode;
 use std::sync::ledger::{Blank, Ledger};

@@ -1,0 +1,104 @@
+ghost use Rattle.std.specs.Prelude.{◌≡◌, ◌<◌, length, IfOk};
+ghost use Rattle.op_logic.specs.Term.{IsWithin};
+
+use crate::show::shown;
+use op_base::Memory;
+use op_bind::{Bindings, Ref, Unified};
+use op_store::{Goal, Locked, Store};
+use op_term::{Fuel, Node, Symbols, WalkFault};
+use std::alloc::Global;
+
+// Adds a value by the steps that are left, and how many are left then.
+fn add_value(
+    alloc: Global,
+    line: &mut String,
+    symbols: &Symbols,
+    bindings: &Bindings,
+    value: &Ref,
+    fuel: &mut Fuel,
+) -> Result<(), Memory>
+    requires { value.now < length bindings.now.terms }
+{
+    match bindings.resolve(value, fuel) {
+        Ok(term) => {
+            line.push_str(" ")?;
+            let text = shown(alloc, symbols, &term)?;
+            line.push_str(if text.len() <= 200 {
+                text.as_str()
+            } else {
+                "..."
+            })?;
+        }
+        Err(WalkFault::Spent) => line.push_str(" spent")?,
+        Err(WalkFault::Memory) => return Err(Memory),
+    }
+    let left = fuel.left();
+    write!(line, " {left}")?;
+    Ok(())
+}
+
+// Unifies the two arguments of an equation: the answer, the steps left, the equation's value, the steps left, and its value once the
+// bindings are undone.
+fn unify_arguments(
+    alloc: Global,
+    symbols: &Symbols,
+    bindings: &mut Bindings,
+    equation: &Ref,
+    fuel: &mut Fuel,
+) -> Result<String, Memory>
+    requires { equation.now < length bindings.old.terms }
+{
+    let mut line = String::new(alloc);
+    let Node::Struct(_, 2) = bindings.outline(equation) else {
+        return Ok(String::from_str(alloc, "no equation")?);
+    };
+    let left = bindings.argument(equation, 0);
+    let right = bindings.argument(equation, 1);
+    let mark = bindings.mark();
+    match bindings.unify(&left, &right, fuel) {
+        Ok(Unified::Yes) => line.push_str("yes ")?,
+        Ok(Unified::No) => line.push_str("no ")?,
+        Err(WalkFault::Spent) => line.push_str("spent ")?,
+        Err(WalkFault::Memory) => return Err(Memory),
+    }
+    let steps = fuel.left();
+    write!(line, "{steps}")?;
+    add_value(alloc, &mut line, symbols, bindings, equation, fuel)?;
+    bindings.undo_to(mark);
+    add_value(
+        alloc,
+        &mut line,
+        symbols,
+        bindings,
+        equation,
+        &mut Fuel::new(100),
+    )?;
+    Ok(line)
+}
+
+// The bindings of a goal's variables, all of them unbound, and the goal in them.
+fn begun(alloc: Global, goal: &Goal) -> Result<(Bindings, Ref), Memory>
+    requires { IsWithin goal.now.vars goal.now.body }
+    ensures { IfOk result (λ p. p.1 < length p.0.terms) }
+{
+    let mut bindings = Bindings::new(alloc);
+    let first = bindings.fresh(goal.vars)?;
+    let at = bindings.load(&goal.body, first)?;
+    Ok((bindings, at))
+}
+
+fn unify_goal(alloc: Global, symbols: &Symbols, goal: &Goal, steps: u64) -> Result<String, Memory>
+    requires { IsWithin goal.now.vars goal.now.body }
+{
+    let (mut bindings, at) = begun(alloc, goal)?;
+    unify_arguments(alloc, symbols, &mut bindings, &at, &mut Fuel::new(steps))
+}
+
+/// Unifies the two sides of an equation by so many steps.
+pub fn unify(alloc: Global, steps: u64, text: &[u8]) -> Result<String, Memory> {
+    let mut store = Store::new(alloc, Locked::Program)?;
+    match store.goal(text) {
+        Ok(goal) => unify_goal(alloc, store.symbols(), &goal, steps),
+        Err(_) => Ok(String::from_str(alloc, "no goal")?),
+    }
+}

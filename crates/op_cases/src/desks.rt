@@ -1,0 +1,154 @@
+ghost use Rattle.std.specs.Prelude.{◌≡◌, true, IfOk};
+ghost use Rattle.op_desk.specs.Frame.{Each};
+ghost use Rattle.op_desk.specs.Memory.{fresh_of};
+
+use crate::show::escaped;
+use op_base::Memory;
+use op_desk::{Bytes, Chan, Desk, DeskFault, Fail, FileDesk, MemoryDesk, Shelf, put_all, take_all};
+use std::alloc::Global;
+use std::fs;
+
+/// Bytes of one's own.
+pub fn bytes_of(alloc: Global, bytes: &[u8]) -> Result<Bytes, Memory> {
+    let mut all = Bytes::new(alloc);
+    all.append(bytes)?;
+    Ok(all)
+}
+
+fn chan_of(word: &str) -> Option<Chan> {
+    match word {
+        "commands" => Some(Chan::Commands),
+        "input" => Some(Chan::Input),
+        "output" => Some(Chan::Output),
+        "talk" => Some(Chan::Talk),
+        "note" => Some(Chan::Note),
+        _ => None,
+    }
+}
+
+// A call that fails: `take-commands 3` is the third take of Commands.
+fn failing_of(kind: &str, number: u64) -> Option<Fail> {
+    match kind.split_once('-') {
+        Some(("take", chan)) => Some(Fail::Take(chan_of(chan)?, number)),
+        Some(("put", chan)) => Some(Fail::Put(chan_of(chan)?, number)),
+        _ => match kind {
+            "attach" => Some(Fail::Attach(number)),
+            "fetch" => Some(Fail::Fetch(number)),
+            _ => None,
+        },
+    }
+}
+
+/// The one call that fails, or none for `-`.
+pub fn failing(alloc: Global, text: &str) -> Result<Vec<Fail>, Memory> {
+    let mut all = Vec::new(alloc);
+    if let Some((kind, number)) = text.split_once(' ') {
+        let number = number.parse::<u64>().unwrap_or(0);
+        if let Some(call) = failing_of(kind, number) {
+            all.push(call)?;
+        }
+    }
+    Ok(all)
+}
+
+fn desk_of(alloc: Global, failing: Vec<Fail>) -> Result<MemoryDesk, Memory>
+    ensures { IfOk result (λ desk. Each (λ c. fresh_of desk c ≡ true)) }
+{
+    let mut shelf = Shelf::new(alloc);
+    shelf.add("in", b"old")?;
+    shelf.add("other", b"xyz")?;
+    shelf.add("in", b"abc")?;
+    let commands = bytes_of(alloc, b"next.")?;
+    let input = Bytes::new(alloc);
+    Ok(MemoryDesk::new(alloc, shelf, commands, input, failing))
+}
+
+fn word(done: Result<(), DeskFault>) -> Result<&'static str, Memory> {
+    match done {
+        Ok(()) => Ok("ok "),
+        Err(DeskFault::Failed) => Ok("failed "),
+        Err(DeskFault::Memory) => Err(Memory),
+    }
+}
+
+fn add_count(
+    alloc: Global,
+    line: &mut String,
+    count: Result<usize, DeskFault>,
+    piece: &[u8],
+) -> Result<(), Memory> {
+    match count {
+        Ok(count) => {
+            let text = escaped(alloc, piece)?;
+            write!(line, "{count} {text} ")?;
+        }
+        Err(fault) => line.push_str(word(Err(fault))?)?,
+    }
+    Ok(())
+}
+
+// What a desk has left and written.
+fn add_state(alloc: Global, line: &mut String, desk: &MemoryDesk) -> Result<(), Memory> {
+    for chan in [Chan::Input, Chan::Commands] {
+        let text = escaped(alloc, desk.bytes_left(chan))?;
+        write!(line, "|{text}")?;
+    }
+    for chan in [Chan::Output, Chan::Talk] {
+        let text = escaped(alloc, desk.bytes_written(chan))?;
+        write!(line, "|{text}")?;
+    }
+    Ok(())
+}
+
+// Takes two bytes of Input, puts twice on Output, and fetches two bytes and a whole file.
+fn add_use(alloc: Global, line: &mut String, desk: &mut MemoryDesk) -> Result<(), Memory> {
+    let mut piece = [0u8; 2];
+    let taken = desk.take(Chan::Input, &mut piece);
+    add_count(alloc, line, taken, &piece)?;
+    line.push_str(word(put_all(desk, Chan::Output, b"hi"))?)?;
+    line.push_str(word(put_all(desk, Chan::Output, b" there"))?)?;
+    let fetched = desk.fetch("other", 1, &mut piece);
+    add_count(alloc, line, fetched, &piece)?;
+    match take_all(alloc, desk, "in", 3) {
+        Ok(file) => line.push_str(escaped(alloc, file.as_slice())?.as_str())?,
+        Err(_) => line.push_str("no file")?,
+    }
+    Ok(())
+}
+
+/// A desk in memory whose Input is the file `in`, `abc`, and which has the commands `next.`, used once.
+pub fn memory_desk(alloc: Global, text: &str) -> Result<String, Memory> {
+    let mut desk = desk_of(alloc, failing(alloc, text)?)?;
+    let mut line = String::new(alloc);
+    line.push_str(word(desk.attach(Chan::Input, "in"))?)?;
+    line.push_str(word(desk.attach(Chan::Commands, "-"))?)?;
+    line.push_str(word(desk.attach(Chan::Talk, "out"))?)?;
+    add_use(alloc, &mut line, &mut desk)?;
+    add_state(alloc, &mut line, &desk)?;
+    Ok(line)
+}
+
+// Writes a file, takes it whole and takes two bytes of it.
+fn use_files(alloc: Global, desk: &mut FileDesk) -> Result<String, Memory> {
+    let mut line = String::new(alloc);
+    line.push_str(word(desk.attach(Chan::Output, "written"))?)?;
+    line.push_str(word(put_all(desk, Chan::Output, b"abc"))?)?;
+    match take_all(alloc, desk, "written", 3) {
+        Ok(file) => line.push_str(escaped(alloc, file.as_slice())?.as_str())?,
+        Err(_) => line.push_str("no file")?,
+    }
+    line.push_str(" ")?;
+    line.push_str(word(desk.attach(Chan::Input, "written"))?)?;
+    let mut piece = [0u8; 2];
+    let taken = desk.take(Chan::Input, &mut piece);
+    add_count(alloc, &mut line, taken, &piece)?;
+    Ok(line)
+}
+
+/// A desk over the system's files that writes a file and reads it.
+pub fn file_desk(rt: HostRuntime) -> Result<String, Memory> {
+    let mut desk = FileDesk::new(rt, rt.alloc());
+    let line = use_files(rt.alloc(), &mut desk)?;
+    let _removed = fs::remove_file(&rt, "written");
+    Ok(line)
+}

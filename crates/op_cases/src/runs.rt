@@ -1,0 +1,266 @@
+ghost use Rattle.std.specs.Prelude.{◌≡◌, ◌<◌, ◌≤◌, length, IfOk};
+ghost use Rattle.op_logic.specs.Names.{HasNames};
+ghost use Rattle.op_bind.specs.State.{value_of};
+ghost use Rattle.op_store.specs.Queries.{IsSoundGoal};
+
+use op_base::{Memory, Steps};
+use op_bind::{Bindings, Ref};
+use op_machine::{Ending, EventView, Host, Machine, MachineFault, SolutionView, Turn};
+use op_store::{Goal, Locked, Store};
+use op_term::{Node, Symbols};
+use op_trace::Port;
+use std::alloc::Global;
+use std::marker::Brand;
+use std::sync::ledger::{Blank, Ledger};
+
+#[derive(Drop)]
+struct Nothing;
+
+impl Host for Nothing {}
+
+fn word(port: Port) -> &'static str {
+    match port {
+        Port::Call => "call",
+        Port::Exit => "exit",
+        Port::Redo => "redo",
+        Port::Fail => "fail",
+    }
+}
+
+fn ending_word(ending: Ending) -> &'static str {
+    match ending {
+        Ending::Stopped => "stopped",
+        Ending::Failed => "failed",
+        Ending::Spent => "spent",
+    }
+}
+
+// A value's outermost part.
+fn add_value(
+    line: &mut String,
+    bindings: &Bindings,
+    symbols: &Symbols,
+    value: &Ref,
+) -> Result<(), Memory>
+    requires there { value.now < length bindings.now.terms }
+    requires names { HasNames (length symbols.now) (value_of bindings.now value.now) }
+{
+    match bindings.head_of(value) {
+        Node::Var(n) => write!(line, "_{n}")?,
+        Node::Int(i) => write!(line, "{i}")?,
+        Node::Atom(name) => line.push_str(symbols.name_of(name))?,
+        Node::Struct(name, _) => {
+            line.push_str(symbols.name_of(name))?;
+            line.push_str("(..)")?;
+        }
+    }
+    Ok(())
+}
+
+// A goal's first argument, where it is a variable or a number.
+fn add_first(line: &mut String, bindings: &Bindings, goal: &Ref) -> Result<(), Memory>
+    requires { goal.now < length bindings.now.terms }
+{
+    if let Node::Struct(_, _) = bindings.outline(goal) {
+        match bindings.head_of(&bindings.argument(goal, 0)) {
+            Node::Var(n) => write!(line, " _{n}")?,
+            Node::Int(i) => write!(line, " {i}")?,
+            _ => line.push_str(" -")?,
+        }
+    }
+    Ok(())
+}
+
+fn add_event(line: &mut String, view: &EventView<'_>) -> Result<(), Memory> {
+    let port = word(view.port());
+    let chrono = view.chrono();
+    let call = view.call();
+    let parent = view.parent();
+    let depth = view.depth();
+    write!(line, "{chrono} {call} {parent} {depth} {port}")?;
+    add_first(line, view.bindings(), &view.goal())?;
+    Ok(line.push_str("|")?)
+}
+
+// The named variables and their values.
+fn add_solution(line: &mut String, view: &SolutionView<'_>) -> Result<(), Memory> {
+    let names = view.names();
+    line.push_str("solution")?;
+    for i in 0..names.len() {
+        line.push_str(" ")?;
+        line.push_str(names.name(i))?;
+        line.push_str("=")?;
+        add_value(line, view.bindings(), view.symbols(), &view.value(i))?;
+    }
+    Ok(line.push_str("|")?)
+}
+
+// Adds the turn that a machine came to.
+fn add_turn(line: &mut String, machine: &Machine, turn: Turn) -> Result<(), Memory> {
+    match turn {
+        Turn::Event => {
+            if let Some(view) = machine.event() {
+                add_event(line, &view)?;
+            }
+        }
+        Turn::Solution => {
+            if let Some(view) = machine.solution() {
+                add_solution(line, &view)?;
+            }
+        }
+        Turn::Ended(ending) => {
+            let word = ending_word(ending);
+            let used = machine.used_steps();
+            write!(line, "{word} {used}")?;
+        }
+    }
+    Ok(())
+}
+
+fn next<L: Ledger>(machine: &mut Machine, steps: &mut Steps<L>) -> Result<Turn, Memory> {
+    match machine.next(&mut Nothing, steps) {
+        Ok(turn) => Ok(turn),
+        Err(MachineFault::Memory) | Err(MachineFault::Ended(_)) => Err(Memory),
+    }
+}
+
+// Adds all turns, up to a thousand.
+fn add_turns<L: Ledger>(
+    line: &mut String,
+    machine: &mut Machine,
+    steps: &mut Steps<L>,
+) -> Result<(), Memory> {
+    for _ in 0..1000 {
+        let turn = next(machine, steps)?;
+        add_turn(line, machine, turn)?;
+        if let Turn::Ended(_) = turn {
+            break;
+        }
+    }
+    Ok(())
+}
+
+// Adds how many events there are, and the ending.
+fn add_count<L: Ledger>(
+    line: &mut String,
+    machine: &mut Machine,
+    steps: &mut Steps<L>,
+) -> Result<(), Memory> {
+    let mut events: u64 = 0;
+    for _ in 0..10_000_000 {
+        match next(machine, steps)? {
+            Turn::Event => events = events.saturating_add(1),
+            Turn::Solution => {}
+            Turn::Ended(ending) => {
+                write!(line, "{events} ")?;
+                add_turn(line, machine, Turn::Ended(ending))?;
+                break;
+            }
+        }
+    }
+    Ok(())
+}
+
+// Adds how many choice points are kept at the first solution or the end.
+fn add_choice_points<L: Ledger>(
+    line: &mut String,
+    machine: &mut Machine,
+    steps: &mut Steps<L>,
+) -> Result<(), Memory> {
+    for _ in 0..10_000_000 {
+        match next(machine, steps)? {
+            Turn::Event => {}
+            _ => break,
+        }
+    }
+    let count = machine.choice_points();
+    write!(line, "{count}")?;
+    Ok(())
+}
+
+/// What is shown of a run.
+#[derive(Clone, Copy)]
+pub enum Shown {
+    /// All turns.
+    Turns,
+    /// How many events there are, and the ending.
+    Count,
+    /// How many choice points are kept at the first solution.
+    ChoicePoints,
+}
+
+fn add_run<L: Ledger>(
+    line: &mut String,
+    machine: &mut Machine,
+    blank: Blank,
+    shown: Shown,
+) -> Result<(), Memory>
+    requires name { blank.name ≡ L.name }
+    requires parts { blank.parts ≡ L.parts }
+    requires some { 0 < L.parts }
+{
+    let mut steps = Steps::<L>::new(blank);
+    match shown {
+        Shown::Turns => add_turns(line, machine, &mut steps),
+        Shown::Count => add_count(line, machine, &mut steps),
+        Shown::ChoicePoints => add_choice_points(line, machine, &mut steps),
+    }
+}
+
+fn machine_run(alloc: Global, mut machine: Machine, shown: Shown) -> Result<String, Memory> {
+    let mut line = String::new(alloc);
+    add_run::<Brand>(&mut line, &mut machine, Blank::new(1), shown)?;
+    Ok(line)
+}
+
+// A run of a goal that was read.
+fn goal_run(
+    alloc: Global,
+    store: Store,
+    goal: &Goal,
+    budget: u64,
+    wanted: u64,
+    shown: Shown,
+) -> Result<String, Memory>
+    requires { IsSoundGoal (length store.names) goal.now }
+{
+    if budget < 1 || budget > 1_000_000_000 {
+        return Ok(String::from_str(alloc, "no budget")?);
+    }
+    machine_run(
+        alloc,
+        Machine::start(alloc, store, goal, budget, wanted)?,
+        shown,
+    )
+}
+
+// A run over a program that was loaded.
+fn loaded_run(
+    alloc: Global,
+    mut store: Store,
+    goal: &[u8],
+    budget: u64,
+    wanted: u64,
+    shown: Shown,
+) -> Result<String, Memory> {
+    match store.goal(goal) {
+        Ok(goal) => goal_run(alloc, store, &goal, budget, wanted, shown),
+        Err(_) => Ok(String::from_str(alloc, "no goal")?),
+    }
+}
+
+/// What a run of so many steps, for the solution of a number or for all by 0, comes to.
+pub fn run(
+    alloc: Global,
+    program: &[u8],
+    goal: &[u8],
+    budget: u64,
+    wanted: u64,
+    shown: Shown,
+) -> Result<String, Memory> {
+    let mut store = Store::new(alloc, Locked::Program)?;
+    match store.load(program) {
+        Ok(()) => loaded_run(alloc, store, goal, budget, wanted, shown),
+        Err(_) => Ok(String::from_str(alloc, "no program")?),
+    }
+}

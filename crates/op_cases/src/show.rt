@@ -1,0 +1,145 @@
+use op_base::Memory;
+use op_term::{Builder, Node, Sym, Symbols, Term, Whole};
+use std::alloc::Global;
+
+// What is still to be shown of a term.
+#[derive(Drop)]
+enum ToShow {
+    Node(u64),
+    Text(&'static str),
+}
+
+/// The text of a name.
+pub fn name_of(symbols: &Symbols, sym: Sym) -> &str {
+    if sym.0 < symbols.count() {
+        symbols.name_of(sym)
+    } else {
+        "?"
+    }
+}
+
+fn is_symbol(byte: u8) -> bool {
+    b"+-*/\\^<>=~:.?@#&$".as_slice().contains(&byte)
+}
+
+fn is_word(byte: u8) -> bool {
+    byte.is_ascii_alphanumeric() || byte == b'_'
+}
+
+// A name that no other name, number or variable is shown as.
+fn is_bare(name: &str) -> bool {
+    let bytes = name.as_bytes();
+    if bytes.is_empty() {
+        return false;
+    }
+    name == "[]"
+        || name == "{}"
+        || name == "!"
+        || name == ";"
+        || name == ","
+        || (bytes[0].is_ascii_lowercase() && bytes.iter().all(|b| is_word(*b)))
+        || bytes.iter().all(|b| is_symbol(*b))
+}
+
+// A name, in quotes unless it is bare; a quote in it is doubled.
+fn show_name(name: &str, out: &mut String) -> Result<(), Memory> {
+    if is_bare(name) {
+        return Ok(out.push_str(name)?);
+    }
+    out.push_str("'")?;
+    for c in name.chars() {
+        if c == '\'' {
+            out.push_str("'")?;
+        }
+        out.push(c)?;
+    }
+    Ok(out.push_str("'")?)
+}
+
+fn show_parts(nodes: &Builder, at: u64, stack: &mut Vec<ToShow>) -> Result<(), Memory> {
+    if at >= nodes.len() {
+        return Ok(());
+    }
+    stack.push(ToShow::Text(")"))?;
+    let mut is_first = true;
+    for part in nodes.parts(at).iter().rev() {
+        if !is_first {
+            stack.push(ToShow::Text(","))?;
+        }
+        stack.push(ToShow::Node(*part))?;
+        is_first = false;
+    }
+    Ok(())
+}
+
+fn show_node(
+    symbols: &Symbols,
+    nodes: &Builder,
+    at: u64,
+    stack: &mut Vec<ToShow>,
+    out: &mut String,
+) -> Result<(), Memory> {
+    if at >= nodes.len() {
+        return Ok(());
+    }
+    match nodes.node(at) {
+        Node::Var(n) => write!(out, "_{n}")?,
+        Node::Int(i) => write!(out, "{i}")?,
+        Node::Atom(name) => show_name(name_of(symbols, name), out)?,
+        Node::Struct(name, _) => {
+            show_name(name_of(symbols, name), out)?;
+            out.push_str("(")?;
+            show_parts(nodes, at, stack)?;
+        }
+    }
+    Ok(())
+}
+
+/// A term in functional notation; of a large one the beginning.
+pub fn shown(alloc: Global, symbols: &Symbols, term: &Term) -> Result<String, Memory> {
+    let whole = Whole::new(term);
+    let nodes = whole.nodes();
+    let mut stack = Vec::new(alloc);
+    let mut out = String::new(alloc);
+    stack.push(ToShow::Node(whole.root()))?;
+    for _ in 0..1000 {
+        match stack.pop() {
+            Some(ToShow::Text(text)) => out.push_str(text)?,
+            Some(ToShow::Node(at)) => show_node(symbols, nodes, at, &mut stack, &mut out)?,
+            None => return Ok(out),
+        }
+    }
+    out.push_str("...")?;
+    Ok(out)
+}
+
+/// Bytes as a field shows them: `¶` for a newline, `‹09›` for another control character, `‹ff›` where they are no text.
+pub fn escaped(alloc: Global, bytes: &[u8]) -> Result<String, Memory> {
+    let mut out = String::new(alloc);
+    match str::from_utf8(bytes) {
+        Ok(text) => {
+            for c in text.chars() {
+                add_character(&mut out, c)?;
+            }
+        }
+        Err(_) => {
+            for byte in bytes {
+                let byte = *byte;
+                write!(out, "‹{byte:02x}›")?;
+            }
+        }
+    }
+    Ok(out)
+}
+
+fn add_character(out: &mut String, c: char) -> Result<(), Memory> {
+    if c == '\n' {
+        out.push('¶')?;
+    } else if c.is_control() {
+        let code = c as u32;
+        write!(out, "‹{code:02x}›")?;
+    } else {
+        out.push(c)?;
+    }
+    Ok(())
+}

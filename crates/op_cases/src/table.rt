@@ -1,0 +1,115 @@
+use op_base::Memory;
+use op_reader::DoubleQuotes;
+use op_term::{Meaning, OpFault, OpKind, Ops};
+use std::alloc::Global;
+
+/// The operators and the meaning of double quotes by which the cases below are read and written.
+#[derive(Drop)]
+pub struct Table {
+    pub ops: Ops,
+    pub quotes: DoubleQuotes,
+}
+
+impl Table {
+    /// The standard's operators; text in double quotes stands for a list of codes.
+    pub fn new(alloc: Global) -> Result<Table, Memory> {
+        Ok(Table {
+            ops: Ops::iso(alloc)?,
+            quotes: DoubleQuotes::Codes,
+        })
+    }
+}
+
+/// Goes back to the standard's operators.
+pub fn reset(alloc: Global, table: &mut Table) -> Result<String, Memory> {
+    table.ops = Ops::iso(alloc)?;
+    table.quotes = DoubleQuotes::Codes;
+    Ok(String::from_str(alloc, "ok")?)
+}
+
+/// Says what double quotes stand for.
+pub fn quote(alloc: Global, table: &mut Table, word: &str) -> Result<String, Memory> {
+    table.quotes = match word {
+        "codes" => DoubleQuotes::Codes,
+        "chars" => DoubleQuotes::Chars,
+        "atom" => DoubleQuotes::Atom,
+        _ => return Ok(String::from_str(alloc, "no case")?),
+    };
+    Ok(String::from_str(alloc, "ok")?)
+}
+
+/// The kind that a word names.
+pub fn kind_of(word: &str) -> Option<OpKind> {
+    match word {
+        "xfx" => Some(OpKind::Xfx),
+        "xfy" => Some(OpKind::Xfy),
+        "yfx" => Some(OpKind::Yfx),
+        "fy" => Some(OpKind::Fy),
+        "fx" => Some(OpKind::Fx),
+        "xf" => Some(OpKind::Xf),
+        "yf" => Some(OpKind::Yf),
+        _ => None,
+    }
+}
+
+fn kind_word(kind: OpKind) -> &'static str {
+    match kind {
+        OpKind::Xfx => "xfx",
+        OpKind::Xfy => "xfy",
+        OpKind::Yfx => "yfx",
+        OpKind::Fy => "fy",
+        OpKind::Fx => "fx",
+        OpKind::Xf => "xf",
+        OpKind::Yf => "yf",
+    }
+}
+
+/// What setting an operator came to.
+pub fn set_word(set: Result<(), OpFault>) -> Result<&'static str, Memory> {
+    match set {
+        Ok(()) => Ok("ok"),
+        Err(OpFault::Memory) => Err(Memory),
+        Err(OpFault::Priority) => Ok("priority"),
+        Err(OpFault::Comma) => Ok("comma"),
+        Err(OpFault::Reserved) => Ok("reserved"),
+        Err(OpFault::Clash) => Ok("clash"),
+    }
+}
+
+/// Sets an operator: its priority, its kind and its name, which may be empty.
+pub fn set(alloc: Global, table: &mut Table, text: &str) -> Result<String, Memory> {
+    let mut words = text.splitn(3, ' ');
+    let priority = words.next().unwrap_or("").parse::<i64>();
+    let kind = kind_of(words.next().unwrap_or(""));
+    let name = words.next().unwrap_or("");
+    match (priority, kind) {
+        (Ok(priority), Some(kind)) => {
+            let word = set_word(table.ops.set(priority, kind, name))?;
+            Ok(String::from_str(alloc, word)?)
+        }
+        _ => Ok(String::from_str(alloc, "no case")?),
+    }
+}
+
+fn add_meaning(line: &mut String, meaning: Option<Meaning>) -> Result<(), Memory> {
+    match meaning {
+        Some(Meaning { priority, kind }) => {
+            let word = kind_word(kind);
+            write!(line, "{priority} {word}")?;
+        }
+        None => line.push_str("-")?,
+    }
+    Ok(())
+}
+
+/// What a name means before, between and behind operands, in a copy of the table.
+pub fn meanings(alloc: Global, table: &Table, name: &str) -> Result<String, Memory> {
+    let ops = table.ops.copy()?;
+    let mut line = String::new(alloc);
+    add_meaning(&mut line, ops.prefix(name))?;
+    line.push_str("|")?;
+    add_meaning(&mut line, ops.infix(name))?;
+    line.push_str("|")?;
+    add_meaning(&mut line, ops.postfix(name))?;
+    Ok(line)
+}

@@ -1,0 +1,130 @@
+use crate::faults::token_word;
+use crate::show::escaped;
+use op_base::Memory;
+use op_token::{Cutter, Piece, Scanner, Token, TokenFault, TokenKind, cut};
+use std::alloc::Global;
+
+fn mark(kind: TokenKind) -> &'static str {
+    match kind {
+        TokenKind::Name => "N",
+        TokenKind::QuotedName => "Q",
+        TokenKind::Variable => "V",
+        TokenKind::Integer(_) => "I",
+        TokenKind::Text => "T",
+        TokenKind::OpenRound => "(",
+        TokenKind::CloseRound => ")",
+        TokenKind::OpenSquare => "[",
+        TokenKind::CloseSquare => "]",
+        TokenKind::OpenCurly => "{",
+        TokenKind::CloseCurly => "}",
+        TokenKind::Comma => ",",
+        TokenKind::Bar => "|",
+        TokenKind::End => "E",
+    }
+}
+
+// A token as its kind, the magnitude of an integer, and its span, with `_` before it where layout stands there.
+fn add_token(line: &mut String, token: Token) -> Result<(), Memory> {
+    let before = if token.layout_before { "_" } else { "" };
+    let kind = mark(token.kind);
+    let Token { from, to, .. } = token;
+    match token.kind {
+        TokenKind::Integer(magnitude) => write!(line, "{before}{kind}{magnitude}:{from}-{to}")?,
+        _ => write!(line, "{before}{kind}{from}-{to}")?,
+    }
+    Ok(())
+}
+
+fn add_fault(line: &mut String, fault: TokenFault) -> Result<(), Memory> {
+    let kind = token_word(fault.kind);
+    let place = fault.place;
+    write!(line, "{kind}@{place}")?;
+    Ok(())
+}
+
+// Adds a space behind what stands before it.
+fn add_space(line: &mut String) -> Result<(), Memory> {
+    if !line.is_empty() {
+        line.push_str(" ")?;
+    }
+    Ok(())
+}
+
+// Adds the next token or fault; whether there may be a further one. A fault comes again each time.
+fn add_next(line: &mut String, scanner: &mut Scanner<'_>) -> Result<bool, Memory> {
+    match scanner.next() {
+        Ok(None) => Ok(false),
+        Ok(Some(token)) => {
+            add_space(line)?;
+            add_token(line, token)?;
+            Ok(true)
+        }
+        Err(fault) => {
+            add_space(line)?;
+            add_fault(line, fault)?;
+            if scanner.next() != Err(fault) {
+                line.push_str(" and then another")?;
+            }
+            Ok(false)
+        }
+    }
+}
+
+/// The tokens of a text, and the fault behind them.
+pub fn tokens(alloc: Global, text: &[u8]) -> Result<String, Memory> {
+    let mut scanner = Scanner::new(text);
+    let mut line = String::new(alloc);
+    for _ in 0..=text.len() {
+        if !add_next(&mut line, &mut scanner)? {
+            break;
+        }
+    }
+    Ok(line)
+}
+
+/// The text that the first token stands for.
+pub fn token_text(alloc: Global, text: &[u8]) -> Result<String, Memory> {
+    let mut scanner = Scanner::new(text);
+    let mut out = Vec::new(alloc);
+    if let Ok(Some(token)) = scanner.next() {
+        scanner.text_of(&token, &mut out)?;
+    }
+    escaped(alloc, &out)
+}
+
+fn add_piece(line: &mut String, piece: Piece) -> Result<(), Memory> {
+    match piece {
+        Piece::Text(from, to) => write!(line, "text {from} {to}")?,
+        Piece::NoEnd => line.push_str("no_end")?,
+        Piece::Empty => line.push_str("empty")?,
+    }
+    Ok(())
+}
+
+/// The first term text.
+pub fn piece(alloc: Global, text: &[u8]) -> Result<String, Memory> {
+    let mut line = String::new(alloc);
+    add_piece(&mut line, cut(text))?;
+    Ok(line)
+}
+
+// Gives a byte to the cutter, and adds the text that ended.
+fn add_byte(alloc: Global, line: &mut String, cutter: &mut Cutter, byte: u8) -> Result<(), Memory> {
+    if cutter.push(byte)? {
+        line.push_str(escaped(alloc, cutter.text())?.as_str())?;
+        line.push_str("|")?;
+        cutter.restart();
+    }
+    Ok(())
+}
+
+/// The term texts of a text that is given byte by byte, and what is left.
+pub fn pieces(alloc: Global, text: &[u8]) -> Result<String, Memory> {
+    let mut cutter = Cutter::new(alloc);
+    let mut line = String::new(alloc);
+    'bytes: for byte in text {
+        add_byte(alloc, &mut line, &mut cutter, *byte)?;
+    }
+    add_piece(&mut line, cutter.piece())?;
+    Ok(line)
+}

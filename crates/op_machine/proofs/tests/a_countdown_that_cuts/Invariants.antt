@@ -1,4 +1,0 @@
-use Rattle.op_machine.proofs.tests.a_countdown_that_cuts.Given as goal
-
-abbrev pub ghosts-choices_kept : goal.ghosts-choices_kept
-ghosts-choices_kept g a = record { name = a.blank.name; parts = a.blank.parts }

@@ -1,4 +1,0 @@
-use Rattle.op_machine.proofs.tests.a_cut_in_a_branch.Given as goal
-
-abbrev pub ghosts-trace : goal.ghosts-trace
-ghosts-trace g a = record { name = a.blank.name; parts = a.blank.parts }

@@ -1,4 +1,0 @@
-use Rattle.op_machine.proofs.tests.a_loop_is_spent.Given as goal
-
-abbrev pub ghosts-trace : goal.ghosts-trace
-ghosts-trace g a = record { name = a.blank.name; parts = a.blank.parts }

@@ -1,4 +1,0 @@
-use Rattle.op_machine.proofs.tests.all_solutions.Given as goal
-
-abbrev pub ghosts-trace : goal.ghosts-trace
-ghosts-trace g a = record { name = a.blank.name; parts = a.blank.parts }

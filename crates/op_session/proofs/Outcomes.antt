@@ -1,0 +1,225 @@
+-- The outcome of a call, step by step.
+use Rattle.std.proofs.Common.{◌≡◌, ℕ, ◌<◌, ◌≤◌, true, false, Bool, cond, drop, List, [], ◌∷◌, length, codes, Option, Some, None, option_map, Result, Ok, Err, IsTrue, refl, sym, ap, ◌∙◌, subst, arith, IsSomeAnd}
+use Rattle.std.specs.Prelude.{nat_lt}
+use Rattle.std.proofs.lemmas.Bool.Decides.{nat_tests}
+use Rattle.op_desk.specs.Contents.{Known, Files, bytes_of, IsFile, IsLonger, IsMissing}
+use Rattle.op_store.specs.declared.locked.Locked.TheVariants.{Program}
+use Rattle.op_store.specs.World.{World}
+use Rattle.op_store.specs.Fault.{Fault}
+use Rattle.op_store.specs.Load.{Query, Found, Loaded, loaded, stopped, load_text, goal_of, goal_in, goal_bytes, goal_outcome, goal_converted, line_at, fault_line, first_token, is_rest}
+use Rattle.op_store.specs.Fault as fault
+use Rattle.op_store.specs.Fault.{locked}
+use Rattle.op_store.specs.Body.{converted}
+use Rattle.op_store.specs.Queries.{fault_named, IsKnownFault, IsSoundLoadFault, TellsGoal, TellsLoad}
+use Rattle.op_store.specs.Stored.{Stored, world_of}
+use Rattle.op_store.specs.declared.load_fault.LoadFault.{LoadFault}
+use Rattle.op_store.specs.declared.load_fault.LoadFault.TheVariants as load_faults
+use Rattle.op_session.specs.Refusing.{Refuses}
+use Rattle.op_store.specs.declared.load_fault.LoadFaultKind.{LoadFaultKind}
+use Rattle.op_store.specs.declared.load_fault.LoadFaultKind.TheVariants as kinds
+use Rattle.op_logic.specs.Term.{Term}
+use Rattle.op_term.specs.Ops.{Table}
+use Rattle.op_trace.specs.World.{Text}
+use Rattle.op_reader.specs.declared.quotes.DoubleQuotes.{DoubleQuotes}
+use Rattle.op_reader.specs.declared.fault.ReadFaultKind.TheVariants.{NoEnd}
+use Rattle.op_reader.specs.Reading as reading
+use Rattle.op_reader.specs.Reading.{reading_of}
+use Rattle.op_session.specs.declared.status.Status.{Status}
+use Rattle.op_session.specs.declared.status.Status.TheVariants as status
+use Rattle.op_session.specs.Words.{fault_words, load_line}
+use Rattle.op_session.specs.Runnable.{is_runnable, are_runnable}
+use Rattle.op_session.specs.Call.{Outcome, Line, Session, file_limit, first_world, traced_of, unrunnable, goal_name, with_bytes, with_loaded, with_world, with_goal, with_query, outcome_of, long_line}
+use Rattle.op_session.specs.Promise.{WhenTold, IsBroken, IsRefused, IsFaultless, IsWordsRefusal, HasFile, DoneAs, CostsAs, RefusedAs, TooLongAs, BrokenAs}
+use Rattle.op_session.proofs.Leaving.{retell, leaves_usage, leaves_memory, leaves_load}
+use Rattle.op_session.specs.Progress.{Leaves, IsOutcome}
+use Rattle.op_session.specs.Sight.{Sight, Says, Unread, Untouched, ended_as}
+
+abbrev pub told_outcome : Option Files → List ℕ → List ℕ → Option Outcome
+told_outcome shelf name goal = option_map (λ files. outcome_of files (name ∷ goal ∷ [])) shelf
+
+lt_false : (m n : ℕ) → n ≤ m → nat_lt m n ≡ false
+lt_false m n h = grind (arith, nat_tests)
+
+lt_true : (m n : ℕ) → m < n → nat_lt m n ≡ true
+lt_true m n h = grind (arith, nat_tests)
+
+by_file : (name goal bytes : List ℕ) (o : Known) → o ≡ Some bytes → length bytes ≤ file_limit → with_bytes name goal o ≡ with_loaded name goal (load_text Program first_world bytes)
+by_file name goal bytes o e h =
+    ap (with_bytes name goal) e ∙ ap (λ b. cond b (Line status.TooLong (long_line name)) (with_loaded name goal (load_text Program first_world bytes))) (lt_false file_limit (length bytes) h)
+
+-- a whole file was read
+pub outcome_file : (shelf : Option Files) (name goal bytes : List ℕ) → IsFile shelf name bytes → length bytes ≤ file_limit → IsOutcome (told_outcome shelf name goal) (with_loaded name goal (load_text Program first_world bytes))
+outcome_file None name goal bytes f h = tt
+outcome_file (Some files) name goal bytes f h = by_file name goal bytes (bytes_of files name) f h
+
+-- or is too long
+pub outcome_long : (shelf : Option Files) (name goal : List ℕ) → IsLonger shelf name file_limit → IsOutcome (told_outcome shelf name goal) (Line status.TooLong (long_line name))
+outcome_long None name goal h = tt
+outcome_long (Some files) name goal h = by (bytes_of files name) h
+  where
+    by : (o : Known) → IsSomeAnd o (λ bytes. file_limit < length bytes) → with_bytes name goal o ≡ Line status.TooLong (long_line name)
+    by None h = absurd h
+    by (Some bytes) h = ap (λ b. cond b (Line status.TooLong (long_line name)) (with_loaded name goal (load_text Program first_world bytes))) (lt_true file_limit (length bytes) h)
+
+-- or is missing
+pub outcome_missing : (shelf : Option Files) (name goal : List ℕ) → IsMissing shelf name → WhenTold (told_outcome shelf name goal) (λ x. HasFile x → ⊥)
+outcome_missing None name goal h = absurd h
+outcome_missing (Some files) name goal h = subst (λ o. HasFile (with_bytes name goal o) → ⊥) (sym h) (λ f. f)
+
+-- the program was loaded, or refused
+pub outcome_loaded : (name goal : List ℕ) (l : Loaded) (w : World) → l ≡ loaded w → with_world name goal w ≡ with_loaded name goal l
+outcome_loaded name goal l w e = sym (ap (with_loaded name goal) e)
+
+pub outcome_refused : (name goal : List ℕ) (l : Loaded) (w : World) (line : ℕ) (f : Fault) → l ≡ stopped w line f
+    → Line status.Load (load_line name line (fault_words f)) ≡ with_loaded name goal l
+outcome_refused name goal l w line f e = sym (ap (with_loaded name goal) e)
+
+-- it can be run, or not
+pub outcome_runnable : (name goal : List ℕ) (w : World) → true ≡ are_runnable w → with_goal w (goal_of w.table w.flags.quotes goal) ≡ with_world name goal w
+outcome_runnable name goal w e = ap (λ b. cond b (with_goal w (goal_of w.table w.flags.quotes goal)) (unrunnable name)) e
+
+pub outcome_unrunnable : (name goal : List ℕ) (w : World) → false ≡ are_runnable w → unrunnable name ≡ with_world name goal w
+outcome_unrunnable name goal w e = ap (λ b. cond b (with_goal w (goal_of w.table w.flags.quotes goal)) (unrunnable name)) e
+
+-- the goal was read, or refused
+pub outcome_goal : (w : World) (r : Result Query Found) (q : Query) → r ≡ Ok q → with_query w q ≡ with_goal w r
+outcome_goal w r q e = sym (ap (with_goal w) e)
+
+pub outcome_no_goal : (w : World) (r : Result Query Found) (f : Found) → r ≡ Err f → Line status.Load (load_line goal_name f.line (fault_words f.fault)) ≡ with_goal w r
+outcome_no_goal w r f e = sym (ap (with_goal w) e)
+
+-- it can be run, or not
+pub outcome_session : (w : World) (q : Query) → true ≡ is_runnable w q.body → Session (traced_of 10000000 w q) ≡ with_query w q
+outcome_session w q e = ap (λ b. cond b (Session (traced_of 10000000 w q)) (unrunnable goal_name)) e
+
+pub outcome_no_session : (w : World) (q : Query) → false ≡ is_runnable w q.body → unrunnable goal_name ≡ with_query w q
+outcome_no_session w q e = ap (λ b. cond b (Session (traced_of 10000000 w q)) (unrunnable goal_name)) e
+
+pub no_usage_long : (a b : Sight) (line : List ℕ) (r : Result (Unit {0}) Status) → Says a b line r → ended_as status.TooLong r ≡ status.Usage → ⊥
+no_usage_long a b line (Ok x) g h = cc
+no_usage_long a b line (Err status.Write) g h = cc
+no_usage_long a b line (Err status.Memory) g h = cc
+no_usage_long a b line (Err s) g h = g.unwritten
+
+pub no_usage_unread : (name : List ℕ) (s : Status) (a b : Sight) → Unread name s a b → s ≡ status.Usage → ⊥
+no_usage_unread name status.Read a b u h = cc
+no_usage_unread name status.Memory a b u h = cc
+no_usage_unread name s a b u h = u.unread
+
+pub words_unwritten : (a b : Sight) (line : List ℕ) (r : Result (Unit {0}) Status) → Says a b line r → IsWordsRefusal (ended_as status.Usage r)
+words_unwritten a b line (Ok x) g = tt
+words_unwritten a b line (Err status.Write) g = tt
+words_unwritten a b line (Err status.Memory) g = tt
+words_unwritten a b line (Err s) g = absurd g.unwritten
+
+-- what is told by the outcome is told by the shelf
+pub by_shelf : (shelf : Option Files) (f : Files → Outcome) (P : Outcome → Type 0) → WhenTold (option_map f shelf) P → WhenTold shelf (λ files. P (f files))
+by_shelf None f P h = tt
+by_shelf (Some files) f P h = h
+
+pub renamed : (x y : Outcome) (s : Status) (a b : Sight) (before after : ℕ) → x ≡ y → Leaves (Some x) s a b before after → Leaves (Some y) s a b before after
+renamed x y s a b before after e l = subst (λ x. Leaves (Some x) s a b before after) e l
+
+abbrev pub usage_line : List ℕ
+usage_line = codes "opium: usage words\n"
+
+outcome_words : (files : Files) (ws : List (List ℕ)) → (length ws ≡ 2 → ⊥) → Line status.Usage usage_line ≡ outcome_of files ws
+outcome_words files [] n = refl
+outcome_words files (a ∷ []) n = refl
+outcome_words files (a ∷ b ∷ []) n = absurd (n refl)
+outcome_words files (a ∷ b ∷ c ∷ ws) n = refl
+
+abbrev pub outcome_by : Option Files → List (List ℕ) → Option Outcome
+outcome_by shelf ws = option_map (λ files. outcome_of files ws) shelf
+
+pub usage_leaves : (shelf : Option Files) (ws : List (List ℕ)) (s : Status) (a b : Sight) (n : ℕ) (r : Result (Unit {0}) Status) → s ≡ ended_as status.Usage r → (length ws ≡ 2 → ⊥) → Says a b usage_line r → Leaves (outcome_by shelf ws) s a b n n
+usage_leaves shelf ws s a b n r e w g = subst (λ s. Leaves (outcome_by shelf ws) s a b n n) (sym e) (retell (outcome_by shelf ws) (Line status.Usage usage_line) (ended_as status.Usage r) a b n n (is_told shelf) (leaves_usage usage_line a b n r g))
+  where
+    is_told : (shelf : Option Files) → IsOutcome (outcome_by shelf ws) (Line status.Usage usage_line)
+    is_told None = tt
+    is_told (Some files) = sym (outcome_words files ws w)
+
+pub told_done : (shelf : Option Files) (ws : List (List ℕ)) (s : Status) (a b : Sight) (n m : ℕ) → Leaves (outcome_by shelf ws) s a b n m → s ≡ status.Done → WhenTold shelf (λ files. WhenTold a.commands (λ bytes. DoneAs (outcome_of files ws) bytes a.talk b.talk b.commands))
+told_done None ws s a b n m l h = tt
+told_done (Some files) ws s a b n m l h = l.done h
+
+pub told_cost : (shelf : Option Files) (ws : List (List ℕ)) (s : Status) (a b : Sight) (n m : ℕ) → Leaves (outcome_by shelf ws) s a b n m → s ≡ status.Done → WhenTold shelf (λ files. WhenTold a.commands (λ bytes. CostsAs (outcome_of files ws) bytes n m))
+told_cost None ws s a b n m l h = tt
+told_cost (Some files) ws s a b n m l h = l.cost h
+
+pub told_refused : (shelf : Option Files) (ws : List (List ℕ)) (s : Status) (a b : Sight) (n m : ℕ) → Leaves (outcome_by shelf ws) s a b n m → IsRefused s → WhenTold shelf (λ files. WhenTold a.commands (λ bytes. RefusedAs (outcome_of files ws) s bytes a.talk b.talk b.commands))
+told_refused None ws s a b n m l h = tt
+told_refused (Some files) ws s a b n m l h = l.refused h
+
+pub told_too_long : (shelf : Option Files) (ws : List (List ℕ)) (s : Status) (a b : Sight) (n m : ℕ) → Leaves (outcome_by shelf ws) s a b n m → s ≡ status.TooLong → WhenTold shelf (λ files. WhenTold a.commands (λ bytes. TooLongAs (outcome_of files ws) bytes a.talk b.talk b.commands))
+told_too_long None ws s a b n m l h = tt
+told_too_long (Some files) ws s a b n m l h = l.too_long h
+
+pub told_broken : (shelf : Option Files) (ws : List (List ℕ)) (s : Status) (a b : Sight) (n m : ℕ) → Leaves (outcome_by shelf ws) s a b n m → IsBroken s → WhenTold shelf (λ files. WhenTold a.commands (λ bytes. BrokenAs (outcome_of files ws) bytes a.talk b.talk b.commands))
+told_broken None ws s a b n m l h = tt
+told_broken (Some files) ws s a b n m l h = l.broken h
+
+pub told_steady : (shelf : Option Files) (ws : List (List ℕ)) (s : Status) (a b : Sight) (n m : ℕ) → Leaves (outcome_by shelf ws) s a b n m → IsTrue a.steady → WhenTold shelf (λ files. HasFile (outcome_of files ws) → IsFaultless s)
+told_steady None ws s a b n m l h = tt
+told_steady (Some files) ws s a b n m l h = l.faultless h
+
+-- what was said, by an equal line
+pub says_as : (a b : Sight) (x y : List ℕ) (r : Result (Unit {0}) Status) → x ≡ y → Says a b x r → Says a b y r
+says_as a b x y r e s = subst (λ (z : List ℕ). Says a b z r) e s
+
+-- a goal is refused for no name
+abbrev IsNoLock : Fault → Type 0
+IsNoLock (locked k) = ⊥
+IsNoLock f = Unit {0}
+
+converted-fault : (line : ℕ) (t : Term Text) (names : List (Text × ℕ)) (o : Option (Term Text)) (f : Found) → goal_converted line t names o ≡ Err f → IsNoLock f.fault
+converted-fault line t names None f e = let q : record { line = line; fault = fault.body } ≡ f = cc in subst (λ (x : Found). IsNoLock x.fault) q tt
+converted-fault line t names (Some b) f e = absurd cc
+
+read-fault : (b : Bool) (line : ℕ) (r : Result Query Found) (f : Found) → ((f : Found) → r ≡ Err f → IsNoLock f.fault) → cond b r (Err (record { line = line; fault = fault.trailing })) ≡ Err f → IsNoLock f.fault
+read-fault true line r f h e = h f e
+read-fault false line r f h e = let q : record { line = line; fault = fault.trailing } ≡ f = cc in subst (λ (x : Found). IsNoLock x.fault) q tt
+
+outcome-fault : (bytes : List ℕ) (o : reading.Outcome) (f : Found) → goal_outcome bytes o ≡ Err f → IsNoLock f.fault
+outcome-fault bytes reading.end f e = let q : record { line = line_at 1 bytes 0; fault = fault.syntax NoEnd } ≡ f = cc in subst (λ (x : Found). IsNoLock x.fault) q tt
+outcome-fault bytes (reading.refused place kind) f e = let q : record { line = fault_line 1 bytes place; fault = fault.syntax kind } ≡ f = cc in subst (λ (x : Found). IsNoLock x.fault) q tt
+outcome-fault bytes (reading.term t names used) f e =
+    let line = line_at 1 bytes (first_token bytes) in
+    read-fault (is_rest (drop used bytes)) line (goal_converted line t names (converted t).body) f (λ f h. converted-fault line t names (converted t).body f h) e
+
+goal-no-lock : (table : Table) (quotes : DoubleQuotes) (text : List ℕ) (f : Found) → goal_of table quotes text ≡ Err f → IsNoLock f.fault
+unfolding goal_of goal_in
+goal-no-lock table quotes text f e = outcome-fault (goal_bytes text) (reading_of table quotes (goal_bytes text)) f e
+
+pub goal-fault : (table : Table) (quotes : DoubleQuotes) (text : List ℕ) (names : List Text) (n line : ℕ) (kind : LoadFaultKind)
+    → goal_of table quotes text ≡ Err (record { line = line; fault = fault_named names kind }) → IsKnownFault n kind
+goal-fault table quotes text names n line (kinds.Syntax k) e = tt
+goal-fault table quotes text names n line kinds.Trailing e = tt
+goal-fault table quotes text names n line kinds.Head e = tt
+goal-fault table quotes text names n line kinds.Body e = tt
+goal-fault table quotes text names n line (kinds.Locked k) e = absurd (goal-no-lock table quotes text _ e)
+goal-fault table quotes text names n line kinds.Directive e = tt
+
+-- the fault of a goal's text has a name that is known
+pub goal-sound : (table : Table) (quotes : DoubleQuotes) (text : List ℕ) (names : List Text) (n : ℕ) (e : LoadFault) → TellsGoal names (Err e) (goal_of table quotes text) → IsSoundLoadFault n e
+goal-sound table quotes text names n load_faults.Memory h = tt
+goal-sound table quotes text names n (load_faults.At line kind) h = goal-fault table quotes text names n line kind h
+
+-- a goal or a program that was refused
+pub goal-refused : (w : World) (names : List Text) (r : Result Query Found) (e : LoadFault) (s : Status) (a b : Sight) (n : ℕ) → TellsGoal names (Err e) r → Refuses names goal_name e s a b → Leaves (Some (with_goal w r)) s a b n n
+goal-refused w names r load_faults.Memory s a b n h l = l (Some (with_goal w r)) n
+goal-refused w names r (load_faults.At line kind) s a b n h l = renamed _ _ s a b n n (outcome_no_goal w r (record { line = line; fault = fault_named names kind }) h) (l n)
+
+pub load-refused : (name goal : List ℕ) (new : Stored) (l : Loaded) (e : LoadFault) (s : Status) (a b : Sight) (n : ℕ) → TellsLoad {U = Unit {0}} new (Err e) l → Refuses new.names name e s a b → Leaves (Some (with_loaded name goal l)) s a b n n
+load-refused name goal new l load_faults.Memory s a b n h k = k (Some (with_loaded name goal l)) n
+load-refused name goal new l (load_faults.At line kind) s a b n h k = renamed _ _ s a b n n (outcome_refused name goal l (world_of new) line (fault_named new.names kind) h) (k n)
+
+pub refuses-memory : (names : List Text) (name : List ℕ) (a : Sight) → Untouched a a → Refuses names name load_faults.Memory status.Memory a a
+refuses-memory names name a u = λ o n. leaves_memory o a a n u
+
+pub refuses-load : (names : List Text) (name : List ℕ) (line : ℕ) (kind : LoadFaultKind) (a b : Sight) (r : Result (Unit {0}) Status) → Says a b (load_line name line (fault_words (fault_named names kind))) r
+    → Refuses names name (load_faults.At line kind) (ended_as status.Load r) a b
+refuses-load names name line kind a b r s = λ n. leaves_load _ a b n r s
+
+pub refuses-as : (names : List Text) (name : List ℕ) (f g : LoadFault) (s : Status) (a b : Sight) → f ≡ g → Refuses names name g s a b → Refuses names name f s a b
+refuses-as names name f g s a b e r = subst (λ (x : LoadFault). Refuses names name x s a b) (sym e) r

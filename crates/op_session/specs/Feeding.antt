@@ -1,0 +1,93 @@
+-- What the feed of a run's events keeps.
+use Rattle.std.specs.Prelude.{◌≡◌, ◌+◌, ◌≤◌, true, [], ◌∷◌, drop, Option, Some, None}
+use Rattle.op_session.specs.Reader.{IsReader}
+use Rattle.op_trace.specs.World.{loaded}
+use Rattle.op_trace.specs.Run.{Run, events_of, worlds_of, steps_at}
+use Rattle.op_machine.specs.declared.core_state.Ending.{Ending}
+use Rattle.op_machine.specs.declared.core_state.Ending.TheVariants as outcome
+use Rattle.op_machine.specs.Machine.{Kept, to_come, ending_for, event_now, world_now, has_event}
+use Rattle.op_session.specs.declared.feed.Feed.{Feed}
+use Rattle.op_session.specs.declared.feed.Next.{Next}
+use Rattle.op_session.specs.declared.feed.Next.TheVariants as found
+use Rattle.op_session.specs.Traced.{Traced}
+use Rattle.op_session.specs.Line.{event_line}
+use Rattle.op_session.specs.Moves.{Stand, Found, At, No_event, Past_budget, next_from, moved, event_count}
+use Rattle.op_session.specs.Session.{line_at}
+
+-- the end was looked at, or it wasn't
+pub record AtEnd (run : Run) (s : Stand) (e : Ending) : Type 0 where
+  pub furthest : s.furthest ≡ event_count run + 1
+  pub place : s.place ≡ event_count run
+  pub ending : run.ending ≡ ending_for e
+
+abbrev pub Looked : Run → Stand → Option Ending → Type 0
+Looked run s None = s.furthest ≡ s.place
+Looked run s (Some e) = AtEnd run s e
+
+-- what a machine still has to show, and the operators in which it is written
+abbrev pub traced_by : Kept → Traced
+traced_by k = record { run = to_come k; table = k.tables.table }
+
+-- the feed stands where the user stands: the events behind the place are those that the machine still has to show
+pub record Feeds (traced : Traced) (s : Stand) (feed : Feed) : Type 0 where
+  pub events : drop s.place (events_of traced.run.turns) ≡ events_of (to_come feed.machine).turns
+  pub worlds : drop s.place (worlds_of traced.run.turns) ≡ worlds_of (to_come feed.machine).turns
+  pub ending : traced.run.ending ≡ (to_come feed.machine).ending
+  pub world : traced.run.world ≡ (to_come feed.machine).world
+  pub within : s.place ≤ event_count traced.run
+  pub steps : feed.machine.steps ≡ steps_at (loaded []) traced.run s.furthest
+  pub least : steps_at (loaded []) traced.run s.place ≤ feed.machine.steps
+  pub looked : Looked traced.run s feed.ended
+  pub operators : feed.machine.tables.table ≡ traced.table
+  pub reads : IsReader feed.commands
+
+-- a machine went on to its next event
+pub record ShowsEvent (old new : Kept) : Type 0 where
+  pub events : events_of (to_come old).turns ≡ event_now new ∷ events_of (to_come new).turns
+  pub worlds : worlds_of (to_come old).turns ≡ world_now new ∷ worlds_of (to_come new).turns
+  pub ending : (to_come old).ending ≡ (to_come new).ending
+  pub world : (to_come old).world ≡ (to_come new).world
+  pub here : has_event new ≡ true
+
+-- or to its ending
+pub record ShowsEnd (old new : Kept) (e : Ending) : Type 0 where
+  pub none : events_of (to_come old).turns ≡ []
+  pub no_worlds : worlds_of (to_come old).turns ≡ []
+  pub events : events_of (to_come new).turns ≡ []
+  pub worlds : worlds_of (to_come new).turns ≡ []
+  pub ending : (to_come old).ending ≡ ending_for e
+  pub same_ending : (to_come new).ending ≡ ending_for e
+  pub world : (to_come old).world ≡ world_now new
+  pub same_world : (to_come new).world ≡ world_now new
+
+abbrev pub Shows : Kept → Kept → Option Ending → Type 0
+Shows old new None = ShowsEvent old new
+Shows old new (Some e) = ShowsEnd old new e
+
+-- what a move to the next place found, and where the feed stands then
+pub record Arrives (traced : Traced) (s : Stand) (feed : Feed) (f : Found) : Type 0 where
+  pub found : next_from traced.run s.place ≡ f
+  pub feeds : Feeds traced (moved traced.run s f) feed
+
+pub record ArrivesAt (traced : Traced) (s : Stand) (feed : Feed) : Type 0 where
+  pub arrives : Arrives traced s feed (At (s.place + 1))
+  pub here : has_event feed.machine ≡ true
+  pub line : line_at traced.table (events_of traced.run.turns) s.place ≡ event_line traced.table (event_now feed.machine)
+
+abbrev pub Finds : Traced → Stand → Feed → Next → Type 0
+Finds traced s feed found.Event = ArrivesAt traced s feed
+Finds traced s feed found.NoEvent = Arrives traced s feed No_event
+Finds traced s feed found.PastBudget = Arrives traced s feed Past_budget
+
+-- what is told of an ending
+abbrev pub next_of : Option Ending → Next
+next_of None = found.Event
+next_of (Some outcome.Stopped) = found.NoEvent
+next_of (Some outcome.Failed) = found.NoEvent
+next_of (Some outcome.Spent) = found.PastBudget
+
+-- the present event is there where one was found
+abbrev pub IsHere : Next → Kept → Type 0
+IsHere found.Event k = has_event k ≡ true
+IsHere found.NoEvent k = Unit {0}
+IsHere found.PastBudget k = Unit {0}

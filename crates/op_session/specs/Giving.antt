@@ -1,0 +1,40 @@
+-- One command's answer: what is said, and where the feed stands then.
+use Rattle.std.specs.Prelude.{◌≡◌, ℕ, ◌+◌, ◌-◌, ◌≤◌, List, ◌++◌, codes, Result, Ok, Err}
+use Rattle.op_term.specs.Ops.{Table}
+use Rattle.op_trace.specs.World.{Event}
+use Rattle.op_session.specs.Traced.{Traced}
+use Rattle.op_session.specs.declared.feed.Feed.{Feed}
+use Rattle.op_session.specs.declared.feed.Next.{Next}
+use Rattle.op_session.specs.declared.feed.Next.TheVariants as found
+use Rattle.op_session.specs.declared.status.Status.{Status}
+use Rattle.op_session.specs.Line.{event_line}
+use Rattle.op_session.specs.Moves.{Stand}
+use Rattle.op_session.specs.Session.{answer_to}
+use Rattle.op_session.specs.Sight.{Sight, SaysAll, SaysFront}
+use Rattle.op_session.specs.Feeding.{Feeds}
+
+-- the answer to `next`
+abbrev pub text_of : Table → Next → Event → List ℕ
+text_of ops found.Event e = event_line ops e ++ codes "\nyes\n"
+text_of ops found.NoEvent e = codes "no\n"
+text_of ops found.PastBudget e = codes "thrown trace_budget\n"
+
+-- these bytes are the answer to a text
+pub record Told (traced : Traced) (s : Stand) (text answer : List ℕ) (feed : Feed) : Type 0 where
+  pub told : answer ≡ (answer_to traced s text).text
+  pub feeds : Feeds traced (answer_to traced s text).stand feed
+
+-- the steps that were made beside those of the run's machine
+pub record Pays (old new : Feed) (before after : ℕ) : Type 0 where
+  pub cost : after ≡ before + (new.machine.steps - old.machine.steps)
+  pub later : old.machine.steps ≤ new.machine.steps
+
+-- the answer was said
+pub record GivesAll (traced : Traced) (s : Stand) (text : List ℕ) (old new : Feed) (before after : ℕ) (a b : Sight) : Type 0 where
+  pub says : SaysAll a b (answer_to traced s text).text
+  pub feeds : Feeds traced (answer_to traced s text).stand new
+  pub pays : Pays old new before after
+
+abbrev pub Gives : Traced → Stand → List ℕ → Feed → Feed → ℕ → ℕ → Sight → Sight → Result (Unit {0}) Status → Type 0
+Gives traced s text old new before after a b (Ok x) = GivesAll traced s text old new before after a b
+Gives traced s text old new before after a b (Err st) = SaysFront st a b (answer_to traced s text).text

@@ -1,0 +1,94 @@
+ghost use Rattle.std.specs.Prelude.{◌≡◌, ℕ, ◌+◌, ◌++◌, OnOk, IfOk};
+ghost use Rattle.op_machine.specs.Machine.{event_now};
+ghost use Rattle.op_session.specs.Moves.{Stand};
+ghost use Rattle.op_session.specs.Traced.{Traced};
+ghost use Rattle.op_session.specs.Reader.{IsReader};
+ghost use Rattle.op_session.specs.Session.{other_text, unreadable_text};
+ghost use Rattle.op_session.specs.Feeding.{Feeds, IsHere};
+ghost use Rattle.op_session.specs.Giving.{Told, Pays, Gives, text_of};
+ghost use Rattle.op_session.specs.Sight.{sight};
+
+use crate::command::Meaning;
+use crate::feed::{Feed, Next};
+use crate::line::{add_decimal, add_line};
+use crate::status::Status;
+use crate::talk::say;
+use crate::words::kind_word;
+use op_base::{Memory, Steps};
+use op_desk::{Bytes, Desk};
+use op_reader::ReadFaultKind;
+use std::alloc::Global;
+use std::sync::ledger::Ledger;
+
+/// Answers a command with one write to Talk.
+pub fn give_answer<D: Desk, L: Ledger>(
+    alloc: Global,
+    feed: &mut Feed,
+    text: &[u8],
+    desk: &mut D,
+    steps: &mut Steps<L>,
+) -> Result<(), Status>
+    requires { IsReader feed.old.commands }
+    ensures { (traced : Traced) (s : Stand) → Feeds traced s feed.old → Gives traced s text.now feed.old feed.new steps.old steps.new
+        (sight (D.left desk.old) (D.written desk.old) (D.shelf desk.old) (D.steady desk.old) (D.read_faults desk.old) (D.write_faults desk.old))
+        (sight (D.left desk.new) (D.written desk.new) (D.shelf desk.new) (D.steady desk.new) (D.read_faults desk.new) (D.write_faults desk.new)) result }
+{
+    let answer = answer(alloc, feed, text, steps)?;
+    say(desk, answer.as_slice())
+}
+
+fn answer<L: Ledger>(
+    alloc: Global,
+    feed: &mut Feed,
+    text: &[u8],
+    steps: &mut Steps<L>,
+) -> Result<Bytes, Memory>
+    requires { IsReader feed.old.commands }
+    ensures told { (traced : Traced) (s : Stand) → Feeds traced s feed.old → IfOk result (λ answer. Told traced s text.now answer feed.new) }
+    ensures pays { OnOk result (Pays feed.old feed.new steps.old steps.new) }
+{
+    match feed.read(text)? {
+        Meaning::Next => {
+            let next = feed.next(steps)?;
+            next_text(alloc, feed, next)
+        }
+        Meaning::Other => other(alloc),
+        Meaning::Unreadable(place, kind) => unreadable(alloc, place, kind),
+    }
+}
+
+fn next_text(alloc: Global, feed: &Feed, next: Next) -> Result<Bytes, Memory>
+    requires { IsHere next feed.now.machine }
+    ensures { IfOk result (λ answer. answer ≡ text_of feed.now.machine.tables.table next (event_now feed.now.machine)) }
+{
+    let mut answer = Bytes::new(alloc);
+    match next {
+        Next::Event => {
+            add_line(alloc, &mut answer, &feed.event(), feed.ops())?;
+            answer.append(b"\nyes\n")?;
+        }
+        Next::NoEvent => answer.append(b"no\n")?,
+        Next::PastBudget => answer.append(b"thrown trace_budget\n")?,
+    }
+    Ok(answer)
+}
+
+fn other(alloc: Global) -> Result<Bytes, Memory>
+    ensures { IfOk result (λ answer. answer ≡ other_text) }
+{
+    let mut answer = Bytes::new(alloc);
+    answer.append(b"unreadable form 0\n")?;
+    Ok(answer)
+}
+
+fn unreadable(alloc: Global, place: u64, kind: ReadFaultKind) -> Result<Bytes, Memory>
+    ensures { IfOk result (λ answer. answer ≡ unreadable_text place kind) }
+{
+    let mut answer = Bytes::new(alloc);
+    answer.append(b"unreadable ")?;
+    answer.append(kind_word(kind))?;
+    answer.append(b" ")?;
+    add_decimal(&mut answer, place)?;
+    answer.append(b"\n")?;
+    Ok(answer)
+}

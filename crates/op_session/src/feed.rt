@@ -1,0 +1,129 @@
+ghost use Rattle.std.specs.Prelude.{◌≡◌, ℕ, ◌+◌, ◌-◌, ◌≤◌, true, IfOk, OnOk, IsTrue};
+ghost use Rattle.op_machine.specs.Machine.{has_event, event_now};
+ghost use Rattle.op_machine.specs.View.{event_in};
+ghost use Rattle.op_session.specs.Moves.{Stand, at_start};
+ghost use Rattle.op_session.specs.Traced.{Traced};
+ghost use Rattle.op_session.specs.Feeding.{Finds, Shows, next_of};
+
+use crate::command::Meaning;
+use op_base::{Memory, Steps};
+use op_machine::{Ending, EventView, Host, Machine, Turn};
+use op_store::Store;
+use op_term::Ops;
+use std::sync::ledger::Ledger;
+
+/// The events of a run in order, one at a time, and the store that reads the commands over them. The machine is asked for a turn only
+/// where an event is asked for, and no event is kept but the last.
+#[derive(Drop)]
+pub struct Feed {
+    pub machine: Machine,
+    pub ended: Option<Ending>,
+    pub commands: Store,
+}
+
+/// What stands behind the present place.
+#[derive(Clone, Copy)]
+pub enum Next {
+    /// An event. It is the present one now.
+    Event,
+    /// The end of the run.
+    NoEvent,
+    /// The end of a run that had spent its steps.
+    PastBudget,
+}
+
+impl Feed {
+    ghost use Rattle.op_session.specs.Session.{meaning};
+    ghost use Rattle.op_session.specs.Reader.{IsReader};
+    ghost use Rattle.op_session.specs.Feeding.{Feeds, IsHere, traced_by};
+
+    /// A feed before the first event of a machine that made no step, with a store that reads commands.
+    pub fn new(machine: Machine, commands: Store) -> Feed
+        requires steps { machine.steps ≡ 0 }
+        requires reads { IsReader commands }
+        ensures feeds { Feeds (traced_by machine) at_start result }
+        ensures steps { result.machine.steps ≡ 0 }
+        ensures machine { result.machine ≡ machine }
+    {
+        Feed {
+            machine,
+            ended: None,
+            commands,
+        }
+    }
+
+    /// What a text means as a command. Only the names that commands have used change.
+    pub fn read(&mut self, text: &[u8]) -> Result<Meaning, Memory>
+        requires { IsReader self.old.commands }
+        ensures meaning { IfOk result (λ m. m ≡ meaning text.now) }
+        ensures feeds { OnOk result ((traced : Traced) (s : Stand) → Feeds traced s self.old → Feeds traced s self.new) }
+        ensures machine { self.new.machine ≡ self.old.machine }
+    {
+        Meaning::of(&mut self.commands, text)
+    }
+
+    /// Goes to the next event, if there is one. A machine that has ended is not asked again.
+    pub fn next<L: Ledger>(&mut self, steps: &mut Steps<L>) -> Result<Next, Memory>
+        ensures finds { (traced : Traced) (s : Stand) → Feeds traced s self.old → IfOk result (λ next. Finds traced s self.new next) }
+        ensures here { IfOk result (λ next. IsHere next self.new.machine) }
+        ensures cost { OnOk result (steps.new ≡ steps.old + (self.new.machine.steps - self.old.machine.steps)) }
+        ensures later { OnOk result (self.old.machine.steps ≤ self.new.machine.steps) }
+    {
+        if self.ended.is_none() {
+            self.ended = next_event(&mut self.machine, steps)?;
+        }
+        Ok(next_by(self.ended))
+    }
+
+    /// The present event.
+    pub fn event(&self) -> EventView<'_>
+        requires { has_event self.now.machine ≡ true }
+        ensures { event_in result ≡ event_now self.now.machine }
+    {
+        self.machine.event().unwrap()
+    }
+
+    /// The operators that loading left, in which events are written.
+    pub fn ops(&self) -> &Ops
+        ensures { result.now ≡ self.now.machine.tables.table }
+    {
+        self.machine.store().ops()
+    }
+}
+
+fn next_by(ended: Option<Ending>) -> Next
+    ensures { result ≡ next_of ended }
+{
+    match ended {
+        None => Next::Event,
+        Some(Ending::Spent) => Next::PastBudget,
+        Some(Ending::Stopped | Ending::Failed) => Next::NoEvent,
+    }
+}
+
+// A program without builtins asks nothing of what lies outside it.
+#[derive(Drop)]
+struct Nothing;
+
+impl Host for Nothing {}
+
+// Asks a machine for turns up to the next event or its ending: a solution is passed over.
+fn next_event<L: Ledger>(
+    machine: &mut Machine,
+    steps: &mut Steps<L>,
+) -> Result<Option<Ending>, Memory>
+    ensures shows { IfOk result (λ ended. Shows machine.old machine.new ended) }
+    ensures cost { OnOk result (steps.new ≡ steps.old + (machine.new.steps - machine.old.steps)) }
+    ensures later { OnOk result (machine.old.steps ≤ machine.new.steps) }
+    ensures tables { machine.new.tables ≡ machine.old.tables }
+{
+    let mut host = Nothing;
+    loop {
+        match machine.next(&mut host, steps) {
+            Ok(Turn::Event) => return Ok(None),
+            Ok(Turn::Solution) => {}
+            Ok(Turn::Ended(ending)) => return Ok(Some(ending)),
+            Err(_) => return Err(Memory),
+        }
+    }
+}

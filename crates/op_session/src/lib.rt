@@ -1,0 +1,16 @@
+//! The session: a program and a goal are loaded, commands are read one by one, and each is answered.
+#![tactic(auto)]
+
+mod answer;
+mod call;
+mod command;
+mod feed;
+mod line;
+mod runnable;
+mod session;
+mod status;
+mod talk;
+mod words;
+
+pub use call::opium;
+pub use status::Status;

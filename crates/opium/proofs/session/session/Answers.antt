@@ -1,5 +1,0 @@
-use Rattle.opium.proofs.Leaving.{leaves_memory, untouched_start}
-use Rattle.opium.proofs.session.session.Goals as goal
-
-pub returns-in-Err : goal.returns-in-Err
-returns-in-Err g c = leaves_memory _ _ _ _ (untouched_start _)

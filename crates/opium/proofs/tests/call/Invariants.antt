@@ -1,4 +1,0 @@
-use Rattle.opium.proofs.tests.call.Given as goal
-
-abbrev pub ghosts-call_by : goal.ghosts-call_by
-ghosts-call_by a = record { name = a.blank.name; parts = a.blank.parts }
