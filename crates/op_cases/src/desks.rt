@@ -58,7 +58,8 @@ fn desk_of(alloc: Global, failing: Vec<Fail>) -> Result<MemoryDesk, Memory>
     shelf.add("in", b"old")?;
     shelf.add("other", b"xyz")?;
     shelf.add("in", b"abc")?;
-    let commands = bytes_of(alloc, b"next.")?;
+    let mut commands = bytes_of(alloc, b"next")?;
+    commands.push(b'.')?;
     let input = Bytes::new(alloc);
     Ok(MemoryDesk::new(alloc, shelf, commands, input, failing))
 }
