@@ -6,7 +6,7 @@ use Rattle.op_logic.specs.Bind.{Bindings, solve, unify, Solved as Result}
 use Rattle.op_trace.specs.declared.barrier.Barrier.{Barrier}
 use Rattle.op_trace.specs.declared.barrier.Barrier.TheVariants.{Call}
 use Rattle.op_trace.specs.World.{Text, text_eq, Clause, World, Setup, Item, Goal, Cut, Exit, open_boxes, procedure}
-use Rattle.op_trace.specs.Visit.{Stopped, Control, Succeed, Give_up, Commit, Both, Either, If, Invoke, control, is_true, entered, Choice, Redo, Branch, More, Fail, Condition}
+use Rattle.op_trace.specs.Visit.{Stopped, Control, TrueGoal, FailGoal, CutGoal, Conjunction, Disjunction, IfThenElse, BoxedGoal, control, is_true, entered, Choice, Redo, Branch, More, Fail, Condition}
 use Rattle.op_trace.proofs.Later.{IsLess, within-less}
 use Rattle.op_machine.specs.Resume.{stays, goes, keep, with_more, State, Going, Back, Over, Moved, paid, chosen, met, tried, branched, move}
 use Rattle.op_machine.specs.Counted.{pending, IsNested, AreNested, event_bound, Counts, Counted}
@@ -110,13 +110,13 @@ chosen-counted q s n t m J K σ w e below c con sol ev nest all = go q
     up = bound-up n w.steps (omega arith)
 
     go : (q : Control) → Counted s (chosen q t m J K σ w).state
-    go Succeed = (record { steps = below; calls = omega arith; conditions = omega arith }, omega (arith, up), omega arith, nest, all)
-    go Give_up = (record { steps = below; calls = omega arith; conditions = omega arith }, omega (arith, up), omega arith, all)
-    go Commit = (record { steps = below; calls = omega arith; conditions = omega arith }, omega (arith, up, keep-pending m K), omega arith, nest, keep-nested w.calls m K all)
-    go (Either a b) = (record { steps = below; calls = omega arith; conditions = omega arith }, omega (arith, up), omega arith, nest, (nest, all))
-    go (If x a b) = (record { steps = below; calls = omega arith; conditions = omega arith }, omega (arith, up), omega arith, (tt, nest), (nest, all))
-    go (Both a b) = (record { steps = below; calls = omega arith; conditions = omega arith }, omega (arith, up), omega arith, nest, all)
-    go Invoke =
+    go TrueGoal = (record { steps = below; calls = omega arith; conditions = omega arith }, omega (arith, up), omega arith, nest, all)
+    go FailGoal = (record { steps = below; calls = omega arith; conditions = omega arith }, omega (arith, up), omega arith, all)
+    go CutGoal = (record { steps = below; calls = omega arith; conditions = omega arith }, omega (arith, up, keep-pending m K), omega arith, nest, keep-nested w.calls m K all)
+    go (Disjunction a b) = (record { steps = below; calls = omega arith; conditions = omega arith }, omega (arith, up), omega arith, nest, (nest, all))
+    go (IfThenElse x a b) = (record { steps = below; calls = omega arith; conditions = omega arith }, omega (arith, up), omega arith, (tt, nest), (nest, all))
+    go (Conjunction a b) = (record { steps = below; calls = omega arith; conditions = omega arith }, omega (arith, up), omega arith, nest, all)
+    go BoxedGoal =
         let more : w.calls ≤ w.calls + 1 = omega arith in
         let deep : length (open_boxes J) ≤ w.calls = nested-length w.calls J nest in
         let this : IsNested (w.calls + 1) (Exit (w.calls + 1) t ∷ J) = (omega arith, omega arith, nested-more w.calls (w.calls + 1) J more nest) in

@@ -84,15 +84,15 @@ keep-choices t floor v (f ∷ F) m a =
     go false false below = choices-rise t floor (level_at f v) v (keep_frames m F) (rises-back v f a.0) (keep-are t floor (level_at f v) F m a.3) ∙ below
 
 -- the machine with the choices that a cut keeps
-pub pruned-choices : (c d : Core) (m : Barrier) → IsGood c → d ≡ record c { frames = d.frames } → reverse d.frames.choices ≡ keep_frames m (reverse c.frames.choices)
+pub cut_moved-choices : (c d : Core) (m : Barrier) → IsGood c → d ≡ record c { frames = d.frames } → reverse d.frames.choices ≡ keep_frames m (reverse c.frames.choices)
     → choices_in d ≡ keep m (choices_in c)
-pruned-choices c d m good e kept =
+cut_moved-choices c d m good e kept =
     ap (λ (x : Core). choices_of x.store (level_in x) (reverse d.frames.choices)) e
     ∙ (ap (choices_of c.store (level_in c)) kept ∙ keep-choices c.store c.floor.terms (level_in c) (reverse c.frames.choices) m good.frames)
 
-pub pruned-good : (c d : Core) (m : Barrier) → IsGood c → d ≡ record c { frames = d.frames } → d.frames.boxes ≡ c.frames.boxes
+pub cut_moved-good : (c d : Core) (m : Barrier) → IsGood c → d ≡ record c { frames = d.frames } → d.frames.boxes ≡ c.frames.boxes
     → reverse d.frames.choices ≡ keep_frames m (reverse c.frames.choices) → IsGood d
-pruned-good c d m good e same kept =
+cut_moved-good c d m good e same kept =
     subst IsGood (sym e) (record {
       level = good.level;
       frames = subst (AreFrames c.store c.floor.terms (level_in c)) (sym kept) (keep-are c.store c.floor.terms (level_in c) (reverse c.frames.choices) m good.frames);

@@ -6,7 +6,7 @@ use Rattle.op_trace.specs.declared.port.Port.TheVariants as port
 use Rattle.op_trace.specs.declared.barrier.Barrier.{Barrier}
 use Rattle.op_trace.specs.declared.barrier.Barrier.TheVariants.{Call, Within, Past}
 use Rattle.op_trace.specs.World.{Text, text_eq, Clause, World, Setup, same_barrier, Item, Goal, Cut, Exit, Turn, Shown, Solved, procedure}
-use Rattle.op_trace.specs.Visit.{Verdict, Failed, CutTo, Stopped, Spent, Visited, gives, with_turns, and_then, event_of, with_event, pays, reaches, cut, shows, Control, Succeed, Give_up, Commit, Both, Either, If, Invoke, control, entered, Choice, Redo, Branch, More, Fail, Condition, matched, tries, alternatives, branches, after, boxed, selected, solved, visit, visit_with}
+use Rattle.op_trace.specs.Visit.{Verdict, Failed, CutTo, Stopped, Spent, Visited, gives, with_turns, and_then, event_of, with_event, pays, reaches, cut, shows, Control, TrueGoal, FailGoal, CutGoal, Conjunction, Disjunction, IfThenElse, BoxedGoal, control, entered, Choice, Redo, Branch, More, Fail, Condition, matched, tries, alternatives, branches, after, boxed, selected, solved, visit, visit_with}
 use Rattle.op_trace.proofs.Agree.{visit_rows}
 use Rattle.op_trace.proofs.Only.{Only, visit-only}
 use Rattle.op_machine.specs.Resume.{resume, keep, with_more, State, Going, Back, Over, owed, Moved, silent, paid, invoked, chosen, met, tried, branched, at_solution, move, world_of}
@@ -140,15 +140,15 @@ branched-row s t m σ J w K =
 pub selected-row : (s : Setup) (q : Control) (t : Term Text) (m : Barrier) (J : List Item) (σ : Bindings Text) (w : World) (K : List Choice)
     → Behind m K J → and_then (selected (visit s) s q t m J σ w) (resume s K) ≡ comes s (chosen q t m J K σ w)
 unfolding owed
-selected-row s Succeed t m J σ w K b = refl
-selected-row s Give_up t m J σ w K b = refl
-selected-row s Commit t m J σ w K b = cuts-row s m J K σ w b
-selected-row s (Both x y) t m J σ w K b = refl
-selected-row s (Either x y) t m J σ w K b = push-row s (visit s (Goal x m ∷ J) σ w) (Branch y m σ J) K
-selected-row s (If c x y) t m J σ w K b =
+selected-row s TrueGoal t m J σ w K b = refl
+selected-row s FailGoal t m J σ w K b = refl
+selected-row s CutGoal t m J σ w K b = cuts-row s m J K σ w b
+selected-row s (Conjunction x y) t m J σ w K b = refl
+selected-row s (Disjunction x y) t m J σ w K b = push-row s (visit s (Goal x m ∷ J) σ w) (Branch y m σ J) K
+selected-row s (IfThenElse c x y) t m J σ w K b =
     let n : ℕ = w.conditions + 1 in
     push-row s (visit s (Goal c (Within n) ∷ Cut (Past n) ∷ Goal x m ∷ J) σ (record w { conditions = n })) (Condition n y m σ J) K
-selected-row s Invoke t m J σ w K b = boxed-row s t J σ w K
+selected-row s BoxedGoal t m J σ w K b = boxed-row s t J σ w K
 
 pub solved-row : (s : Setup) (σ : Bindings Text) (w : World) (K : List Choice)
     → and_then (solved s σ w) (resume s K) ≡ comes s (at_solution s K σ w)

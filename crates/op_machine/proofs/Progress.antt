@@ -5,7 +5,7 @@ use Rattle.op_logic.specs.Term.{Term, shift}
 use Rattle.op_logic.specs.Bind.{Bindings, solve, unify, Solved as Result}
 use Rattle.op_trace.specs.declared.barrier.Barrier.{Barrier}
 use Rattle.op_trace.specs.World.{Text, text_eq, Clause, World, Setup, Item, Goal, Cut, Exit, Solved}
-use Rattle.op_trace.specs.Visit.{Stopped, Control, Succeed, Give_up, Commit, Both, Either, If, Invoke, control, entered, Choice, Redo, Branch, More, Fail, Condition}
+use Rattle.op_trace.specs.Visit.{Stopped, Control, TrueGoal, FailGoal, CutGoal, Conjunction, Disjunction, IfThenElse, BoxedGoal, control, entered, Choice, Redo, Branch, More, Fail, Condition}
 use Rattle.op_trace.proofs.Later.{IsLess, within-less}
 use Rattle.op_machine.specs.Resume.{keep, with_more, State, Going, Back, Over, Moved, silent, paid, pay, chosen, met, tried, branched, move, world_of}
 use Rattle.op_machine.specs.Counted.{IsGoalFirst, Counted}
@@ -28,13 +28,13 @@ paid-onward false s n w h test below k = record { count = omega arith; steps = b
 
 pub chosen-onward : (q : Control) (s : Setup) (t : Term Text) (m : Barrier) (J : List Item) (K : List Choice) (σ : Bindings Text) (w : World)
     → IsOnward s w (chosen q t m J K σ w)
-chosen-onward Succeed s t m J K σ w = record { count = omega arith; steps = omega arith }
-chosen-onward Give_up s t m J K σ w = record { count = omega arith; steps = omega arith }
-chosen-onward Commit s t m J K σ w = record { count = omega arith; steps = omega arith }
-chosen-onward (Either a b) s t m J K σ w = record { count = omega arith; steps = omega arith }
-chosen-onward (If c a b) s t m J K σ w = record { count = omega arith; steps = omega arith }
-chosen-onward (Both a b) s t m J K σ w = record { count = omega arith; steps = omega arith }
-chosen-onward Invoke s t m J K σ w = record { count = omega arith; steps = omega arith }
+chosen-onward TrueGoal s t m J K σ w = record { count = omega arith; steps = omega arith }
+chosen-onward FailGoal s t m J K σ w = record { count = omega arith; steps = omega arith }
+chosen-onward CutGoal s t m J K σ w = record { count = omega arith; steps = omega arith }
+chosen-onward (Disjunction a b) s t m J K σ w = record { count = omega arith; steps = omega arith }
+chosen-onward (IfThenElse c a b) s t m J K σ w = record { count = omega arith; steps = omega arith }
+chosen-onward (Conjunction a b) s t m J K σ w = record { count = omega arith; steps = omega arith }
+chosen-onward BoxedGoal s t m J K σ w = record { count = omega arith; steps = omega arith }
 
 pub met-onward : (s : Setup) (c : Clause) (k : ℕ) (g : Term Text) (J : List Item) (K : List Choice) (w : World) (o : Option (Result Text))
     → w.steps ≤ s.budget → IsLess (s.budget - w.steps) o → IsOnward s w (met s c k g J K w o)

@@ -6,7 +6,7 @@ use Rattle.op_logic.specs.Bind.{Bindings, Solved as Result}
 use Rattle.op_trace.specs.declared.barrier.Barrier.{Barrier}
 use Rattle.op_trace.specs.declared.barrier.Barrier.TheVariants.{Call, Within, Past}
 use Rattle.op_trace.specs.World.{Text, Clause, World, Setup, Item, Goal, Cut, Exit, Has, procedure}
-use Rattle.op_trace.specs.Visit.{Stopped, Control, Succeed, Give_up, Commit, Both, Either, If, Invoke, control, is_true, entered, Choice, Redo, Branch, More, Fail, Condition}
+use Rattle.op_trace.specs.Visit.{Stopped, Control, TrueGoal, FailGoal, CutGoal, Conjunction, Disjunction, IfThenElse, BoxedGoal, control, is_true, entered, Choice, Redo, Branch, More, Fail, Condition}
 use Rattle.op_machine.specs.Resume.{stays, goes, keep, with_more, State, Going, Back, Over, Moved, paid, chosen, met, tried, branched, move}
 use Rattle.op_machine.specs.Scope.{Behind, Scoped, IsGiven, IsGoalBarrier, AreGiven, AreScoped, InStep}
 
@@ -146,10 +146,10 @@ again-behind c d m K t J h b n has =
     elim has [ inl e ↦ subst (λ (i : Barrier). keep i (keep m K) ≡ keep i K) (sym e) (keep-keep c d m K h) | inr r ↦ b n r ]
 
 -- a condition before what follows its success, over its own choice
-pub asked-scoped : (c d n : ℕ) (t u e : Term Text) (m : Barrier) (σ : Bindings Text) (J : List Item) (K : List Choice)
+pub if_then_else_chosen-scoped : (c d n : ℕ) (t u e : Term Text) (m : Barrier) (σ : Bindings Text) (J : List Item) (K : List Choice)
     → IsGoalBarrier c d m → AreGiven c d J → d < n → Scoped K (Goal u m ∷ J)
     → Scoped (Condition n e m σ J ∷ K) (Goal t (Within n) ∷ Cut (Past n) ∷ Goal u m ∷ J)
-asked-scoped c d n t u e m σ J K h a fresh s =
+if_then_else_chosen-scoped c d n t u e m σ J K h a fresh s =
     let L : List Choice = Condition n e m σ J ∷ K in
     let same : SameFor K L (Goal u m ∷ J) = λ x has. keep-before c d n x m e σ J K (has-given c d (Goal u m ∷ J) x (h, a) has) fresh in (
       λ x has. ap (keep x) (keep-within n m e σ J K),
@@ -159,23 +159,23 @@ asked-scoped c d n t u e m σ J K h a fresh s =
 pub chosen-in_step : (q : Control) (t : Term Text) (m : Barrier) (J : List Item) (K : List Choice) (σ : Bindings Text) (w : World)
     → Behind m K J → Scoped K J → IsGoalBarrier w.calls w.conditions m → AreGiven w.calls w.conditions J → AreScoped w.calls w.conditions K
     → InStep (chosen q t m J K σ w).state
-chosen-in_step Succeed t m J K σ w b s h a all = (s, a, all)
-chosen-in_step Give_up t m J K σ w b s h a all = all
-chosen-in_step Commit t m J K σ w b s h a all = (scoped-along K (keep m K) J b s, a, keep-scoped w.calls w.conditions m K all)
-chosen-in_step (Both x y) t m J K σ w b s h a all = ((again-behind w.calls w.conditions m K y J h b, (b, s)), (h, (h, a)), all)
-chosen-in_step (Either x y) t m J K σ w b s h a all = ((b, s), (h, a), (((b, s), (h, a)), all))
-chosen-in_step (If c x y) t m J K σ w b s h a all =
+chosen-in_step TrueGoal t m J K σ w b s h a all = (s, a, all)
+chosen-in_step FailGoal t m J K σ w b s h a all = all
+chosen-in_step CutGoal t m J K σ w b s h a all = (scoped-along K (keep m K) J b s, a, keep-scoped w.calls w.conditions m K all)
+chosen-in_step (Conjunction x y) t m J K σ w b s h a all = ((again-behind w.calls w.conditions m K y J h b, (b, s)), (h, (h, a)), all)
+chosen-in_step (Disjunction x y) t m J K σ w b s h a all = ((b, s), (h, a), (((b, s), (h, a)), all))
+chosen-in_step (IfThenElse c x y) t m J K σ w b s h a all =
     let n : ℕ = w.conditions + 1 in
     let same : w.calls ≤ w.calls = omega arith in
     let more : w.conditions ≤ w.conditions + 1 = omega arith in
     let fresh : w.conditions < n = omega arith in
     let last : n ≤ n = omega arith in
     let given : AreGiven w.calls (w.conditions + 1) (Goal x m ∷ J) = given-more w.calls w.conditions w.calls (w.conditions + 1) same more (Goal x m ∷ J) (h, a) in (
-      asked-scoped w.calls w.conditions n c x y m σ J K h a fresh (b, s),
+      if_then_else_chosen-scoped w.calls w.conditions n c x y m σ J K h a fresh (b, s),
       (last, (last, given)),
       (((b, s), given), scoped-more w.calls w.conditions w.calls (w.conditions + 1) same more K all),
     )
-chosen-in_step Invoke t m J K σ w b s h a all =
+chosen-in_step BoxedGoal t m J K σ w b s h a all =
     let k : ℕ = w.calls + 1 in
     let L : List Choice = Fail k t σ J ∷ K in
     let more : w.calls ≤ w.calls + 1 = omega arith in

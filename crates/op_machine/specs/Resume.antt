@@ -7,7 +7,7 @@ use Rattle.op_trace.specs.declared.port.Port.TheVariants as port
 use Rattle.op_trace.specs.declared.barrier.Barrier.{Barrier}
 use Rattle.op_trace.specs.declared.barrier.Barrier.TheVariants.{Call, Within, Past}
 use Rattle.op_trace.specs.World.{Text, text_eq, Clause, World, Setup, same_barrier, Item, Goal, Cut, Exit, Turn, Shown, Solved, procedure}
-use Rattle.op_trace.specs.Visit.{Verdict, Failed, CutTo, Stopped, Spent, Visited, gives, and_then, event_of, with_event, Control, Succeed, Give_up, Commit, Both, Either, If, Invoke, control, entered, Choice, Redo, Branch, More, Fail, Condition, after, visit}
+use Rattle.op_trace.specs.Visit.{Verdict, Failed, CutTo, Stopped, Spent, Visited, gives, and_then, event_of, with_event, Control, TrueGoal, FailGoal, CutGoal, Conjunction, Disjunction, IfThenElse, BoxedGoal, control, entered, Choice, Redo, Branch, More, Fail, Condition, after, visit}
 
 -- where no choice is left, a cut leaves nothing more to fail
 abbrev pub at_top : Verdict → World → Visited
@@ -85,19 +85,19 @@ invoked g J K σ w =
     showing port.Call k g σ J u (Back (with_more (procedure w.clauses g) k g σ J (Fail k g σ J ∷ K)) (with_event u))
 
 -- a condition comes next, and the else branch is kept as a choice
-abbrev pub asked : Term Text → Term Text → Term Text → Barrier → List Item → List Choice → Bindings Text → World → Moved
-asked c t e m J K σ w =
+abbrev pub if_then_else_chosen : Term Text → Term Text → Term Text → Barrier → List Item → List Choice → Bindings Text → World → Moved
+if_then_else_chosen c t e m J K σ w =
     let n : ℕ = w.conditions + 1 in
     silent (Going (Goal c (Within n) ∷ Cut (Past n) ∷ Goal t m ∷ J) (Condition n e m σ J ∷ K) σ (record w { conditions = n }))
 
 abbrev pub chosen : Control → Term Text → Barrier → List Item → List Choice → Bindings Text → World → Moved
-chosen Succeed t m J K σ w = silent (Going J K σ w)
-chosen Give_up t m J K σ w = silent (Back K w)
-chosen Commit t m J K σ w = silent (Going J (keep m K) σ w)
-chosen (Both a b) t m J K σ w = silent (Going (Goal a m ∷ Goal b m ∷ J) K σ w)
-chosen (Either a b) t m J K σ w = silent (Going (Goal a m ∷ J) (Branch b m σ J ∷ K) σ w)
-chosen (If c a b) t m J K σ w = asked c a b m J K σ w
-chosen Invoke t m J K σ w = invoked t J K σ w
+chosen TrueGoal t m J K σ w = silent (Going J K σ w)
+chosen FailGoal t m J K σ w = silent (Back K w)
+chosen CutGoal t m J K σ w = silent (Going J (keep m K) σ w)
+chosen (Conjunction a b) t m J K σ w = silent (Going (Goal a m ∷ Goal b m ∷ J) K σ w)
+chosen (Disjunction a b) t m J K σ w = silent (Going (Goal a m ∷ J) (Branch b m σ J ∷ K) σ w)
+chosen (IfThenElse c a b) t m J K σ w = if_then_else_chosen c a b m J K σ w
+chosen BoxedGoal t m J K σ w = invoked t J K σ w
 
 abbrev pub met : Setup → Clause → ℕ → Term Text → List Item → List Choice → World → Option (Result Text) → Moved
 met s c k g J K w None = silent (Over Spent (record w { steps = s.budget }))

@@ -15,7 +15,7 @@ use Rattle.op_machine.specs.declared.core_state.Core.{Core}
 use Rattle.op_machine.specs.declared.core_state.Step.{Step}
 use Rattle.op_machine.specs.declared.core_state.Step.TheVariants as step
 use Rattle.op_machine.specs.Core.{setup_of, world_in, items_now, goal_now, bindings_now, choices_in, state_of, event_seen, IsGood, IsSeen}
-use Rattle.op_machine.specs.Resume.{Moved, Going, Back, silent, pay, keep, asked, chosen, invoked, met, tried, branched, move}
+use Rattle.op_machine.specs.Resume.{Moved, Going, Back, silent, pay, keep, if_then_else_chosen, chosen, invoked, met, tried, branched, move}
 
 -- the turn that a machine shows after a step
 abbrev pub turns_of : Step → Core → List Turn
@@ -53,8 +53,8 @@ body_entered c b k g n =
     silent (Going (body_before c b k (world.Exit k (goal_now c g) ∷ items_now c n)) (choices_in c) (bindings_now c) (world_in c))
 
 -- the two goals of a conjunction before a list
-abbrev pub both_before : Core → ℕ → Barrier → ℕ → List world.Item
-both_before c g m n =
+abbrev pub conjunction_before : Core → ℕ → Barrier → ℕ → List world.Item
+conjunction_before c g m n =
     let ts : Args ℕ = args_of (term_at c.bindings.terms g) in
     world.Goal (goal_named c.store (nth_arg ts 0)) m ∷ world.Goal (goal_named c.store (nth_arg ts 1)) m ∷ items_now c n
 
@@ -81,17 +81,17 @@ abbrev pub branch_tried : Core → ℕ → Barrier → ℕ → Moved
 branch_tried c g m n = branched (setup_of c) (goal_now c g) m (bindings_now c) (items_now c n) (choices_in c) (world_in c)
 
 -- the choices that a cut keeps
-abbrev pub pruned : Core → Barrier → ℕ → Moved
-pruned c m n = silent (Going (items_now c n) (keep m (choices_in c)) (bindings_now c) (world_in c))
+abbrev pub cut_moved : Core → Barrier → ℕ → Moved
+cut_moved c m n = silent (Going (items_now c n) (keep m (choices_in c)) (bindings_now c) (world_in c))
 
 -- the first branch comes next, and the second is kept as a choice
-abbrev pub either_before : Core → ℕ → ℕ → Barrier → ℕ → Moved
-either_before c a b m n =
+abbrev pub disjunction_before : Core → ℕ → ℕ → Barrier → ℕ → Moved
+disjunction_before c a b m n =
     silent (Going (world.Goal (goal_now c a) m ∷ items_now c n) (visit.Branch (goal_now c b) m (bindings_now c) (items_now c n) ∷ choices_in c) (bindings_now c) (world_in c))
 
 -- a condition comes next, and the else branch is kept as a choice
-abbrev pub condition_before : Core → ℕ → ℕ → ℕ → Barrier → ℕ → Moved
-condition_before c a b e m n = asked (goal_now c a) (goal_now c b) (goal_now c e) m (items_now c n) (choices_in c) (bindings_now c) (world_in c)
+abbrev pub if_then_else_before : Core → ℕ → ℕ → ℕ → Barrier → ℕ → Moved
+if_then_else_before c a b e m n = if_then_else_chosen (goal_now c a) (goal_now c b) (goal_now c e) m (items_now c n) (choices_in c) (bindings_now c) (world_in c)
 
 -- the program and the goal's names stay, also where memory is wanting, and steps never fall
 pub record Keeps (old new : Core) : Type 0 where

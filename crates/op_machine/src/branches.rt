@@ -3,60 +3,70 @@ ghost use Rattle.op_logic.specs.Term.{args_of, arity, nth_arg, atom};
 ghost use Rattle.op_term.specs.Places.{term_at};
 ghost use Rattle.op_trace.specs.declared.barrier.Barrier.TheVariants.{Within, Past};
 ghost use Rattle.op_trace.specs.World.{Goal, Cut};
-ghost use Rattle.op_trace.specs.Visit.{If, disjunction};
+ghost use Rattle.op_trace.specs.Visit.{IfThenElse, control_of_disjunction};
 ghost use Rattle.op_machine.specs.declared.core_state.Step.TheVariants as step;
 ghost use Rattle.op_machine.specs.Core.{world_in, level_in, items_now, goal_now, bindings_now, choices_in, IsGood, IsGoal};
 ghost use Rattle.op_machine.specs.Program.{goal_named};
 ghost use Rattle.op_machine.specs.Resume.{chosen};
-ghost use Rattle.op_machine.specs.Rows.{Keeps, Advances, branch_tried, either_before, condition_before};
+ghost use Rattle.op_machine.specs.Rows.{Keeps, Advances, branch_tried, disjunction_before, if_then_else_before};
 
 use crate::core_state::{Core, Mode, Step};
-use crate::kind::is_then;
+use crate::kind::is_if_then;
 use crate::lists::Item;
 use op_base::Memory;
 use op_bind::Ref;
 use op_trace::Barrier;
 
 impl Core {
-    // A disjunction: a condition with an else branch, or two branches.
-    pub(crate) fn fork(&mut self, goal: Ref, barrier: Barrier, rest: u64) -> Result<(), Memory>
+    // A disjunction: an if-then-else, or two branches.
+    pub(crate) fn select_disjunction(
+        &mut self,
+        goal: Ref,
+        barrier: Barrier,
+        rest: u64,
+    ) -> Result<(), Memory>
         requires good { IsGood self.old }
         requires there { rest < length self.old.lists }
         requires goal { IsGoal (length self.old.store.names) self.old.bindings.terms goal }
         requires two { arity (args_of (term_at self.old.bindings.terms goal)) ≡ 2 }
         requires conditions { self.old.conditions < 2 ^ 63 }
         ensures advances { OnOk result (Advances self.old self.new (chosen
-            (disjunction (goal_named self.old.store (nth_arg (args_of (term_at self.old.bindings.terms goal)) 0)) (goal_named self.old.store (nth_arg (args_of (term_at self.old.bindings.terms goal)) 1)))
+            (control_of_disjunction (goal_named self.old.store (nth_arg (args_of (term_at self.old.bindings.terms goal)) 0)) (goal_named self.old.store (nth_arg (args_of (term_at self.old.bindings.terms goal)) 1)))
             (goal_now self.old goal) barrier (items_now self.old rest) (choices_in self.old) (bindings_now self.old) (world_in self.old)) step.Silent) }
         ensures keeps { Keeps self.old self.new }
     {
         let first = self.bindings.argument(&goal, 0);
         let second = self.bindings.argument(&goal, 1);
-        if is_then(&self.store, self.bindings.outline(&first)) {
+        if is_if_then(&self.store, self.bindings.outline(&first)) {
             let condition = self.bindings.argument(&first, 0);
             let then = self.bindings.argument(&first, 1);
-            self.ask(condition, then, second, barrier, rest)
+            self.select_if_then_else(condition, then, second, barrier, rest)
         } else {
             self.branch(first, second, barrier, rest)
         }
     }
 
-    // A condition without an else branch, which fails where it has no solution.
-    pub(crate) fn ask_alone(&mut self, goal: Ref, barrier: Barrier, rest: u64) -> Result<(), Memory>
+    // An if-then, which fails where its condition has no solution.
+    pub(crate) fn select_if_then(
+        &mut self,
+        goal: Ref,
+        barrier: Barrier,
+        rest: u64,
+    ) -> Result<(), Memory>
         requires good { IsGood self.old }
         requires there { rest < length self.old.lists }
         requires goal { IsGoal (length self.old.store.names) self.old.bindings.terms goal }
         requires two { arity (args_of (term_at self.old.bindings.terms goal)) ≡ 2 }
         requires conditions { self.old.conditions < 2 ^ 63 }
         ensures advances { OnOk result (Advances self.old self.new (chosen
-            (If (goal_named self.old.store (nth_arg (args_of (term_at self.old.bindings.terms goal)) 0)) (goal_named self.old.store (nth_arg (args_of (term_at self.old.bindings.terms goal)) 1)) (atom (codes "fail")))
+            (IfThenElse (goal_named self.old.store (nth_arg (args_of (term_at self.old.bindings.terms goal)) 0)) (goal_named self.old.store (nth_arg (args_of (term_at self.old.bindings.terms goal)) 1)) (atom (codes "fail")))
             (goal_now self.old goal) barrier (items_now self.old rest) (choices_in self.old) (bindings_now self.old) (world_in self.old)) step.Silent) }
         ensures keeps { Keeps self.old self.new }
     {
         let _names = self.store.symbols().count();
         let condition = self.bindings.argument(&goal, 0);
         let then = self.bindings.argument(&goal, 1);
-        self.ask(condition, then, self.failure, barrier, rest)
+        self.select_if_then_else(condition, then, self.failure, barrier, rest)
     }
 
     // Two branches: the first comes next, and the second is kept as a choice.
@@ -65,7 +75,7 @@ impl Core {
         requires there { rest < length self.old.lists }
         requires first { IsGoal (length self.old.store.names) self.old.bindings.terms first }
         requires second { IsGoal (length self.old.store.names) self.old.bindings.terms second }
-        ensures advances { OnOk result (Advances self.old self.new (either_before self.old first second barrier rest) step.Silent) }
+        ensures advances { OnOk result (Advances self.old self.new (disjunction_before self.old first second barrier rest) step.Silent) }
         ensures keeps { Keeps self.old self.new }
     {
         self.push_branch(second, barrier, rest)?;
@@ -81,7 +91,7 @@ impl Core {
     }
 
     // A condition comes next, and the cut of its success behind it; the else branch is kept as a choice.
-    fn ask(
+    fn select_if_then_else(
         &mut self,
         condition: Ref,
         then: Ref,
@@ -95,7 +105,7 @@ impl Core {
         requires then { IsGoal (length self.old.store.names) self.old.bindings.terms then }
         requires otherwise { IsGoal (length self.old.store.names) self.old.bindings.terms otherwise }
         requires conditions { self.old.conditions < 2 ^ 63 }
-        ensures advances { OnOk result (Advances self.old self.new (condition_before self.old condition then otherwise barrier rest) step.Silent) }
+        ensures advances { OnOk result (Advances self.old self.new (if_then_else_before self.old condition then otherwise barrier rest) step.Silent) }
         ensures keeps { Keeps self.old self.new }
     {
         self.conditions += 1;

@@ -250,7 +250,7 @@ impl Core {
     }
 
     // A cut is made at once: what it drops is freed.
-    pub(crate) fn prune(&mut self, barrier: Barrier)
+    pub(crate) fn make_cut(&mut self, barrier: Barrier)
         requires good { IsGood self.old }
         ensures choices { choices_in self.new ≡ keep barrier (choices_in self.old) }
         ensures good { IsGood self.new }

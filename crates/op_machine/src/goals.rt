@@ -1,11 +1,11 @@
 ghost use Rattle.std.specs.Prelude.{◌≡◌, ◌+◌, ◌<◌, ◌≤◌, ◌^◌, ◌∷◌, length, IfOk, OnOk};
 ghost use Rattle.op_trace.specs.declared.barrier.Barrier.{Barrier};
 ghost use Rattle.op_trace.specs.World.{Goal};
-ghost use Rattle.op_trace.specs.Visit.{control, Both};
+ghost use Rattle.op_trace.specs.Visit.{control, Conjunction};
 ghost use Rattle.op_machine.specs.declared.core_state.Step.TheVariants as step;
 ghost use Rattle.op_machine.specs.Core.{world_in, level_in, items_now, goal_now, bindings_now, choices_in, IsGood, IsGoal};
 ghost use Rattle.op_machine.specs.Resume.{silent, Going};
-ghost use Rattle.op_machine.specs.Rows.{Keeps, Advances, chosen_now, goal_moved, rule_met, rule_tried, rules_tried, both_before};
+ghost use Rattle.op_machine.specs.Rows.{Keeps, Advances, chosen_now, goal_moved, rule_met, rule_tried, rules_tried, conjunction_before};
 ghost use Rattle.op_machine.specs.Boxes.{IsCalled};
 ghost use Rattle.op_machine.specs.Program.{IsKnown, AreKnown};
 ghost use Rattle.op_term.specs.Places.{term_at};
@@ -51,29 +51,29 @@ impl Core {
         ensures keeps { Keeps self.old self.new }
     {
         match kind_of(&self.store, self.bindings.outline(&goal)) {
-            Kind::Truth => {
+            Kind::True => {
                 self.mode = Mode::Forward { items: rest };
                 Ok(Step::Silent)
             }
-            Kind::Failure => {
+            Kind::Fail => {
                 self.mode = Mode::Backward;
                 Ok(Step::Silent)
             }
             Kind::Cut => {
-                self.prune(barrier);
+                self.make_cut(barrier);
                 self.mode = Mode::Forward { items: rest };
                 Ok(Step::Silent)
             }
-            Kind::Both => {
-                self.split(goal, barrier, rest)?;
+            Kind::Conjunction => {
+                self.select_conjunction(goal, barrier, rest)?;
                 Ok(Step::Silent)
             }
-            Kind::Either => {
-                self.fork(goal, barrier, rest)?;
+            Kind::Disjunction => {
+                self.select_disjunction(goal, barrier, rest)?;
                 Ok(Step::Silent)
             }
-            Kind::Then => {
-                self.ask_alone(goal, barrier, rest)?;
+            Kind::IfThen => {
+                self.select_if_then(goal, barrier, rest)?;
                 Ok(Step::Silent)
             }
             Kind::Boxed => self.invoke(goal, rest),
@@ -81,12 +81,12 @@ impl Core {
     }
 
     // Both goals of a conjunction come next.
-    fn split(&mut self, goal: Ref, barrier: Barrier, rest: u64) -> Result<(), Memory>
+    fn select_conjunction(&mut self, goal: Ref, barrier: Barrier, rest: u64) -> Result<(), Memory>
         requires good { IsGood self.old }
         requires there { rest < length self.old.lists }
         requires goal { IsGoal (length self.old.store.names) self.old.bindings.terms goal }
-        requires both { arity (args_of (term_at self.old.bindings.terms goal)) ≡ 2 }
-        ensures advances { OnOk result (Advances self.old self.new (silent (Going (both_before self.old goal barrier rest) (choices_in self.old) (bindings_now self.old) (world_in self.old))) step.Silent) }
+        requires two { arity (args_of (term_at self.old.bindings.terms goal)) ≡ 2 }
+        ensures advances { OnOk result (Advances self.old self.new (silent (Going (conjunction_before self.old goal barrier rest) (choices_in self.old) (bindings_now self.old) (world_in self.old))) step.Silent) }
         ensures keeps { Keeps self.old self.new }
     {
         let first = self.bindings.argument(&goal, 0);

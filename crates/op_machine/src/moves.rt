@@ -68,7 +68,7 @@ impl Core {
         match item {
             Item::Goal { goal, barrier } => self.select(goal, barrier, rest),
             Item::Cut { barrier } => {
-                self.prune(barrier);
+                self.make_cut(barrier);
                 self.mode = Mode::Forward { items: rest };
                 Ok(Step::Silent)
             }

@@ -19,7 +19,7 @@ ghost use Rattle.op_store.specs.Snapshots.{rules_in};
 
 use crate::core_state::{Core, Ending, Mode, Seen, Step};
 use crate::held::Held;
-use crate::kind::is_truth;
+use crate::kind::is_true_atom;
 use crate::lists::Item;
 use crate::procedure::pi_of;
 use op_base::Memory;
@@ -269,6 +269,6 @@ impl Core {
         requires { body < length self.now.bindings.terms }
         ensures { result ≡ is_true (goal_now self.now body) }
     {
-        is_truth(&self.store, self.bindings.outline(&body))
+        is_true_atom(&self.store, self.bindings.outline(&body))
     }
 }

@@ -7,7 +7,7 @@ use Rattle.op_trace.specs.declared.port.Port.TheVariants as port
 use Rattle.op_trace.specs.declared.barrier.Barrier.{Barrier}
 use Rattle.op_trace.specs.declared.barrier.Barrier.TheVariants.{Within, Past}
 use Rattle.op_trace.specs.World.{Text, text_eq, Clause, World, Setup, same_barrier, Item, Goal, Cut, Exit, Shown, procedure}
-use Rattle.op_trace.specs.Visit.{Verdict, Failed, CutTo, Stopped, Spent, Visited, gives, with_turns, and_then, on_failed, reaches, on_condition, cut, with_event, event_of, pays, spends, Control, Succeed, Give_up, Commit, Both, Either, If, Invoke, Visitor, Choice, Redo, Branch, More, Fail, Condition, matched, tries, alternatives, branches, after, boxed, selected, visit_with, visit_by, visit}
+use Rattle.op_trace.specs.Visit.{Verdict, Failed, CutTo, Stopped, Spent, Visited, gives, with_turns, and_then, on_failed, reaches, on_condition, cut, with_event, event_of, pays, spends, Control, TrueGoal, FailGoal, CutGoal, Conjunction, Disjunction, IfThenElse, BoxedGoal, Visitor, Choice, Redo, Branch, More, Fail, Condition, matched, tries, alternatives, branches, after, boxed, selected, visit_with, visit_by, visit}
 use Rattle.op_trace.proofs.Later.{VisitsLater, Later, IsLess, within-less, tries-later, visit_with-later, visit_by-later}
 
 -- two visitors that agree wherever more than n steps were made, and no more than b
@@ -96,15 +96,15 @@ module _ (f g : Visitor) (s : Setup) (n : ℕ) (agree : Agree s.budget n f g) (l
 
   pub selected-same : (q : Control) (t : Term Text) (m : Barrier) (J : List Item) (σ : Bindings Text) (w : World)
       → n < w.steps → w.steps ≤ s.budget → selected f s q t m J σ w ≡ selected g s q t m J σ w
-  selected-same Succeed t m J σ w low high = agree _ _ _ low high
-  selected-same Give_up t m J σ w low high = refl
-  selected-same Commit t m J σ w low high = ap (λ (x : Visited). and_then x (cut m)) (agree J σ w low high)
-  selected-same (Both a b) t m J σ w low high = agree _ _ _ low high
-  selected-same (Either a b) t m J σ w low high = chosen-same (Goal a m ∷ J) (Branch b m σ J) σ w low high
-  selected-same (If c a b) t m J σ w low high =
+  selected-same TrueGoal t m J σ w low high = agree _ _ _ low high
+  selected-same FailGoal t m J σ w low high = refl
+  selected-same CutGoal t m J σ w low high = ap (λ (x : Visited). and_then x (cut m)) (agree J σ w low high)
+  selected-same (Conjunction a b) t m J σ w low high = agree _ _ _ low high
+  selected-same (Disjunction a b) t m J σ w low high = chosen-same (Goal a m ∷ J) (Branch b m σ J) σ w low high
+  selected-same (IfThenElse c a b) t m J σ w low high =
       chosen-same (Goal c (Within (w.conditions + 1)) ∷ Cut (Past (w.conditions + 1)) ∷ Goal a m ∷ J) (Condition (w.conditions + 1) b m σ J) σ
       (record w { conditions = w.conditions + 1 }) low high
-  selected-same Invoke t m J σ w low high = boxed-same t J σ w (omega arith) high
+  selected-same BoxedGoal t m J σ w low high = boxed-same t J σ w (omega arith) high
 
   pub visit_with-same : (I : List Item) (σ : Bindings Text) (w : World) → n ≤ w.steps → w.steps ≤ s.budget → visit_with f s I σ w ≡ visit_with g s I σ w
   unfolding visit_with

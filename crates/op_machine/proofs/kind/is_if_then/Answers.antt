@@ -2,8 +2,8 @@ use Rattle.std.proofs.Common.{ap, ◌∙◌, sym, subst}
 use Rattle.op_logic.specs.Term.{args_of, node, arity}
 use Rattle.op_logic.specs.Names.{IsTable}
 use Rattle.op_store.specs.Stored.{Stored}
-use Rattle.op_machine.proofs.Controls.{head-struct, on-true, on-false, name-of, then-disjunction, other-disjunction}
-use Rattle.op_machine.proofs.kind.is_then.Goals as goal
+use Rattle.op_machine.proofs.Controls.{head-struct, on-true, on-false, name-of, if_then-disjunction, other-disjunction}
+use Rattle.op_machine.proofs.kind.is_if_then.Goals as goal
 
 pub returns-in-Struct-clause-yes : goal.returns-in-Struct-clause-yes
 returns-in-Struct-clause-yes c =
@@ -16,7 +16,7 @@ returns-in-Struct-clause-condition c =
     on-true c.is_arrow.result c.is_arrow.ensures.yes
     (λ q g e b.
     let h = head-struct g c.in-Struct.name c.in-Struct.arity (e ∙ c.in-Struct.is) in
-    then-disjunction t table c.symbols.ensures.begins g b (h.0 ∙ ap (λ f. node f (args_of g)) q.0) (h.1 ∙ q.1))
+    if_then-disjunction t table c.symbols.ensures.begins g b (h.0 ∙ ap (λ f. node f (args_of g)) q.0) (h.1 ∙ q.1))
 
 pub returns-in-Struct-clause-no : goal.returns-in-Struct-clause-no
 returns-in-Struct-clause-no c =

@@ -1,8 +1,8 @@
 use Rattle.std.proofs.Common.{length, sym, subst}
 use Rattle.op_machine.specs.declared.core_state.Core.{Core}
 use Rattle.op_machine.specs.Core.{IsGoal}
-use Rattle.op_machine.proofs.Splitting.{argument-goal, split-advances}
-use Rattle.op_machine.proofs.core_state.Core.split.Goals as goal
+use Rattle.op_machine.proofs.Splitting.{argument-goal, select_conjunction-advances}
+use Rattle.op_machine.proofs.core_state.Core.select_conjunction.Goals as goal
 
 pub add-requires-clause-item : goal.add-requires-clause-item
 add-requires-clause-item c =
@@ -15,6 +15,6 @@ add-requires-2-clause-item c =
 
 pub returns-clause-advances : goal.returns-clause-advances
 returns-clause-advances c =
-    split-advances c.args.self.now c.add.new.self c.add-2.new.self c.args.goal c.args.barrier c.args.rest c.argument-first.result c.argument-second.result c.in_ok-tail.tail c.in_ok-items.items
+    select_conjunction-advances c.args.self.now c.add.new.self c.add-2.new.self c.args.goal c.args.barrier c.args.rest c.argument-first.result c.argument-second.result c.in_ok-tail.tail c.in_ok-items.items
     c.in_ok-tail.ensures.rest c.in_ok-items.ensures.rest c.argument-first.ensures.value c.argument-second.ensures.value c.in_ok-tail.ensures.items c.in_ok-items.ensures.items
     c.in_ok-tail.ensures.choices c.in_ok-items.ensures.choices c.in_ok-items.ensures.good c.in_ok-items.ensures.within
