@@ -4,7 +4,7 @@ use Rattle.op_logic.specs.Term.{Term, shift}
 use Rattle.op_logic.specs.Bind.{Bindings, unify, Solved as Result}
 use Rattle.op_trace.specs.declared.port.Port.TheVariants as port
 use Rattle.op_trace.specs.declared.barrier.Barrier.{Barrier}
-use Rattle.op_trace.specs.declared.barrier.Barrier.TheVariants.{Call, Within, Past}
+use Rattle.op_trace.specs.declared.barrier.Barrier.TheVariants.{Call, InCondition, AtSuccess}
 use Rattle.op_trace.specs.World.{Text, text_eq, Clause, World, Setup, same_barrier, Item, Goal, Cut, Exit, Turn, Shown, Solved, procedure}
 use Rattle.op_trace.specs.Visit.{Verdict, Failed, CutTo, Stopped, Spent, Visited, gives, with_turns, and_then, event_of, with_event, pays, reaches, cut, shows, Control, TrueGoal, FailGoal, CutGoal, Conjunction, Disjunction, IfThenElse, BoxedGoal, control, entered, Choice, Redo, Branch, More, Fail, Condition, matched, tries, alternatives, branches, after, boxed, selected, solved, visit, visit_with}
 use Rattle.op_trace.proofs.Agree.{visit_rows}
@@ -54,7 +54,7 @@ resume-cut s (Fail k g σ J ∷ K) m w = go (same_barrier m (Call k)) (resume-cu
         ≡ resume s (if b then Fail k g σ J ∷ K else keep m K) Failed w
     go true below = refl
     go false below = below
-resume-cut s (Condition n t b σ J ∷ K) m w = go (same_barrier m (Within n)) (same_barrier m (Past n)) (resume-cut s K m w)
+resume-cut s (Condition n t b σ J ∷ K) m w = go (same_barrier m (InCondition n)) (same_barrier m (AtSuccess n)) (resume-cut s K m w)
   where
     go : (c d : Bool) → resume s K (CutTo m) w ≡ resume s (keep m K) Failed w
         → and_then (reaches c (branches (visit s) s t b σ J) (reaches d (gives Failed) (gives (CutTo m))) w) (resume s K)
@@ -147,7 +147,7 @@ selected-row s (Conjunction x y) t m J σ w K b = refl
 selected-row s (Disjunction x y) t m J σ w K b = push-row s (visit s (Goal x m ∷ J) σ w) (Branch y m σ J) K
 selected-row s (IfThenElse c x y) t m J σ w K b =
     let n : ℕ = w.conditions + 1 in
-    push-row s (visit s (Goal c (Within n) ∷ Cut (Past n) ∷ Goal x m ∷ J) σ (record w { conditions = n })) (Condition n y m σ J) K
+    push-row s (visit s (Goal c (InCondition n) ∷ Cut (AtSuccess n) ∷ Goal x m ∷ J) σ (record w { conditions = n })) (Condition n y m σ J) K
 selected-row s BoxedGoal t m J σ w K b = boxed-row s t J σ w K
 
 pub solved-row : (s : Setup) (σ : Bindings Text) (w : World) (K : List Choice)

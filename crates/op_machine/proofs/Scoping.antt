@@ -4,7 +4,7 @@ use Rattle.std.proofs.lemmas.Bool.Decides.{nat_tests}
 use Rattle.op_logic.specs.Term.{Term, shift}
 use Rattle.op_logic.specs.Bind.{Bindings, Solved as Result}
 use Rattle.op_trace.specs.declared.barrier.Barrier.{Barrier}
-use Rattle.op_trace.specs.declared.barrier.Barrier.TheVariants.{Call, Within, Past}
+use Rattle.op_trace.specs.declared.barrier.Barrier.TheVariants.{Call, InCondition, AtSuccess}
 use Rattle.op_trace.specs.World.{Text, Clause, World, Setup, Item, Goal, Cut, Exit, Has, procedure}
 use Rattle.op_trace.specs.Visit.{Stopped, Control, TrueGoal, FailGoal, CutGoal, Conjunction, Disjunction, IfThenElse, BoxedGoal, control, is_true, entered, Choice, Redo, Branch, More, Fail, Condition}
 use Rattle.op_machine.specs.Resume.{stays, goes, keep, with_more, State, Going, Back, Over, Moved, paid, chosen, met, tried, branched, move}
@@ -17,8 +17,8 @@ goal-goes c d (Branch t b σ J) m h = refl
 goal-goes c d (More cs k g σ J) m h = refl
 goal-goes c d (Fail k g σ J) m h = refl
 goal-goes c d (Condition n t b σ J) (Call k) h = refl
-goal-goes c d (Condition n t b σ J) (Within k) h = refl
-goal-goes c d (Condition n t b σ J) (Past k) h = absurd h
+goal-goes c d (Condition n t b σ J) (InCondition k) h = refl
+goal-goes c d (Condition n t b σ J) (AtSuccess k) h = absurd h
 
 -- a cut of a goal that is made twice is made once
 pub keep-keep : (c d : ℕ) (m : Barrier) (K : List Choice) → IsGoalBarrier c d m → keep m (keep m K) ≡ keep m K
@@ -55,8 +55,8 @@ scoped-along K L (Exit k g ∷ J) same s = scoped-along K L J same s
 
 pub goal-given : (c d : ℕ) (m : Barrier) → IsGoalBarrier c d m → IsGiven c d m
 goal-given c d (Call k) h = h
-goal-given c d (Within n) h = h
-goal-given c d (Past n) h = absurd h
+goal-given c d (InCondition n) h = h
+goal-given c d (AtSuccess n) h = absurd h
 
 pub has-given : (c d : ℕ) (I : List Item) (m : Barrier) → AreGiven c d I → Has m I → IsGiven c d m
 has-given c d [] m a h = absurd h
@@ -67,13 +67,13 @@ has-given c d (Exit k g ∷ J) m a h = has-given c d J m a h
 module _ (c d x y : ℕ) (more : c ≤ x) (over : d ≤ y) where
   pub barrier-more : (m : Barrier) → IsGoalBarrier c d m → IsGoalBarrier x y m
   barrier-more (Call k) h = omega arith
-  barrier-more (Within n) h = omega arith
-  barrier-more (Past n) h = h
+  barrier-more (InCondition n) h = omega arith
+  barrier-more (AtSuccess n) h = h
 
   pub one-more : (m : Barrier) → IsGiven c d m → IsGiven x y m
   one-more (Call k) h = omega arith
-  one-more (Within n) h = omega arith
-  one-more (Past n) h = omega arith
+  one-more (InCondition n) h = omega arith
+  one-more (AtSuccess n) h = omega arith
 
   pub given-more : (I : List Item) → AreGiven c d I → AreGiven x y I
   given-more [] a = tt
@@ -105,8 +105,8 @@ pub keep-fresh : (c d k : ℕ) (m : Barrier) (g : Term Text) (σ : Bindings Text
 keep-fresh c d k (Call m) g σ J K low high =
     let e : (m == k) ≡ false = grind (arith, nat_tests) in
     ap (λ (b : Bool). if b then Fail k g σ J ∷ K else keep (Call m) K) e
-keep-fresh c d k (Within m) g σ J K low high = refl
-keep-fresh c d k (Past m) g σ J K low high = refl
+keep-fresh c d k (InCondition m) g σ J K low high = refl
+keep-fresh c d k (AtSuccess m) g σ J K low high = refl
 
 pub keep-own : (k : ℕ) (g : Term Text) (σ : Bindings Text) (J : List Item) (K : List Choice) → keep (Call k) (Fail k g σ J ∷ K) ≡ Fail k g σ J ∷ K
 keep-own k g σ J K =
@@ -117,23 +117,23 @@ keep-own k g σ J K =
 pub keep-before : (c d n : ℕ) (m b : Barrier) (t : Term Text) (σ : Bindings Text) (J : List Item) (K : List Choice) → IsGiven c d m → d < n
     → keep m (Condition n t b σ J ∷ K) ≡ keep m K
 keep-before c d n (Call m) b t σ J K low high = refl
-keep-before c d n (Within m) b t σ J K low high =
+keep-before c d n (InCondition m) b t σ J K low high =
     let e : (m == n) ≡ false = grind (arith, nat_tests) in
-    ap (λ (a : Bool). if a then Condition n t b σ J ∷ K else keep (Within m) K) e
-keep-before c d n (Past m) b t σ J K low high =
+    ap (λ (a : Bool). if a then Condition n t b σ J ∷ K else keep (InCondition m) K) e
+keep-before c d n (AtSuccess m) b t σ J K low high =
     let e : (m == n) ≡ false = grind (arith, nat_tests) in
-    ap (λ (a : Bool). if a then K else keep (Past m) K) e
+    ap (λ (a : Bool). if a then K else keep (AtSuccess m) K) e
 
 pub keep-within : (n : ℕ) (b : Barrier) (t : Term Text) (σ : Bindings Text) (J : List Item) (K : List Choice)
-    → keep (Within n) (Condition n t b σ J ∷ K) ≡ Condition n t b σ J ∷ K
+    → keep (InCondition n) (Condition n t b σ J ∷ K) ≡ Condition n t b σ J ∷ K
 keep-within n b t σ J K =
     let e : (n == n) ≡ true = grind (arith, nat_tests) in
-    ap (λ (a : Bool). if a then Condition n t b σ J ∷ K else keep (Within n) K) e
+    ap (λ (a : Bool). if a then Condition n t b σ J ∷ K else keep (InCondition n) K) e
 
-pub keep-past : (n : ℕ) (b : Barrier) (t : Term Text) (σ : Bindings Text) (J : List Item) (K : List Choice) → keep (Past n) (Condition n t b σ J ∷ K) ≡ K
+pub keep-past : (n : ℕ) (b : Barrier) (t : Term Text) (σ : Bindings Text) (J : List Item) (K : List Choice) → keep (AtSuccess n) (Condition n t b σ J ∷ K) ≡ K
 keep-past n b t σ J K =
     let e : (n == n) ≡ true = grind (arith, nat_tests) in
-    ap (λ (a : Bool). if a then K else keep (Past n) K) e
+    ap (λ (a : Bool). if a then K else keep (AtSuccess n) K) e
 
 pub more-scoped : (c d : ℕ) (cs : List Clause) (k : ℕ) (g : Term Text) (σ : Bindings Text) (J : List Item) (K : List Choice)
     → keep (Call k) K ≡ K → Scoped K J → k ≤ c → AreGiven c d J → AreScoped c d K → AreScoped c d (with_more cs k g σ J K)
@@ -148,7 +148,7 @@ again-behind c d m K t J h b n has =
 -- a condition before what follows its success, over its own choice
 pub if_then_else_chosen-scoped : (c d n : ℕ) (t u e : Term Text) (m : Barrier) (σ : Bindings Text) (J : List Item) (K : List Choice)
     → IsGoalBarrier c d m → AreGiven c d J → d < n → Scoped K (Goal u m ∷ J)
-    → Scoped (Condition n e m σ J ∷ K) (Goal t (Within n) ∷ Cut (Past n) ∷ Goal u m ∷ J)
+    → Scoped (Condition n e m σ J ∷ K) (Goal t (InCondition n) ∷ Cut (AtSuccess n) ∷ Goal u m ∷ J)
 if_then_else_chosen-scoped c d n t u e m σ J K h a fresh s =
     let L : List Choice = Condition n e m σ J ∷ K in
     let same : SameFor K L (Goal u m ∷ J) = λ x has. keep-before c d n x m e σ J K (has-given c d (Goal u m ∷ J) x (h, a) has) fresh in (

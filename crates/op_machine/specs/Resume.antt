@@ -5,7 +5,7 @@ use Rattle.op_logic.specs.Bind.{Bindings, unify, Solved as Result}
 use Rattle.op_trace.specs.declared.port.Port.{Port}
 use Rattle.op_trace.specs.declared.port.Port.TheVariants as port
 use Rattle.op_trace.specs.declared.barrier.Barrier.{Barrier}
-use Rattle.op_trace.specs.declared.barrier.Barrier.TheVariants.{Call, Within, Past}
+use Rattle.op_trace.specs.declared.barrier.Barrier.TheVariants.{Call, InCondition, AtSuccess}
 use Rattle.op_trace.specs.World.{Text, text_eq, Clause, World, Setup, same_barrier, Item, Goal, Cut, Exit, Turn, Shown, Solved, procedure}
 use Rattle.op_trace.specs.Visit.{Verdict, Failed, CutTo, Stopped, Spent, Visited, gives, and_then, event_of, with_event, Control, TrueGoal, FailGoal, CutGoal, Conjunction, Disjunction, IfThenElse, BoxedGoal, control, entered, Choice, Redo, Branch, More, Fail, Condition, after, visit}
 
@@ -28,7 +28,7 @@ stays (Redo k g σ J) m = false
 stays (Branch t b σ J) m = false
 stays (More cs k g σ J) m = false
 stays (Fail k g σ J) m = same_barrier m (Call k)
-stays (Condition n t b σ J) m = same_barrier m (Within n)
+stays (Condition n t b σ J) m = same_barrier m (InCondition n)
 
 -- one to which it comes, and which it drops as the last: a condition's, where the condition has succeeded
 abbrev pub goes : Choice → Barrier → Bool
@@ -36,7 +36,7 @@ goes (Redo k g σ J) m = false
 goes (Branch t b σ J) m = false
 goes (More cs k g σ J) m = false
 goes (Fail k g σ J) m = false
-goes (Condition n t b σ J) m = same_barrier m (Past n)
+goes (Condition n t b σ J) m = same_barrier m (AtSuccess n)
 
 -- what a cut to a barrier keeps
 abbrev pub keep : Barrier → List Choice → List Choice
@@ -88,7 +88,7 @@ invoked g J K σ w =
 abbrev pub if_then_else_chosen : Term Text → Term Text → Term Text → Barrier → List Item → List Choice → Bindings Text → World → Moved
 if_then_else_chosen c t e m J K σ w =
     let n : ℕ = w.conditions + 1 in
-    silent (Going (Goal c (Within n) ∷ Cut (Past n) ∷ Goal t m ∷ J) (Condition n e m σ J ∷ K) σ (record w { conditions = n }))
+    silent (Going (Goal c (InCondition n) ∷ Cut (AtSuccess n) ∷ Goal t m ∷ J) (Condition n e m σ J ∷ K) σ (record w { conditions = n }))
 
 abbrev pub chosen : Control → Term Text → Barrier → List Item → List Choice → Bindings Text → World → Moved
 chosen TrueGoal t m J K σ w = silent (Going J K σ w)

@@ -1,7 +1,7 @@
 -- Barriers and choices in step: a cut to the barrier of an item leaves what the cuts of the items behind it keep.
 use Rattle.std.specs.Prelude.{◌≡◌, ℕ, ◌≤◌, List, [], ◌∷◌}
 use Rattle.op_trace.specs.declared.barrier.Barrier.{Barrier}
-use Rattle.op_trace.specs.declared.barrier.Barrier.TheVariants.{Call, Within, Past}
+use Rattle.op_trace.specs.declared.barrier.Barrier.TheVariants.{Call, InCondition, AtSuccess}
 use Rattle.op_trace.specs.World.{Item, Goal, Cut, Exit, Has}
 use Rattle.op_trace.specs.Visit.{Choice, Redo, Branch, More, Fail, Condition}
 use Rattle.op_machine.specs.Resume.{keep, State, Going, Back, Over}
@@ -20,14 +20,14 @@ Scoped K (Exit k g ∷ J) = Scoped K J
 -- a barrier's number was given out, of so many calls and conditions
 abbrev pub IsGiven : ℕ → ℕ → Barrier → Type 0
 IsGiven calls conditions (Call k) = k ≤ calls
-IsGiven calls conditions (Within n) = n ≤ conditions
-IsGiven calls conditions (Past n) = n ≤ conditions
+IsGiven calls conditions (InCondition n) = n ≤ conditions
+IsGiven calls conditions (AtSuccess n) = n ≤ conditions
 
 -- a goal's barrier: no goal cuts to the mark that the success of a condition cuts to
 abbrev pub IsGoalBarrier : ℕ → ℕ → Barrier → Type 0
 IsGoalBarrier calls conditions (Call k) = k ≤ calls
-IsGoalBarrier calls conditions (Within n) = n ≤ conditions
-IsGoalBarrier calls conditions (Past n) = ⊥
+IsGoalBarrier calls conditions (InCondition n) = n ≤ conditions
+IsGoalBarrier calls conditions (AtSuccess n) = ⊥
 
 abbrev pub AreGiven : ℕ → ℕ → List Item → Type 0
 AreGiven c d [] = Unit {0}

@@ -1,7 +1,7 @@
 ghost use Rattle.std.specs.Prelude.{◌≡◌, ◌+◌, ◌<◌, ◌≤◌, ◌^◌, ◌∷◌, length, codes, IfOk, OnOk};
 ghost use Rattle.op_logic.specs.Term.{args_of, arity, nth_arg, atom};
 ghost use Rattle.op_term.specs.Places.{term_at};
-ghost use Rattle.op_trace.specs.declared.barrier.Barrier.TheVariants.{Within, Past};
+ghost use Rattle.op_trace.specs.declared.barrier.Barrier.TheVariants.{InCondition, AtSuccess};
 ghost use Rattle.op_trace.specs.World.{Goal, Cut};
 ghost use Rattle.op_trace.specs.Visit.{IfThenElse, control_of_disjunction};
 ghost use Rattle.op_machine.specs.declared.core_state.Step.TheVariants as step;
@@ -131,7 +131,7 @@ impl Core {
         requires then { IsGoal (length self.old.store.names) self.old.bindings.terms then }
         ensures within { IfOk result (λ n. n < length self.new.lists) }
         ensures items { IfOk result (λ n. items_now self.new n
-            ≡ Goal (goal_now self.old condition) (Within number) ∷ Cut (Past number) ∷ Goal (goal_now self.old then) barrier ∷ items_now self.old rest) }
+            ≡ Goal (goal_now self.old condition) (InCondition number) ∷ Cut (AtSuccess number) ∷ Goal (goal_now self.old then) barrier ∷ items_now self.old rest) }
         ensures choices { OnOk result (choices_in self.new ≡ choices_in self.old) }
         ensures good { OnOk result (IsGood self.new) }
         ensures rest { self.new ≡ record self.old { lists = self.new.lists } }
@@ -145,14 +145,14 @@ impl Core {
         )?;
         let cut = self.add(
             Item::Cut {
-                barrier: Barrier::Past(number),
+                barrier: Barrier::AtSuccess(number),
             },
             tail,
         )?;
         self.add(
             Item::Goal {
                 goal: condition,
-                barrier: Barrier::Within(number),
+                barrier: Barrier::InCondition(number),
             },
             cut,
         )

@@ -23,7 +23,7 @@ fn stays(choice: &Choice<Held>, barrier: Barrier) -> bool
         ChoiceKind::Branch(_) => false,
         ChoiceKind::More(_) => false,
         ChoiceKind::Fail(call) => barrier.is(Barrier::Call(call)),
-        ChoiceKind::Condition(_) => barrier.is(Barrier::Within(choice.kept.condition)),
+        ChoiceKind::Condition(_) => barrier.is(Barrier::InCondition(choice.kept.condition)),
         ChoiceKind::Catch(call) => barrier.is(Barrier::Call(call)),
         ChoiceKind::Findall(call) => barrier.is(Barrier::Call(call)),
     }
@@ -34,7 +34,7 @@ fn goes(choice: &Choice<Held>, barrier: Barrier) -> bool
     ensures { result ≡ frame_goes choice.now barrier }
 {
     match choice.kind {
-        ChoiceKind::Condition(_) => barrier.is(Barrier::Past(choice.kept.condition)),
+        ChoiceKind::Condition(_) => barrier.is(Barrier::AtSuccess(choice.kept.condition)),
         _ => false,
     }
 }

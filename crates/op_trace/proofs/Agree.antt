@@ -5,7 +5,7 @@ use Rattle.op_logic.specs.Term.{Term, shift}
 use Rattle.op_logic.specs.Bind.{Bindings, Solved as Result, solve}
 use Rattle.op_trace.specs.declared.port.Port.TheVariants as port
 use Rattle.op_trace.specs.declared.barrier.Barrier.{Barrier}
-use Rattle.op_trace.specs.declared.barrier.Barrier.TheVariants.{Within, Past}
+use Rattle.op_trace.specs.declared.barrier.Barrier.TheVariants.{InCondition, AtSuccess}
 use Rattle.op_trace.specs.World.{Text, text_eq, Clause, World, Setup, same_barrier, Item, Goal, Cut, Exit, Shown, procedure}
 use Rattle.op_trace.specs.Visit.{Verdict, Failed, CutTo, Stopped, Spent, Visited, gives, with_turns, and_then, on_failed, reaches, on_condition, cut, with_event, event_of, pays, spends, Control, TrueGoal, FailGoal, CutGoal, Conjunction, Disjunction, IfThenElse, BoxedGoal, Visitor, Choice, Redo, Branch, More, Fail, Condition, matched, tries, alternatives, branches, after, boxed, selected, visit_with, visit_by, visit}
 use Rattle.op_trace.proofs.Later.{VisitsLater, Later, IsLess, within-less, tries-later, visit_with-later, visit_by-later}
@@ -38,7 +38,7 @@ reaches-same false h i k w e = refl
 pub on_condition-same : (n : ℕ) (h i : World → Visited) (r : Verdict) (w : World) → h w ≡ i w → on_condition n h r w ≡ on_condition n i r w
 on_condition-same n h i Failed w e = e
 on_condition-same n h i (CutTo m) w e =
-    reaches-same (same_barrier m (Within n)) h i (reaches (same_barrier m (Past n)) (gives Failed) (gives (CutTo m))) w e
+    reaches-same (same_barrier m (InCondition n)) h i (reaches (same_barrier m (AtSuccess n)) (gives Failed) (gives (CutTo m))) w e
 on_condition-same n h i Stopped w e = refl
 on_condition-same n h i Spent w e = refl
 
@@ -102,7 +102,7 @@ module _ (f g : Visitor) (s : Setup) (n : ℕ) (agree : Agree s.budget n f g) (l
   selected-same (Conjunction a b) t m J σ w low high = agree _ _ _ low high
   selected-same (Disjunction a b) t m J σ w low high = chosen-same (Goal a m ∷ J) (Branch b m σ J) σ w low high
   selected-same (IfThenElse c a b) t m J σ w low high =
-      chosen-same (Goal c (Within (w.conditions + 1)) ∷ Cut (Past (w.conditions + 1)) ∷ Goal a m ∷ J) (Condition (w.conditions + 1) b m σ J) σ
+      chosen-same (Goal c (InCondition (w.conditions + 1)) ∷ Cut (AtSuccess (w.conditions + 1)) ∷ Goal a m ∷ J) (Condition (w.conditions + 1) b m σ J) σ
       (record w { conditions = w.conditions + 1 }) low high
   selected-same BoxedGoal t m J σ w low high = boxed-same t J σ w (omega arith) high
 

@@ -4,7 +4,7 @@ use Rattle.std.proofs.lemmas.Bool.Decides.{nat_tests}
 use Rattle.op_logic.specs.Term.{Term, shift}
 use Rattle.op_logic.specs.Bind.{Bindings, Solved as Result, within, solve}
 use Rattle.op_trace.specs.declared.barrier.Barrier.{Barrier}
-use Rattle.op_trace.specs.declared.barrier.Barrier.TheVariants.{Call, Within, Past}
+use Rattle.op_trace.specs.declared.barrier.Barrier.TheVariants.{Call, InCondition, AtSuccess}
 use Rattle.op_trace.specs.World.{Text, text_eq, Clause, World, Setup, same_barrier, Item, Goal, Cut, Exit, procedure}
 use Rattle.op_trace.specs.Visit.{Verdict, Failed, CutTo, Stopped, Spent, Visited, gives, and_then, on_failed, reaches, on_end, on_condition, cut, with_event, pays, spends, Control, TrueGoal, FailGoal, CutGoal, Conjunction, Disjunction, IfThenElse, BoxedGoal, control, Visitor, Choice, Redo, Branch, More, Fail, Condition, matched, tries, alternatives, branches, after, boxed, if_then_else, selected, visit_with, visit_by, visit}
 
@@ -48,8 +48,8 @@ on_end-later b n m h Spent w low high l = (low, high)
 pub on_condition-later : (b n c : ℕ) (h : World → Visited) (r : Verdict) (w : World) → n ≤ w.steps → w.steps ≤ b → Later b n (h w) → Later b n (on_condition c h r w)
 on_condition-later b n c h Failed w low high l = l
 on_condition-later b n c h (CutTo x) w low high l =
-    reaches-later b n (same_barrier x (Within c)) h (reaches (same_barrier x (Past c)) (gives Failed) (gives (CutTo x))) w l
-    (reaches-later b n (same_barrier x (Past c)) (gives Failed) (gives (CutTo x)) w (low, high) (low, high))
+    reaches-later b n (same_barrier x (InCondition c)) h (reaches (same_barrier x (AtSuccess c)) (gives Failed) (gives (CutTo x))) w l
+    (reaches-later b n (same_barrier x (AtSuccess c)) (gives Failed) (gives (CutTo x)) w (low, high) (low, high))
 on_condition-later b n c h Stopped w low high l = (low, high)
 on_condition-later b n c h Spent w low high l = (low, high)
 
@@ -128,8 +128,8 @@ pub if_then_else-later : (visit : Visitor) (s : Setup) (c t e : Term Text) (m : 
 if_then_else-later visit s c t e m J σ w lv below =
     let n : ℕ = w.conditions + 1 in
     let u : World = record w { conditions = n } in
-    and_then-later s.budget w.steps (visit (Goal c (Within n) ∷ Cut (Past n) ∷ Goal t m ∷ J) σ u) (after visit s (Condition n e m σ J))
-    (lv (Goal c (Within n) ∷ Cut (Past n) ∷ Goal t m ∷ J) σ u below)
+    and_then-later s.budget w.steps (visit (Goal c (InCondition n) ∷ Cut (AtSuccess n) ∷ Goal t m ∷ J) σ u) (after visit s (Condition n e m σ J))
+    (lv (Goal c (InCondition n) ∷ Cut (AtSuccess n) ∷ Goal t m ∷ J) σ u below)
     (λ r u l h. after-later visit s (Condition n e m σ J) w.steps r u lv l h)
 
 pub selected-later : (visit : Visitor) (s : Setup) (q : Control) (t : Term Text) (m : Barrier) (J : List Item) (σ : Bindings Text) (w : World)

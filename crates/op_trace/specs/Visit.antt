@@ -7,7 +7,7 @@ use Rattle.op_logic.specs.Bind.{Bindings, apply, unify, Solved as Result}
 use Rattle.op_trace.specs.declared.port.Port.{Port}
 use Rattle.op_trace.specs.declared.port.Port.TheVariants as port
 use Rattle.op_trace.specs.declared.barrier.Barrier.{Barrier}
-use Rattle.op_trace.specs.declared.barrier.Barrier.TheVariants.{Call, Within, Past}
+use Rattle.op_trace.specs.declared.barrier.Barrier.TheVariants.{Call, InCondition, AtSuccess}
 use Rattle.op_trace.specs.World.{Text, text_eq, Clause, World, Setup, same_barrier, Item, Goal, Cut, Exit, open_boxes, head_number, Event, Turn, Shown, Solved, procedure}
 
 -- how a walk ends: no solution is left; none is left, and a cut drops all alternatives up to a barrier; the wanted solution was found; or one
@@ -162,7 +162,7 @@ branches visit s t m σ J w = spends s 1 w (visit (Goal t m ∷ J) σ)
 -- a condition that has no solution is followed by the else branch, also where a cut inside it left none; the cut that its success made ends here
 abbrev pub on_condition : ℕ → (World → Visited) → Verdict → World → Visited
 on_condition n h Failed w = h w
-on_condition n h (CutTo m) w = reaches (same_barrier m (Within n)) h (reaches (same_barrier m (Past n)) (gives Failed) (gives (CutTo m))) w
+on_condition n h (CutTo m) w = reaches (same_barrier m (InCondition n)) h (reaches (same_barrier m (AtSuccess n)) (gives Failed) (gives (CutTo m))) w
 on_condition n h Stopped w = gives Stopped w
 on_condition n h Spent w = gives Spent w
 
@@ -185,7 +185,7 @@ boxed visit s g J σ w =
 abbrev pub if_then_else : Visitor → Setup → Term Text → Term Text → Term Text → Barrier → List Item → Bindings Text → World → Visited
 if_then_else visit s c t e m J σ w =
     let n : ℕ = w.conditions + 1 in
-    and_then (visit (Goal c (Within n) ∷ Cut (Past n) ∷ Goal t m ∷ J) σ (record w { conditions = n })) (after visit s (Condition n e m σ J))
+    and_then (visit (Goal c (InCondition n) ∷ Cut (AtSuccess n) ∷ Goal t m ∷ J) σ (record w { conditions = n })) (after visit s (Condition n e m σ J))
 
 abbrev pub selected : Visitor → Setup → Control → Term Text → Barrier → List Item → Bindings Text → World → Visited
 selected visit s TrueGoal t m J σ w = visit J σ w
