@@ -27,7 +27,7 @@ use Rattle.op_machine.specs.Lists.{list_in}
 use Rattle.op_frames.specs.declared.boxes.BoxFrame.{BoxFrame}
 use Rattle.op_machine.specs.Boxes.{exits, innermost, AreBoxes, AreBoxed}
 use Rattle.op_machine.specs.Counted.{Counted}
-use Rattle.op_machine.specs.Resume.{State, Going}
+use Rattle.op_machine.specs.Resume.{State, Forward}
 use Rattle.op_machine.specs.Scope.{InStep}
 use Rattle.op_machine.specs.Turned.{IsBegun}
 use Rattle.op_machine.specs.Made.{first_lists, IsMade}
@@ -54,7 +54,7 @@ pub record IsFirst (c : Core) (q : Goal) (body : ℕ) : Type 0 where
   pub numbers : (c.calls ≡ 0) × (c.steps ≡ 0) × (c.events ≡ 0) × (c.solutions ≡ 0) × (c.conditions ≡ 0)
 
 abbrev begun : Stored → Goal → State
-begun t q = Going (world.Goal (goal_named t q.body) (Call 0) ∷ []) [] [] (started q.vars (loaded (clauses t)))
+begun t q = Forward (world.Goal (goal_named t q.body) (Call 0) ∷ []) [] [] (started q.vars (loaded (clauses t)))
 
 abbrev numbered : Stored → ℕ → ℕ → ℕ → ℕ → ℕ → ℕ → World
 numbered t variables calls conditions steps events solutions =
@@ -83,10 +83,10 @@ first-state c q body n query f =
     ap (λ (L : List (List Item)). map (item_term t v) (list_in L 1)) f.lists ∙ ap (λ (x : Term ℕ). world.Goal (goal_named t x) (Call 0) ∷ []) f.value in
     let bound : bindings_in t v ≡ [] = ap (λ (ps : List (ℕ × ℕ)). rename_bindings (name_at t.names) (resolved c.bindings.terms ps)) f.bound in
     ap (state_with t v c.frames.choices (world_in c)) f.mode
-    ∙ (ap (λ (F : List Frame). Going (items_in t v 1) (choices_of t v (reverse F)) (bindings_in t v) (world_in c)) f.frames
-    ∙ (ap (λ I. Going I [] (bindings_in t v) (world_in c)) items
-    ∙ (ap (λ (σ : Bindings Text). Going (world.Goal (goal_named t q.body) (Call 0) ∷ []) [] σ (world_in c)) bound
-    ∙ ap (λ (w : World). Going (world.Goal (goal_named t q.body) (Call 0) ∷ []) [] [] w) (first-world c q body n query f))))
+    ∙ (ap (λ (F : List Frame). Forward (items_in t v 1) (choices_of t v (reverse F)) (bindings_in t v) (world_in c)) f.frames
+    ∙ (ap (λ I. Forward I [] (bindings_in t v) (world_in c)) items
+    ∙ (ap (λ (σ : Bindings Text). Forward (world.Goal (goal_named t q.body) (Call 0) ∷ []) [] σ (world_in c)) bound
+    ∙ ap (λ (w : World). Forward (world.Goal (goal_named t q.body) (Call 0) ∷ []) [] [] w) (first-world c q body n query f))))
 
 pub first-begun : (c : Core) (q : Goal) (body n budget wanted : ℕ) → IsSoundGoal n q → IsFirst c q body → c.budget ≡ budget → c.wanted ≡ wanted → IsBegun c.store q.body q.vars q.names budget wanted c
 first-begun c q body n budget wanted query f b w = record {

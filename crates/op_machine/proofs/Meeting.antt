@@ -25,7 +25,7 @@ use Rattle.op_bind.specs.declared.places.Clause.{Clause as Rule}
 use Rattle.op_machine.specs.Program.{clause_in, goal_named, IsKnown}
 use Rattle.op_machine.specs.Core.{setup_of, world_in, level_in, level_of, items_now, goal_now, bindings_now, choices_in, IsGood, IsGoal}
 use Rattle.op_machine.specs.Rows.{Advances, rule_met, head_unified, body_entered, body_before}
-use Rattle.op_machine.specs.Resume.{Going, Back, Over, Moved, silent, met}
+use Rattle.op_machine.specs.Resume.{Forward, Backward, Over, Moved, silent, met}
 use Rattle.op_machine.proofs.Levels.{Rises, rises-bindings, choices-rise, frames-rise, term-rises, items_in-rise, values-rise, failure-rises, level-bindings}
 use Rattle.op_machine.proofs.Naming.{shift-named, is_true-shift, unified-named, found, nothing, found-names}
 use Rattle.op_machine.proofs.Paying.{pay-yes, pay-no}
@@ -104,19 +104,19 @@ met-yes c s r k g b n after table below good grows goal there e count value =
     let left : after + vars ≤ c.budget - c.steps = found-less c r g (after + vars) (Some (bindings s)) e in
     let w : World = record (world_in c) { steps = c.budget - (after + vars) } in
     let I : List world.Item = entered c.bindings.count C k (goal_now c g) (items_now c n) in
-    let h : World → Moved = λ u. silent (Going I (choices_in c) (bindings_now mid) (record u { variables = u.variables + vars })) in
+    let h : World → Moved = λ u. silent (Forward I (choices_in c) (bindings_now mid) (record u { variables = u.variables + vars })) in
     let steps : c.budget - (after + vars) + vars ≡ c.budget - after = omega arith in
     let choices : choices_in c ≡ choices_in mid = sym (choices-rise c.store c.floor.terms (level_in c) (level_of s c.lists) (reverse c.frames.choices) (bound-rises c s grows) good.frames) in
     ap (met (setup_of c) C k (goal_now c g) (items_now c n) (choices_in c) (world_in c)) (head-met c r g table ∙ ap (rename_solved (name_at c.store.names)) e)
     ∙ (pay-yes (setup_of c) vars w h (omega arith)
-    ∙ (ap (λ (x : ℕ). silent (Going I (choices_in c) (bindings_now mid) (record (world_in c) { steps = x; variables = c.bindings.count + vars }))) steps
-    ∙ (ap (λ (x : ℕ). silent (Going I (choices_in c) (bindings_now mid) (record (world_in c) { steps = c.budget - after; variables = x }))) (sym count)
-    ∙ (ap (λ (J : List world.Item). silent (Going J (choices_in c) (bindings_now mid) (world_in mid))) (entered-same c s r k g b n (c.budget - after) good grows goal there value)
-    ∙ ap (λ (K : List visit.Choice). silent (Going (body_before mid b k (world.Exit k (goal_now mid g) ∷ items_now mid n)) K (bindings_now mid) (world_in mid))) choices))))
+    ∙ (ap (λ (x : ℕ). silent (Forward I (choices_in c) (bindings_now mid) (record (world_in c) { steps = x; variables = c.bindings.count + vars }))) steps
+    ∙ (ap (λ (x : ℕ). silent (Forward I (choices_in c) (bindings_now mid) (record (world_in c) { steps = c.budget - after; variables = x }))) (sym count)
+    ∙ (ap (λ (J : List world.Item). silent (Forward J (choices_in c) (bindings_now mid) (world_in mid))) (entered-same c s r k g b n (c.budget - after) good grows goal there value)
+    ∙ ap (λ (K : List visit.Choice). silent (Forward (body_before mid b k (world.Exit k (goal_now mid g) ∷ items_now mid n)) K (bindings_now mid) (world_in mid))) choices))))
 
 -- one that did not match: the machine goes back
 pub met-no : (c : Core) (r : Rule) (k g n after : ℕ) → IsTable c.store.names → head_met c r g ≡ Some (nothing after)
-    → rule_met c r k g n ≡ silent (Back (choices_in c) (record (world_in c) { steps = c.budget - after }))
+    → rule_met c r k g n ≡ silent (Backward (choices_in c) (record (world_in c) { steps = c.budget - after }))
 met-no c r k g n after table e =
     ap (met (setup_of c) (clause_in c.store r) k (goal_now c g) (items_now c n) (choices_in c) (world_in c)) (head-met c r g table ∙ ap (rename_solved (name_at c.store.names)) e)
 
@@ -161,7 +161,7 @@ met-advances c s steps new m n e a = record {
 pub unmet-advances : (c : Core) (s : bind.State) (r : Rule) (k g n after left : ℕ) → IsTable c.store.names → IsGood c → head_met c r g ≡ Some (nothing after) → s ≡ c.bindings → left ≡ after
     → Advances c (record c { bindings = s; steps = c.budget - left; mode = mode.Backward }) (rule_met c r k g n) step.Silent
 unmet-advances c s r k g n after left table good e kept l =
-    let m : rule_met c r k g n ≡ silent (Back (choices_in c) (record (world_in c) { steps = c.budget - after })) = met-no c r k g n after table e in
+    let m : rule_met c r k g n ≡ silent (Backward (choices_in c) (record (world_in c) { steps = c.budget - after })) = met-no c r k g n after table e in
     let done : Advances c (record c { steps = c.budget - after; mode = mode.Backward }) (rule_met c r k g n) step.Silent = record {
       turns = ap (λ (x : Moved). x.turns) (sym m);
       state = ap (λ (x : Moved). x.state) (sym m);

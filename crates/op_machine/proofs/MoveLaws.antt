@@ -9,7 +9,7 @@ use Rattle.op_trace.specs.World.{Text, text_eq, Clause, World, Setup, same_barri
 use Rattle.op_trace.specs.Visit.{Verdict, Failed, CutTo, Stopped, Spent, Visited, gives, with_turns, and_then, event_of, with_event, pays, reaches, cut, shows, Control, TrueGoal, FailGoal, CutGoal, Conjunction, Disjunction, IfThenElse, BoxedGoal, control, entered, Choice, Redo, Branch, More, Fail, Condition, matched, tries, alternatives, branches, after, boxed, selected, solved, visit, visit_with}
 use Rattle.op_trace.proofs.Agree.{visit_rows}
 use Rattle.op_trace.proofs.Only.{Only, visit-only}
-use Rattle.op_machine.specs.Resume.{resume, keep, with_more, State, Going, Back, Over, owed, Moved, silent, paid, invoked, chosen, met, tried, branched, at_solution, move, world_of}
+use Rattle.op_machine.specs.Resume.{resume, keep, with_more, State, Forward, Backward, Over, owed, Moved, silent, paid, invoked, chosen, met, tried, branched, at_solution, move, world_of}
 use Rattle.op_machine.specs.Scope.{Behind, InStep}
 
 -- a walk that leads to another, and then to a third
@@ -97,7 +97,7 @@ matched-row s c k g J w (Some (None, left)) K = refl
 matched-row s c k g J w (Some (Some τ, left)) K =
     paid-row (nat_le (s.budget - left + c.variables) s.budget) s c.variables (record w { steps = s.budget - left })
     (λ u. visit s (entered w.variables c k g J) τ (record u { variables = u.variables + c.variables }))
-    (λ u. silent (Going (entered w.variables c k g J) K τ (record u { variables = u.variables + c.variables }))) K refl
+    (λ u. silent (Forward (entered w.variables c k g J) K τ (record u { variables = u.variables + c.variables }))) K refl
 
 pub tried-row : (s : Setup) (c : Clause) (k : ℕ) (g : Term Text) (σ : Bindings Text) (J : List Item) (w : World) (K : List Choice)
     → and_then (tries (visit s) s c k g σ J w) (resume s K) ≡ comes s (tried s c k g σ J K w)
@@ -135,7 +135,7 @@ pub branched-row : (s : Setup) (t : Term Text) (m : Barrier) (σ : Bindings Text
     → and_then (branches (visit s) s t m σ J w) (resume s K) ≡ comes s (branched s t m σ J K w)
 unfolding owed
 branched-row s t m σ J w K =
-    paid-row (nat_le (w.steps + 1) s.budget) s 1 w (visit s (Goal t m ∷ J) σ) (λ u. silent (Going (Goal t m ∷ J) K σ u)) K refl
+    paid-row (nat_le (w.steps + 1) s.budget) s 1 w (visit s (Goal t m ∷ J) σ) (λ u. silent (Forward (Goal t m ∷ J) K σ u)) K refl
 
 pub selected-row : (s : Setup) (q : Control) (t : Term Text) (m : Barrier) (J : List Item) (σ : Bindings Text) (w : World) (K : List Choice)
     → Behind m K J → and_then (selected (visit s) s q t m J σ w) (resume s K) ≡ comes s (chosen q t m J K σ w)
@@ -159,12 +159,12 @@ solved-row s σ w K = go (w.solutions + 1 == s.wanted)
     u = record w { solutions = w.solutions + 1 }
 
     go : (b : Bool) → and_then (with_turns (Solved σ (record w { solutions = w.solutions + 1 }) ∷ []) (gives (if b then Stopped else Failed) (record w { solutions = w.solutions + 1 }))) (resume s K)
-        ≡ comes s (record { turns = Solved σ (record w { solutions = w.solutions + 1 }) ∷ []; state = if b then Over Stopped (record w { solutions = w.solutions + 1 }) else Back K (record w { solutions = w.solutions + 1 }) })
+        ≡ comes s (record { turns = Solved σ (record w { solutions = w.solutions + 1 }) ∷ []; state = if b then Over Stopped (record w { solutions = w.solutions + 1 }) else Backward K (record w { solutions = w.solutions + 1 }) })
     go true = ap (with_turns (Solved σ (record w { solutions = w.solutions + 1 }) ∷ [])) (resume-Stopped s K (record w { solutions = w.solutions + 1 }))
     go false = refl
 
 pub exit-row : (s : Setup) (k : ℕ) (g : Term Text) (J : List Item) (σ : Bindings Text) (w : World) (K : List Choice) → w.steps ≤ s.budget
-    → and_then (visit_with (visit s) s (Exit k g ∷ J) σ w) (resume s K) ≡ comes s (move s (Going (Exit k g ∷ J) K σ w))
+    → and_then (visit_with (visit s) s (Exit k g ∷ J) σ w) (resume s K) ≡ comes s (move s (Forward (Exit k g ∷ J) K σ w))
 unfolding owed visit_with resume
 exit-row s k g J σ w K below =
     ap (with_turns (Shown (event_of port.Exit k g σ J w) (with_event w) ∷ []))
@@ -174,23 +174,23 @@ exit-row s k g J σ w K below =
 -- what is owed before a move is the turn that it shows and what is owed after it
 pub move-row : (s : Setup) (t : State) → (world_of t).steps ≤ s.budget → InStep t → owed s t ≡ comes s (move s t)
 unfolding owed resume visit_with
-move-row s (Going [] K σ w) below h = ap (λ (v : Visited). and_then v (resume s K)) (visit_rows s [] σ w below) ∙ solved-row s σ w K
-move-row s (Going (Exit k g ∷ J) K σ w) below h =
+move-row s (Forward [] K σ w) below h = ap (λ (v : Visited). and_then v (resume s K)) (visit_rows s [] σ w below) ∙ solved-row s σ w K
+move-row s (Forward (Exit k g ∷ J) K σ w) below h =
     ap (λ (v : Visited). and_then v (resume s K)) (visit_rows s (Exit k g ∷ J) σ w below) ∙ exit-row s k g J σ w K below
-move-row s (Going (Cut m ∷ J) K σ w) below h =
+move-row s (Forward (Cut m ∷ J) K σ w) below h =
     ap (λ (v : Visited). and_then v (resume s K)) (visit_rows s (Cut m ∷ J) σ w below)
     ∙ (ap (λ (v : Visited). and_then (and_then v (cut m)) (resume s K)) (sym (visit_rows s J σ w below)) ∙ cuts-row s m J K σ w h.0.0)
-move-row s (Going (Goal t m ∷ J) K σ w) below h =
+move-row s (Forward (Goal t m ∷ J) K σ w) below h =
     ap (λ (v : Visited). and_then v (resume s K)) (visit_rows s (Goal t m ∷ J) σ w below)
     ∙ paid-row (nat_le (w.steps + 1) s.budget) s 1 w (selected (visit s) s (control t) t m J σ) (chosen (control t) t m J K σ) K
     (selected-row s (control t) t m J σ (record w { steps = w.steps + 1 }) K h.0.0)
-move-row s (Back [] w) below h = refl
-move-row s (Back (Redo k g σ J ∷ K) w) below h = refl
-move-row s (Back (Branch t m σ J ∷ K) w) below h = branched-row s t m σ J w K
-move-row s (Back (Condition n t m σ J ∷ K) w) below h = branched-row s t m σ J w K
-move-row s (Back (Fail k g σ J ∷ K) w) below h = refl
-move-row s (Back (More [] k g σ J ∷ K) w) below h = refl
-move-row s (Back (More (c ∷ cs) k g σ J ∷ K) w) below h =
+move-row s (Backward [] w) below h = refl
+move-row s (Backward (Redo k g σ J ∷ K) w) below h = refl
+move-row s (Backward (Branch t m σ J ∷ K) w) below h = branched-row s t m σ J w K
+move-row s (Backward (Condition n t m σ J ∷ K) w) below h = branched-row s t m σ J w K
+move-row s (Backward (Fail k g σ J ∷ K) w) below h = refl
+move-row s (Backward (More [] k g σ J ∷ K) w) below h = refl
+move-row s (Backward (More (c ∷ cs) k g σ J ∷ K) w) below h =
     let v : Visited = tries (visit s) s c k g σ J w in
     push-row s v (More cs k g σ J) K
     ∙ (ap (with_turns v.turns) (sym (resume-with_more s cs k g σ J K v.verdict v.world)) ∙ tried-row s c k g σ J w (with_more cs k g σ J K))

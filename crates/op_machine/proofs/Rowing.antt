@@ -18,7 +18,7 @@ use Rattle.op_bind.specs.declared.places.Clause.{Clause as Rule}
 use Rattle.op_machine.specs.Program.{clauses, clauses_from, clause_in}
 use Rattle.op_machine.specs.Core.{Frame, level_in, choices_of, setup_of, world_in, items_now, goal_now, bindings_now, choices_in, event_seen, IsGood, IsGoal}
 use Rattle.op_machine.specs.Rows.{Advances, goal_moved, chosen_now, rule_tried, rule_met, rules_tried, box_invoked}
-use Rattle.op_machine.specs.Resume.{Back, Over, Moved, silent, pay, met, tried, move, with_more}
+use Rattle.op_machine.specs.Resume.{Backward, Over, Moved, silent, pay, met, tried, move, with_more}
 use Rattle.op_machine.proofs.Paying.{pay-yes, pay-no}
 use Rattle.op_machine.proofs.Choosing.{clauses_from-here}
 
@@ -87,7 +87,7 @@ retry-moved c mid rules i r k g n e choices inside here =
     let tried_over : List visit.Choice → Moved = λ K. tried (setup_of c) (clause_in c.store r) k (goal_now c g) (bindings_now c) J K (world_in c) in
     ap (λ (x : Core). tried (setup_of x) (clause_in x.store r) k (goal_now x g) (bindings_now x) (items_now x n) (choices_in mid) (world_in x)) e
     ∙ (ap tried_over choices
-    ∙ ap (λ (cs : List Clause). move (setup_of c) (Back (visit.More cs k (goal_now c g) (bindings_now c) J ∷ choices_in c) (world_in c))) (sym (clauses_from-here c.store rules i r inside here)))
+    ∙ ap (λ (cs : List Clause). move (setup_of c) (Backward (visit.More cs k (goal_now c g) (bindings_now c) J ∷ choices_in c) (world_in c))) (sym (clauses_from-here c.store rules i r inside here)))
 
 pub retry-advances : (c mid new : Core) (m : Moved) (n : Moved) (s : Step) → mid ≡ record c { frames = mid.frames } → m ≡ n
     → Advances mid new m s → Advances c new n s
@@ -129,7 +129,7 @@ invoked-advances c more g n e seen choices good goal there =
     let there_more : is_goal_in more g = subst (λ (x : Core). is_goal_in x g) (sym e) there in
     record {
       turns = ap (λ (x : Event). Shown x (world_in more) ∷ []) shown ∙ ap (λ (w : World). Shown (event_of port.Call (c.calls + 1) (goal_now c g) (bindings_now c) (items_now c n) u) w ∷ []) same_world;
-      state = ap (λ (L : List visit.Choice). Back L (world_in more)) choices ∙ ap (λ (w : World). Back made w) same_world;
+      state = ap (λ (L : List visit.Choice). Backward L (world_in more)) choices ∙ ap (λ (w : World). Backward made w) same_world;
       good = record { level = good.level; frames = good.frames; mode = tt; values = good.values; failure = good.failure; boxes = good.boxes; boxed = good.boxed };
       looked = subst (λ (x : ℕ). is_goal_in more x) (sym goal) there_more;
       store = ap (λ (x : Core). x.store) e;

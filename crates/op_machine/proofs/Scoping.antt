@@ -7,7 +7,7 @@ use Rattle.op_trace.specs.declared.barrier.Barrier.{Barrier}
 use Rattle.op_trace.specs.declared.barrier.Barrier.TheVariants.{Call, InCondition, AtSuccess}
 use Rattle.op_trace.specs.World.{Text, Clause, World, Setup, Item, Goal, Cut, Exit, Has, procedure}
 use Rattle.op_trace.specs.Visit.{Stopped, Control, TrueGoal, FailGoal, CutGoal, Conjunction, Disjunction, IfThenElse, BoxedGoal, control, is_true, entered, Choice, Redo, Branch, More, Fail, Condition}
-use Rattle.op_machine.specs.Resume.{stays, goes, keep, with_more, State, Going, Back, Over, Moved, paid, chosen, met, tried, branched, move}
+use Rattle.op_machine.specs.Resume.{stays, goes, keep, with_more, State, Forward, Backward, Over, Moved, paid, chosen, met, tried, branched, move}
 use Rattle.op_machine.specs.Scope.{Behind, Scoped, IsGiven, IsGoalBarrier, AreGiven, AreScoped, InStep}
 
 -- no choice is dropped as the last by a cut of a goal
@@ -188,10 +188,10 @@ chosen-in_step BoxedGoal t m J K σ w b s h a all =
 
 pub entered-in_step : (f : ℕ) (c : Clause) (k : ℕ) (g : Term Text) (J : List Item) (L : List Choice) (τ : Bindings Text) (u : World)
     → ((n : Barrier) → Has n J → keep n (keep (Call k) L) ≡ keep n L) → Scoped L J → k ≤ u.calls → AreGiven u.calls u.conditions J → AreScoped u.calls u.conditions L
-    → InStep (Going (entered f c k g J) L τ u)
+    → InStep (Forward (entered f c k g J) L τ u)
 entered-in_step f c k g J L τ u b s h a all = go (is_true c.body)
   where
-    go : (t : Bool) → InStep (Going (if t then Exit k g ∷ J else Goal (shift f c.body) (Call k) ∷ Exit k g ∷ J) L τ u)
+    go : (t : Bool) → InStep (Forward (if t then Exit k g ∷ J else Goal (shift f c.body) (Call k) ∷ Exit k g ∷ J) L τ u)
     go true = (s, a, all)
     go false = ((b, s), (h, a), all)
 
@@ -223,22 +223,22 @@ pub branched-in_step : (s : Setup) (t : Term Text) (m : Barrier) (σ : Bindings 
 branched-in_step s t m σ J K w sc a all = paid-in_step (nat_le (w.steps + 1) s.budget) s 1 w _ (sc, a, all)
 
 pub move-in_step : (s : Setup) (t : State) → InStep t → InStep (move s t).state
-move-in_step s (Going [] K σ w) h = go (w.solutions + 1 == s.wanted)
+move-in_step s (Forward [] K σ w) h = go (w.solutions + 1 == s.wanted)
   where
-    go : (b : Bool) → InStep (if b then Over Stopped (record w { solutions = w.solutions + 1 }) else Back K (record w { solutions = w.solutions + 1 }))
+    go : (b : Bool) → InStep (if b then Over Stopped (record w { solutions = w.solutions + 1 }) else Backward K (record w { solutions = w.solutions + 1 }))
     go true = tt
     go false = h.2
-move-in_step s (Going (Exit k g ∷ J) K σ w) h =
+move-in_step s (Forward (Exit k g ∷ J) K σ w) h =
     (h.0, h.1, (tt, h.2))
-move-in_step s (Going (Cut m ∷ J) K σ w) h = (scoped-along K (keep m K) J h.0.0 h.0.1, h.1.1, keep-scoped w.calls w.conditions m K h.2)
-move-in_step s (Going (Goal t m ∷ J) K σ w) h =
+move-in_step s (Forward (Cut m ∷ J) K σ w) h = (scoped-along K (keep m K) J h.0.0 h.0.1, h.1.1, keep-scoped w.calls w.conditions m K h.2)
+move-in_step s (Forward (Goal t m ∷ J) K σ w) h =
     paid-in_step (nat_le (w.steps + 1) s.budget) s 1 w _
     (chosen-in_step (control t) t m J K σ (record w { steps = w.steps + 1 }) h.0.0 h.0.1 h.1.0 h.1.1 h.2)
-move-in_step s (Back [] w) h = tt
-move-in_step s (Back (Redo k g σ J ∷ K) w) h = h.1
-move-in_step s (Back (Branch t m σ J ∷ K) w) h = branched-in_step s t m σ J K w h.0.0 h.0.1 h.1
-move-in_step s (Back (Condition n t m σ J ∷ K) w) h = branched-in_step s t m σ J K w h.0.0 h.0.1 h.1
-move-in_step s (Back (Fail k g σ J ∷ K) w) h = h.1
-move-in_step s (Back (More [] k g σ J ∷ K) w) h = h.1
-move-in_step s (Back (More (c ∷ cs) k g σ J ∷ K) w) h = tried-in_step s c cs k g σ J K w h.0.0 h.0.1 h.0.2 h.0.3 h.1
+move-in_step s (Backward [] w) h = tt
+move-in_step s (Backward (Redo k g σ J ∷ K) w) h = h.1
+move-in_step s (Backward (Branch t m σ J ∷ K) w) h = branched-in_step s t m σ J K w h.0.0 h.0.1 h.1
+move-in_step s (Backward (Condition n t m σ J ∷ K) w) h = branched-in_step s t m σ J K w h.0.0 h.0.1 h.1
+move-in_step s (Backward (Fail k g σ J ∷ K) w) h = h.1
+move-in_step s (Backward (More [] k g σ J ∷ K) w) h = h.1
+move-in_step s (Backward (More (c ∷ cs) k g σ J ∷ K) w) h = tried-in_step s c cs k g σ J K w h.0.0 h.0.1 h.0.2 h.0.3 h.1
 move-in_step s (Over r w) h = tt

@@ -14,7 +14,7 @@ use Rattle.op_machine.specs.declared.lists.Item.TheVariants as item
 use Rattle.op_machine.specs.Program.{goal_named}
 use Rattle.op_machine.specs.Core.{IsGoal, IsGood, item_term, level_in, items_now, choices_in, bindings_now, world_in, goal_now}
 use Rattle.op_machine.specs.Rows.{Advances, conjunction_before}
-use Rattle.op_machine.specs.Resume.{Going, silent}
+use Rattle.op_machine.specs.Resume.{Forward, silent}
 
 args-names : (n : ℕ) (t : Term ℕ) → HasNames n t → ArgsHaveNames n (args_of t)
 args-names n (var v) h = tt
@@ -32,7 +32,7 @@ pub select_conjunction-advances : (c mid new : Core) (g : ℕ) (m : Barrier) (n 
     → items_now mid tail ≡ item_term c.store (level_in c) (item.Goal second m) ∷ items_now c n
     → items_now new items ≡ item_term mid.store (level_in mid) (item.Goal first m) ∷ items_now mid tail
     → choices_in mid ≡ choices_in c → choices_in new ≡ choices_in mid → IsGood new → items < length new.lists
-    → Advances c (record new { mode = mode.Forward items }) (silent (Going (conjunction_before c g m n) (choices_in c) (bindings_now c) (world_in c))) step.Silent
+    → Advances c (record new { mode = mode.Forward items }) (silent (Forward (conjunction_before c g m n) (choices_in c) (bindings_now c) (world_in c))) step.Silent
 select_conjunction-advances c mid new g m n first second tail items em en ef es rest all cm cn good inside =
     let from_mid : goal_now mid first ≡ goal_now c first = ap (λ (x : Core). goal_now x first) em in
     let one : goal_now mid first ≡ goal_named c.store (nth_arg (args_of (term_at c.bindings.terms g)) 0) = from_mid ∙ ap (goal_named c.store) ef in

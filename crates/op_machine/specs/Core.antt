@@ -28,7 +28,7 @@ use Rattle.op_machine.specs.Lists.{list_in}
 use Rattle.op_machine.specs.Boxes.{AreBoxes, AreBoxed}
 use Rattle.op_store.specs.Stored.{Stored}
 use Rattle.op_machine.specs.Program.{clauses, clauses_from, goal_named, AreKnown}
-use Rattle.op_machine.specs.Resume.{State, Going, Back, Over}
+use Rattle.op_machine.specs.Resume.{State, Forward, Backward, Over}
 use Rattle.op_machine.specs.Counted.{Counted}
 use Rattle.op_machine.specs.Scope.{InStep}
 
@@ -109,8 +109,8 @@ verdict_of ending.Failed = visit.Failed
 verdict_of ending.Spent = visit.Spent
 
 abbrev pub state_with : Stored → Level → List Frame → World → Mode → State
-state_with t v F w (mode.Forward n) = Going (items_in t v n) (choices_of t v (reverse F)) (bindings_in t v) w
-state_with t v F w mode.Backward = Back (choices_of t v (reverse F)) w
+state_with t v F w (mode.Forward n) = Forward (items_in t v n) (choices_of t v (reverse F)) (bindings_in t v) w
+state_with t v F w mode.Backward = Backward (choices_of t v (reverse F)) w
 state_with t v F w (mode.Over e) = Over (verdict_of e) w
 
 abbrev pub state_of : Core → State

@@ -45,14 +45,14 @@ keep m (c ∷ K) = if stays c m then c ∷ K else (if goes c m then K else keep 
 
 -- a machine goes on with its items, or goes back to its last choice, or is at the end
 pub data State : Type 0 where
-  Going : List Item → List Choice → Bindings Text → World → State
-  Back : List Choice → World → State
+  Forward : List Item → List Choice → Bindings Text → World → State
+  Backward : List Choice → World → State
   Over : Verdict → World → State
 
 -- the turns to come, the verdict and the world at the end
 unfoldable pub owed : Setup → State → Visited
-owed s (Going I K σ w) = and_then (visit s I σ w) (resume s K)
-owed s (Back K w) = resume s K Failed w
+owed s (Forward I K σ w) = and_then (visit s I σ w) (resume s K)
+owed s (Backward K w) = resume s K Failed w
 owed s (Over r w) = gives r w
 
 -- One small move, with the turn that it shows, if it shows one.
@@ -82,28 +82,28 @@ abbrev pub invoked : Term Text → List Item → List Choice → Bindings Text �
 invoked g J K σ w =
     let k : ℕ = w.calls + 1 in
     let u : World = record w { calls = k } in
-    showing port.Call k g σ J u (Back (with_more (procedure w.clauses g) k g σ J (Fail k g σ J ∷ K)) (with_event u))
+    showing port.Call k g σ J u (Backward (with_more (procedure w.clauses g) k g σ J (Fail k g σ J ∷ K)) (with_event u))
 
 -- a condition comes next, and the else branch is kept as a choice
 abbrev pub if_then_else_chosen : Term Text → Term Text → Term Text → Barrier → List Item → List Choice → Bindings Text → World → Moved
 if_then_else_chosen c t e m J K σ w =
     let n : ℕ = w.conditions + 1 in
-    silent (Going (Goal c (InCondition n) ∷ Cut (AtSuccess n) ∷ Goal t m ∷ J) (Condition n e m σ J ∷ K) σ (record w { conditions = n }))
+    silent (Forward (Goal c (InCondition n) ∷ Cut (AtSuccess n) ∷ Goal t m ∷ J) (Condition n e m σ J ∷ K) σ (record w { conditions = n }))
 
 abbrev pub chosen : Control → Term Text → Barrier → List Item → List Choice → Bindings Text → World → Moved
-chosen TrueGoal t m J K σ w = silent (Going J K σ w)
-chosen FailGoal t m J K σ w = silent (Back K w)
-chosen CutGoal t m J K σ w = silent (Going J (keep m K) σ w)
-chosen (Conjunction a b) t m J K σ w = silent (Going (Goal a m ∷ Goal b m ∷ J) K σ w)
-chosen (Disjunction a b) t m J K σ w = silent (Going (Goal a m ∷ J) (Branch b m σ J ∷ K) σ w)
+chosen TrueGoal t m J K σ w = silent (Forward J K σ w)
+chosen FailGoal t m J K σ w = silent (Backward K w)
+chosen CutGoal t m J K σ w = silent (Forward J (keep m K) σ w)
+chosen (Conjunction a b) t m J K σ w = silent (Forward (Goal a m ∷ Goal b m ∷ J) K σ w)
+chosen (Disjunction a b) t m J K σ w = silent (Forward (Goal a m ∷ J) (Branch b m σ J ∷ K) σ w)
 chosen (IfThenElse c a b) t m J K σ w = if_then_else_chosen c a b m J K σ w
 chosen BoxedGoal t m J K σ w = invoked t J K σ w
 
 abbrev pub met : Setup → Clause → ℕ → Term Text → List Item → List Choice → World → Option (Result Text) → Moved
 met s c k g J K w None = silent (Over Spent (record w { steps = s.budget }))
-met s c k g J K w (Some (None, left)) = silent (Back K (record w { steps = s.budget - left }))
+met s c k g J K w (Some (None, left)) = silent (Backward K (record w { steps = s.budget - left }))
 met s c k g J K w (Some (Some τ, left)) =
-    pay s c.variables (record w { steps = s.budget - left }) (λ u. silent (Going (entered w.variables c k g J) K τ (record u { variables = u.variables + c.variables })))
+    pay s c.variables (record w { steps = s.budget - left }) (λ u. silent (Forward (entered w.variables c k g J) K τ (record u { variables = u.variables + c.variables })))
 
 -- a clause is tried, with these choices below it
 abbrev pub tried : Setup → Clause → ℕ → Term Text → Bindings Text → List Item → List Choice → World → Moved
@@ -113,27 +113,27 @@ tried s c k g σ J K w =
 abbrev pub at_solution : Setup → List Choice → Bindings Text → World → Moved
 at_solution s K σ w =
     let u : World = record w { solutions = w.solutions + 1 } in
-    record { turns = Solved σ u ∷ []; state = if u.solutions == s.wanted then Over Stopped u else Back K u }
+    record { turns = Solved σ u ∷ []; state = if u.solutions == s.wanted then Over Stopped u else Backward K u }
 
 -- another branch: one step, and its goal
 abbrev pub branched : Setup → Term Text → Barrier → Bindings Text → List Item → List Choice → World → Moved
-branched s t m σ J K w = pay s 1 w (λ u. silent (Going (Goal t m ∷ J) K σ u))
+branched s t m σ J K w = pay s 1 w (λ u. silent (Forward (Goal t m ∷ J) K σ u))
 
 abbrev pub move : Setup → State → Moved
-move s (Going [] K σ w) = at_solution s K σ w
-move s (Going (Exit k g ∷ J) K σ w) = showing port.Exit k g σ J w (Going J (Redo k g σ J ∷ K) σ (with_event w))
-move s (Going (Cut m ∷ J) K σ w) = silent (Going J (keep m K) σ w)
-move s (Going (Goal t m ∷ J) K σ w) = pay s 1 w (chosen (control t) t m J K σ)
-move s (Back [] w) = silent (Over Failed w)
-move s (Back (Redo k g σ J ∷ K) w) = showing port.Redo k g σ J w (Back K (with_event w))
-move s (Back (Branch t m σ J ∷ K) w) = branched s t m σ J K w
-move s (Back (Condition n t m σ J ∷ K) w) = branched s t m σ J K w
-move s (Back (Fail k g σ J ∷ K) w) = showing port.Fail k g σ J w (Back K (with_event w))
-move s (Back (More [] k g σ J ∷ K) w) = silent (Back K w)
-move s (Back (More (c ∷ cs) k g σ J ∷ K) w) = tried s c k g σ J (with_more cs k g σ J K) w
+move s (Forward [] K σ w) = at_solution s K σ w
+move s (Forward (Exit k g ∷ J) K σ w) = showing port.Exit k g σ J w (Forward J (Redo k g σ J ∷ K) σ (with_event w))
+move s (Forward (Cut m ∷ J) K σ w) = silent (Forward J (keep m K) σ w)
+move s (Forward (Goal t m ∷ J) K σ w) = pay s 1 w (chosen (control t) t m J K σ)
+move s (Backward [] w) = silent (Over Failed w)
+move s (Backward (Redo k g σ J ∷ K) w) = showing port.Redo k g σ J w (Backward K (with_event w))
+move s (Backward (Branch t m σ J ∷ K) w) = branched s t m σ J K w
+move s (Backward (Condition n t m σ J ∷ K) w) = branched s t m σ J K w
+move s (Backward (Fail k g σ J ∷ K) w) = showing port.Fail k g σ J w (Backward K (with_event w))
+move s (Backward (More [] k g σ J ∷ K) w) = silent (Backward K w)
+move s (Backward (More (c ∷ cs) k g σ J ∷ K) w) = tried s c k g σ J (with_more cs k g σ J K) w
 move s (Over r w) = silent (Over r w)
 
 abbrev pub world_of : State → World
-world_of (Going I K σ w) = w
-world_of (Back K w) = w
+world_of (Forward I K σ w) = w
+world_of (Backward K w) = w
 world_of (Over r w) = w

@@ -15,7 +15,7 @@ use Rattle.op_machine.specs.declared.core_state.Core.{Core}
 use Rattle.op_machine.specs.declared.core_state.Step.{Step}
 use Rattle.op_machine.specs.declared.core_state.Step.TheVariants as step
 use Rattle.op_machine.specs.Core.{setup_of, world_in, items_now, goal_now, bindings_now, choices_in, state_of, event_seen, IsGood, IsSeen}
-use Rattle.op_machine.specs.Resume.{Moved, Going, Back, silent, pay, keep, if_then_else_chosen, chosen, invoked, met, tried, branched, move}
+use Rattle.op_machine.specs.Resume.{Moved, Forward, Backward, silent, pay, keep, if_then_else_chosen, chosen, invoked, met, tried, branched, move}
 
 -- the turn that a machine shows after a step
 abbrev pub turns_of : Step → Core → List Turn
@@ -37,7 +37,7 @@ goal_moved c t m n = pay (setup_of c) 1 (world_in c) (chosen_now c t m n)
 
 -- the exit of a box before a list
 abbrev pub exit_moved : Core → ℕ → ℕ → ℕ → Moved
-exit_moved c k g n = move (setup_of c) (Going (world.Exit k (goal_now c g) ∷ items_now c n) (choices_in c) (bindings_now c) (world_in c))
+exit_moved c k g n = move (setup_of c) (Forward (world.Exit k (goal_now c g) ∷ items_now c n) (choices_in c) (bindings_now c) (world_in c))
 
 -- a box is invoked
 abbrev pub box_invoked : Core → ℕ → ℕ → Moved
@@ -50,7 +50,7 @@ body_before c b k J = if is_true (goal_now c b) then J else world.Goal (goal_now
 -- a clause's body and then the exit of the box come next
 abbrev pub body_entered : Core → ℕ → ℕ → ℕ → ℕ → Moved
 body_entered c b k g n =
-    silent (Going (body_before c b k (world.Exit k (goal_now c g) ∷ items_now c n)) (choices_in c) (bindings_now c) (world_in c))
+    silent (Forward (body_before c b k (world.Exit k (goal_now c g) ∷ items_now c n)) (choices_in c) (bindings_now c) (world_in c))
 
 -- the two goals of a conjunction before a list
 abbrev pub conjunction_before : Core → ℕ → Barrier → ℕ → List world.Item
@@ -74,7 +74,7 @@ rule_tried c r k g n =
 -- the move of a choice, made at the present moment, of clauses from one on
 abbrev pub rules_tried : Core → List Rule → ℕ → ℕ → ℕ → ℕ → Moved
 rules_tried c rules i k g n =
-    move (setup_of c) (Back (visit.More (clauses_from c.store rules i) k (goal_now c g) (bindings_now c) (items_now c n) ∷ choices_in c) (world_in c))
+    move (setup_of c) (Backward (visit.More (clauses_from c.store rules i) k (goal_now c g) (bindings_now c) (items_now c n) ∷ choices_in c) (world_in c))
 
 -- another branch is tried, made at the present moment
 abbrev pub branch_tried : Core → ℕ → Barrier → ℕ → Moved
@@ -82,12 +82,12 @@ branch_tried c g m n = branched (setup_of c) (goal_now c g) m (bindings_now c) (
 
 -- the choices that a cut keeps
 abbrev pub cut_moved : Core → Barrier → ℕ → Moved
-cut_moved c m n = silent (Going (items_now c n) (keep m (choices_in c)) (bindings_now c) (world_in c))
+cut_moved c m n = silent (Forward (items_now c n) (keep m (choices_in c)) (bindings_now c) (world_in c))
 
 -- the first branch comes next, and the second is kept as a choice
 abbrev pub disjunction_before : Core → ℕ → ℕ → Barrier → ℕ → Moved
 disjunction_before c a b m n =
-    silent (Going (world.Goal (goal_now c a) m ∷ items_now c n) (visit.Branch (goal_now c b) m (bindings_now c) (items_now c n) ∷ choices_in c) (bindings_now c) (world_in c))
+    silent (Forward (world.Goal (goal_now c a) m ∷ items_now c n) (visit.Branch (goal_now c b) m (bindings_now c) (items_now c n) ∷ choices_in c) (bindings_now c) (world_in c))
 
 -- a condition comes next, and the else branch is kept as a choice
 abbrev pub if_then_else_before : Core → ℕ → ℕ → ℕ → Barrier → ℕ → Moved

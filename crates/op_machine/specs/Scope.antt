@@ -4,7 +4,7 @@ use Rattle.op_trace.specs.declared.barrier.Barrier.{Barrier}
 use Rattle.op_trace.specs.declared.barrier.Barrier.TheVariants.{Call, InCondition, AtSuccess}
 use Rattle.op_trace.specs.World.{Item, Goal, Cut, Exit, Has}
 use Rattle.op_trace.specs.Visit.{Choice, Redo, Branch, More, Fail, Condition}
-use Rattle.op_machine.specs.Resume.{keep, State, Going, Back, Over}
+use Rattle.op_machine.specs.Resume.{keep, State, Forward, Backward, Over}
 
 -- a cut to m drops nothing that a cut of the items behind it keeps
 abbrev pub Behind : Barrier → List Choice → List Item → Type 0
@@ -48,6 +48,6 @@ AreScoped c d [] = Unit {0}
 AreScoped c d (x ∷ K) = IsScopedChoice c d x K × AreScoped c d K
 
 abbrev pub InStep : State → Type 0
-InStep (Going I K σ w) = Scoped K I × AreGiven w.calls w.conditions I × AreScoped w.calls w.conditions K
-InStep (Back K w) = AreScoped w.calls w.conditions K
+InStep (Forward I K σ w) = Scoped K I × AreGiven w.calls w.conditions I × AreScoped w.calls w.conditions K
+InStep (Backward K w) = AreScoped w.calls w.conditions K
 InStep (Over r w) = Unit {0}

@@ -3,7 +3,7 @@ ghost use Rattle.op_machine.specs.declared.core_state.Mode.TheVariants as mode;
 ghost use Rattle.op_machine.specs.Core.{setup_of, state_of, world_in, level_in, items_now, bindings_now, choices_in, choice_of, item_term, IsGood, IsGoal, IsItem, IsFrame};
 ghost use Rattle.op_machine.specs.Program.{AreKnown};
 ghost use Rattle.op_store.specs.Snapshots.{rules_in};
-ghost use Rattle.op_machine.specs.Resume.{move, Going, Back};
+ghost use Rattle.op_machine.specs.Resume.{move, Forward, Backward};
 ghost use Rattle.op_machine.specs.Boxes.{IsCalled, IsTried};
 ghost use Rattle.op_machine.specs.Rows.{Keeps, Advances, rules_tried};
 
@@ -43,7 +43,7 @@ impl Core {
         requires conditions { self.old.conditions < 2 ^ 63 }
         requires steps { self.old.steps ≤ self.old.budget }
         ensures advances { IfOk result (Advances self.old self.new (move (setup_of self.old)
-            (Going (items_now self.old items) (choices_in self.old) (bindings_now self.old) (world_in self.old)))) }
+            (Forward (items_now self.old items) (choices_in self.old) (bindings_now self.old) (world_in self.old)))) }
         ensures keeps { Keeps self.old self.new }
     {
         match self.lists.first(items) {
@@ -62,7 +62,7 @@ impl Core {
         requires conditions { self.old.conditions < 2 ^ 63 }
         requires steps { self.old.steps ≤ self.old.budget }
         ensures advances { IfOk result (Advances self.old self.new (move (setup_of self.old)
-            (Going (item_term self.old.store (level_in self.old) item ∷ items_now self.old rest) (choices_in self.old) (bindings_now self.old) (world_in self.old)))) }
+            (Forward (item_term self.old.store (level_in self.old) item ∷ items_now self.old rest) (choices_in self.old) (bindings_now self.old) (world_in self.old)))) }
         ensures keeps { Keeps self.old self.new }
     {
         match item {
@@ -83,7 +83,7 @@ impl Core {
         requires events { self.old.events < 2 ^ 63 }
         requires calls { self.old.calls < 2 ^ 63 }
         requires steps { self.old.steps ≤ self.old.budget }
-        ensures advances { IfOk result (Advances self.old self.new (move (setup_of self.old) (Back (choices_in self.old) (world_in self.old)))) }
+        ensures advances { IfOk result (Advances self.old self.new (move (setup_of self.old) (Backward (choices_in self.old) (world_in self.old)))) }
         ensures keeps { Keeps self.old self.new }
     {
         match self.pop() {
@@ -109,7 +109,7 @@ impl Core {
         requires events { self.old.events < 2 ^ 63 }
         requires steps { self.old.steps ≤ self.old.budget }
         ensures advances { IfOk result (Advances self.old self.new (move (setup_of self.old)
-            (Back (choice_of self.old.store (level_in self.old) choice.now ∷ choices_in self.old) (world_in self.old)))) }
+            (Backward (choice_of self.old.store (level_in self.old) choice.now ∷ choices_in self.old) (world_in self.old)))) }
         ensures keeps { Keeps self.old self.new }
     {
         let kept = &choice.kept;

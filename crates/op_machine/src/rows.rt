@@ -12,7 +12,7 @@ ghost use Rattle.op_machine.specs.Core.{setup_of, world_in, level_in, items_now,
 ghost use Rattle.op_frames.specs.Frames.{open_from};
 ghost use Rattle.op_machine.specs.Boxes.{boxes_before, IsCalled, IsEntered};
 ghost use Rattle.op_machine.specs.Program.{clauses, clauses_from, AreKnown};
-ghost use Rattle.op_machine.specs.Resume.{at_solution, showing, with_more, silent, Going, Back};
+ghost use Rattle.op_machine.specs.Resume.{at_solution, showing, with_more, silent, Forward, Backward};
 ghost use Rattle.op_machine.specs.Rows.{Keeps, Advances, IsLooked, exit_moved, box_invoked, body_entered, body_before};
 ghost use Rattle.op_trace.specs.World.{procedure};
 ghost use Rattle.op_store.specs.Snapshots.{rules_in};
@@ -150,7 +150,7 @@ impl Core {
         requires fits { self.old.events < 2 ^ 63 }
         ensures advances { Advances self.old self.new (showing port call (goal_now self.old goal) (bindings_now self.old)
             (items_now self.old rest) (world_in self.old)
-            (Back (choices_in self.old) (with_event (world_in self.old)))) result }
+            (Backward (choices_in self.old) (with_event (world_in self.old)))) result }
         ensures keeps { Keeps self.old self.new }
     {
         self.show(port, call, goal, rest);
