@@ -16,27 +16,27 @@ use Rattle.op_trace.specs.World.{Text}
 use Rattle.op_bind.specs.declared.places.Clause.{Clause as Rule}
 use Rattle.op_store.specs.declared.pi.Pi.{Pi}
 use Rattle.op_store.specs.Rows.{Rows, all_rules, IsRule, AreRows}
-use Rattle.op_store.specs.World.{key, key_of, World, procedure_in}
+use Rattle.op_store.specs.World.{name_arity, indicator_of_term, World, procedure_in}
 use Rattle.op_session.specs.Runnable.{is_goal, is_control_pair_name, is_control_pair, is_runnable, all_runnable}
 
 -- a compound's procedure, and what is asked of a goal of it
 pub goal-struct : (w : World) (names : List Text) (t : Term ℕ) (f : Sym) (n : ℕ) → nodes.Struct f n ≡ head t
-    → is_some (procedure_in w.procedures (key (name_at names f.0) n)) ≡ is_goal w (key_of (named names t))
+    → is_some (procedure_in w.procedures (name_arity (name_at names f.0) n)) ≡ is_goal w (indicator_of_term (named names t))
 goal-struct w names (var v) f n e = absurd cc
 goal-struct w names (int i) f n e = absurd cc
 goal-struct w names (node g no_args) f n e = absurd cc
 goal-struct w names (node g (arg a ts)) f n e =
     let s : f ≡ name g = cc in
     let k : n ≡ suc (arity ts) = cc in
-    ap (λ (x : Sym). is_some (procedure_in w.procedures (key (name_at names x.0) n))) s
-    ∙ ap (λ (m : ℕ). is_some (procedure_in w.procedures (key (name_at names g) m))) k
-    ∙ ap (λ (m : ℕ). is_some (procedure_in w.procedures (key (name_at names g) (suc m)))) (sym (arity-rename (name_at names) ts))
+    ap (λ (x : Sym). is_some (procedure_in w.procedures (name_arity (name_at names x.0) n))) s
+    ∙ ap (λ (m : ℕ). is_some (procedure_in w.procedures (name_arity (name_at names g) m))) k
+    ∙ ap (λ (m : ℕ). is_some (procedure_in w.procedures (name_arity (name_at names g) (suc m)))) (sym (arity-rename (name_at names) ts))
     ∙ no_control_atom (arity (args_of (named names (node g ts))))
   where
     never : (m : ℕ) → (suc m == 0) ≡ false
     never m = grind (arith, nat_tests)
 
-    no_control_atom : (m : ℕ) → is_some (procedure_in w.procedures (key (name_at names g) (suc m))) ≡ is_goal w (Some (key (name_at names g) (suc m)))
+    no_control_atom : (m : ℕ) → is_some (procedure_in w.procedures (name_arity (name_at names g) (suc m))) ≡ is_goal w (Some (name_arity (name_at names g) (suc m)))
     no_control_atom m = rw (never m) refl
 
 -- a control construct of two parts is a compound of two arguments with the name `,`, `;` or `->`
@@ -83,7 +83,7 @@ part-names w names (node f (arg a no_args)) n e h = absurd cc
 part-names w names (node f (arg a (arg b no_args))) n e h = (h.1.0, h.1.1.0)
 part-names w names (node f (arg a (arg b (arg c ts)))) n e h = absurd cc
 
-pub other-part : (w : World) (names : List Text) (t : Term ℕ) → is_control_pair (named names t) ≡ false → is_goal w (key_of (named names t)) ≡ is_runnable w (named names t)
+pub other-part : (w : World) (names : List Text) (t : Term ℕ) → is_control_pair (named names t) ≡ false → is_goal w (indicator_of_term (named names t)) ≡ is_runnable w (named names t)
 other-part w names (var v) e = refl
 other-part w names (int i) e = refl
 other-part w names (node f no_args) e = refl
@@ -121,7 +121,7 @@ module _ {A : Type 0} (w : World) (names : List Text) (term : A → Term ℕ) wh
   shown p = named names (term p)
 
   -- a part that is no control construct of two parts is met
-  pub met-one : (ps : List A) (p : A) (b : Bool) → is_control_pair (shown p) ≡ false → b ≡ is_goal w (key_of (shown p))
+  pub met-one : (ps : List A) (p : A) (b : Bool) → is_control_pair (shown p) ≡ false → b ≡ is_goal w (indicator_of_term (shown p))
       → all_runnable w (map shown (ps ++ p ∷ [])) ≡ (b && all_runnable w (map shown ps))
   met-one ps p b other e =
       ap (all_runnable w) (map-append shown ps (p ∷ []))

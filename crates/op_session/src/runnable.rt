@@ -3,7 +3,7 @@ ghost use Rattle.std.specs.List.{list_all};
 ghost use Rattle.op_bind.specs.declared.places.Clause.{Clause as Rule};
 ghost use Rattle.op_logic.specs.Term.{size};
 ghost use Rattle.op_logic.specs.Names.{HasNames, named};
-ghost use Rattle.op_store.specs.World.{key_of};
+ghost use Rattle.op_store.specs.World.{indicator_of_term};
 ghost use Rattle.op_store.specs.Stored.{world_of};
 ghost use Rattle.op_store.specs.Queries.{IsSoundGoal};
 ghost use Rattle.op_session.specs.Runnable.{is_control_atom_name as the_control_atom_name, is_goal as the_goal, is_control_pair_name as the_control_pair_name, is_control_pair as the_control_pair, is_runnable, all_runnable, are_runnable as the_runnable};
@@ -29,7 +29,7 @@ fn is_control_pair_name(name: &str) -> bool
 fn is_goal<T: Tree>(store: &Store, tree: &T, at: &T::At) -> bool
     requires place { T.IsPlace tree.now at.now }
     requires names { HasNames (length store.now.names) (T.term tree.now at.now) }
-    ensures { result ≡ the_goal (world_of store.now) (key_of (named store.now.names (T.term tree.now at.now))) }
+    ensures { result ≡ the_goal (world_of store.now) (indicator_of_term (named store.now.names (T.term tree.now at.now))) }
 {
     match tree.node(at) {
         Node::Var(_) => false,

@@ -18,7 +18,7 @@ use Rattle.op_store.specs.World.{clauses_of_world}
 use Rattle.op_store.specs.Stored.{Stored, world_of, IsSound}
 use Rattle.op_store.specs.Snapshots.{rules_in}
 use Rattle.op_store.specs.Rows.{Rows, pi_eq, row_in, pi_of, clause_named, rows_named, IsRule, AreRows}
-use Rattle.op_store.proofs.Naming.{key-same}
+use Rattle.op_store.proofs.Naming.{indicator-same}
 use Rattle.op_store.proofs.Soundness.{same-pi}
 
 -- a goal and a head have one name and number of arguments exactly where they are of one procedure
@@ -35,7 +35,7 @@ head-same names t (node f ts) (node g us) k j eg eh =
     let same : Bool = text_eq (name_at names f) (name_at names g) in
     ap (λ (n : ℕ). same && (n == arity (rename_args (name_at names) us))) (arity-rename (name_at names) ts)
     ∙ (ap (λ (n : ℕ). same && (arity ts == n)) (arity-rename (name_at names) us)
-    ∙ (key-same names t p q ∙ (ap (λ (x : Pi). pi_eq x q) a ∙ ap (pi_eq k) b)))
+    ∙ (indicator-same names t p q ∙ (ap (λ (x : Pi). pi_eq x q) a ∙ ap (pi_eq k) b)))
 
 abbrev is_for : List Text → Term ℕ → Clause → Bool
 is_for names g c = has_head (named names g) c.head

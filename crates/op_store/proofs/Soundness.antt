@@ -13,9 +13,9 @@ use Rattle.op_trace.specs.World.{Text, Clause}
 use Rattle.op_bind.specs.declared.places.Clause.{Clause as Rule}
 use Rattle.op_store.specs.declared.pi.Pi.{Pi}
 use Rattle.op_store.specs.declared.procedure.Procedure.{Procedure as Row}
-use Rattle.op_store.specs.Rows.{clause_named, row_named, key_named, rows_named, Rows, pi_eq, row_in, with_row, extended_row, pi_of, IsRule, IsRow, AreRows}
+use Rattle.op_store.specs.Rows.{clause_named, row_named, indicator_named, rows_named, Rows, pi_eq, row_in, with_row, extended_row, pi_of, IsRule, IsRow, AreRows}
 use Rattle.op_store.specs.Stored.{Stored, IsSound, world_of, with_rule, first_names}
-use Rattle.op_store.specs.World.{World, Key, key, Procedure}
+use Rattle.op_store.specs.World.{World, Indicator, name_arity, Procedure}
 use Rattle.op_store.specs.Parts.{body_variables}
 use Rattle.op_store.specs.Told.{with_names}
 use Rattle.op_store.proofs.Bodies.{has-more, kept-has, names-more}
@@ -67,10 +67,10 @@ same-pi a b h =
     rw name (rw arity refl)
 
 -- the name of a procedure with a clause is in the table
-pub key-below : (n : ℕ) (t : Term ℕ) (k : Pi) → pi_of t ≡ Some k → HasNames n t → k.name.0 < n
-key-below n (var v) k e h = absurd cc
-key-below n (int i) k e h = absurd cc
-key-below n (node f ts) k e h = subst (λ (o : Option Pi). IfSome o (λ k. k.name.0 < n)) e h.0
+pub indicator-below : (n : ℕ) (t : Term ℕ) (k : Pi) → pi_of t ≡ Some k → HasNames n t → k.name.0 < n
+indicator-below n (var v) k e h = absurd cc
+indicator-below n (int i) k e h = absurd cc
+indicator-below n (node f ts) k e h = subst (λ (o : Option Pi). IfSome o (λ k. k.name.0 < n)) e h.0
 
 rules-push : (n : ℕ) (k : Pi) (rs : List Rule) (r : Rule) → All (λ r. IsRule n k r) rs → IsRule n k r → All (λ r. IsRule n k r) (rs ++ r ∷ [])
 rules-push n k rs r h s = All-push (λ (q : Rule). IsRule n k q) rs r h s
@@ -79,7 +79,7 @@ no-rules : (n : ℕ) (k : Pi) → All (λ r. IsRule n k r) []
 no-rules n k = λ i d l. absurd (omega arith)
 
 new-row : (n : ℕ) (k : Pi) (r : Rule) → IsRule n k r → IsRow n k (extended_row None r)
-new-row n k r s = record { name = key-below n r.head k s.for s.head_names; rules = rules-push n k [] r (no-rules n k) s }
+new-row n k r s = record { name = indicator-below n r.head k s.for s.head_names; rules = rules-push n k [] r (no-rules n k) s }
 
 more-row : (n : ℕ) (k : Pi) (p : Row) (r : Rule) → IsRow n k p → IsRule n k r → IsRow n k (extended_row (Some p) r)
 more-row n k p r h s = record { name = h.name; rules = rules-push n k p.clauses r h.rules s }
@@ -160,10 +160,10 @@ module _ (old new : List Text) (kept : take (length old) new ≡ old) where
   rows-kept : (rows : Rows) → AreRows (length old) rows → rows_named new rows ≡ rows_named old rows
   rows-kept [] h = refl
   rows-kept (e ∷ es) h =
-      ap (λ (f : Text). (key f e.0.arity, row_named new e.1) ∷ rows_named new es) (name-kept e.0.name.0 h.0.name)
-      ∙ (ap (λ (p : Procedure). (key_named old e.0, p) ∷ rows_named new es) (row-kept e.0 e.1 h.0)
-      ∙ ap (λ (ps : List (Key × Procedure)). (key_named old e.0, row_named old e.1) ∷ ps) (rows-kept es h.1))
+      ap (λ (f : Text). (name_arity f e.0.arity, row_named new e.1) ∷ rows_named new es) (name-kept e.0.name.0 h.0.name)
+      ∙ (ap (λ (p : Procedure). (indicator_named old e.0, p) ∷ rows_named new es) (row-kept e.0 e.1 h.0)
+      ∙ ap (λ (ps : List (Indicator × Procedure)). (indicator_named old e.0, row_named old e.1) ∷ ps) (rows-kept es h.1))
 
 pub world-kept : (s : Stored) (names : List Text) → take (length s.names) names ≡ s.names → IsSound s → world_of (with_names s names) ≡ world_of s
 world-kept s names kept h =
-    ap (λ (ps : List (Key × Procedure)). let w : World = record { procedures = ps; next = s.next; table = s.table; flags = s.flags } in w) (rows-kept s.names names kept s.rows h.rows)
+    ap (λ (ps : List (Indicator × Procedure)). let w : World = record { procedures = ps; next = s.next; table = s.table; flags = s.flags } in w) (rows-kept s.names names kept s.rows h.rows)

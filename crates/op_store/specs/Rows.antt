@@ -10,7 +10,7 @@ use Rattle.op_trace.specs.World.{Text, Clause}
 use Rattle.op_bind.specs.declared.places.Clause.{Clause as Rule}
 use Rattle.op_store.specs.declared.pi.Pi.{Pi}
 use Rattle.op_store.specs.declared.procedure.Procedure.{Procedure as Row}
-use Rattle.op_store.specs.World.{Key, key, Procedure}
+use Rattle.op_store.specs.World.{Indicator, name_arity, Procedure}
 
 abbrev pub Rows : Type 0
 Rows = List (Pi × Row)
@@ -43,8 +43,8 @@ pi_of (node f ts) = Some (record { name = sym f; arity = arity ts })
 
 -- the same over texts
 
-abbrev pub key_named : List Text → Pi → Key
-key_named names k = key (name_at names k.name.0) k.arity
+abbrev pub indicator_named : List Text → Pi → Indicator
+indicator_named names k = name_arity (name_at names k.name.0) k.arity
 
 abbrev pub clause_named : List Text → Rule → Clause
 clause_named names r = record { id = r.id; head = named names r.head; body = named names r.body; variables = r.vars }
@@ -52,8 +52,8 @@ clause_named names r = record { id = r.id; head = named names r.head; body = nam
 abbrev pub row_named : List Text → Row → Procedure
 row_named names p = record { dynamic = p.dynamic; clauses = map (clause_named names) p.clauses }
 
-abbrev pub rows_named : List Text → Rows → List (Key × Procedure)
-rows_named names rows = map (λ e. (key_named names e.0, row_named names e.1)) rows
+abbrev pub rows_named : List Text → Rows → List (Indicator × Procedure)
+rows_named names rows = map (λ e. (indicator_named names e.0, row_named names e.1)) rows
 
 -- a clause for a procedure, whose names are among so many, and whose variables are counted
 pub record IsRule (n : ℕ) (k : Pi) (r : Rule) : Type 0 where

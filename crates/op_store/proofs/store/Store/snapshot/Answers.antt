@@ -6,7 +6,7 @@ use Rattle.op_store.specs.World.{Procedure, procedure_in}
 use Rattle.op_store.specs.declared.procedure.Procedure.{Procedure as Row}
 use Rattle.op_store.specs.declared.pi.Pi.{Pi}
 use Rattle.op_store.specs.Stored.{Stored, world_of}
-use Rattle.op_store.specs.Rows.{key_named, clause_named, row_named}
+use Rattle.op_store.specs.Rows.{indicator_named, clause_named, row_named}
 use Rattle.op_store.proofs.Naming.{found-named}
 use Rattle.op_store.proofs.Soundness.{row-at}
 use Rattle.op_store.specs.Rows.{IsRule, pi_of, row_in}
@@ -18,7 +18,7 @@ use Rattle.op_logic.specs.Names.{named}
 use Rattle.op_store.proofs.store.Store.snapshot.Goals as goal
 
 abbrev clauses_in : Stored → Pi → Option (List Clause)
-clauses_in s k = option_map (λ (p : Procedure). p.clauses) (procedure_in (world_of s).procedures (key_named s.names k))
+clauses_in s k = option_map (λ (p : Procedure). p.clauses) (procedure_in (world_of s).procedures (indicator_named s.names k))
 
 pub returns-in_ok-copy-in-Some-clause-world : goal.returns-in_ok-copy-in-Some-clause-world
 returns-in_ok-copy-in-Some-clause-world c =
