@@ -14,10 +14,10 @@ use Rattle.op_machine.specs.declared.core_state.Mode.TheVariants as mode
 use Rattle.op_machine.specs.declared.core_state.Ending.TheVariants as outcome
 use Rattle.op_machine.specs.declared.core_state.Step.{Step}
 use Rattle.op_machine.specs.declared.core_state.Step.TheVariants as step
-use Rattle.op_bind.specs.declared.places.Clause.{Clause as Rule}
+use Rattle.op_bind.specs.declared.places.Clause.{Clause as NumberedClause}
 use Rattle.op_machine.specs.Program.{clauses, clauses_from, clause_in}
 use Rattle.op_machine.specs.Core.{Frame, level_in, choices_of, setup_of, world_in, items_now, goal_now, bindings_now, choices_in, event_seen, IsGood, IsGoal}
-use Rattle.op_machine.specs.Rows.{Advances, goal_moved, chosen_now, rule_tried, rule_met, rules_tried, box_invoked}
+use Rattle.op_machine.specs.Rows.{Advances, goal_moved, chosen_now, clause_tried, clause_met, clauses_tried, box_invoked}
 use Rattle.op_machine.specs.Resume.{Backward, Over, Moved, silent, pay, met, tried, move, with_more}
 use Rattle.op_machine.proofs.Paying.{pay-yes, pay-no}
 use Rattle.op_machine.proofs.Choosing.{clauses_from-here}
@@ -70,24 +70,24 @@ chosen-paid c paid new g n m s e fits a =
     (subst (λ (x : Core). Advances x new (chosen_now x (goal_now x g) m n (world_in x)) s) e a)
 
 -- the clause was paid, and then its head was met
-pub tried-paid : (c paid new : Core) (r : Rule) (k g n : ℕ) (s : Step) → paid ≡ record c { steps = c.steps + 1 } → c.steps + 1 ≤ c.budget
-    → Advances paid new (rule_met paid r k g n) s → Advances c new (rule_tried c r k g n) s
+pub tried-paid : (c paid new : Core) (r : NumberedClause) (k g n : ℕ) (s : Step) → paid ≡ record c { steps = c.steps + 1 } → c.steps + 1 ≤ c.budget
+    → Advances paid new (clause_met paid r k g n) s → Advances c new (clause_tried c r k g n) s
 tried-paid c paid new r k g n s e fits a =
     let h : World → Moved =
     λ u. met (setup_of c) (clause_in c.store r) k (goal_now c g) (items_now c n) (choices_in c) u
     (unify text_eq (c.budget - u.steps) (bindings_now c) ((goal_now c g, shift u.variables (clause_in c.store r).head) ∷ [])) in
-    paid-advances c new h s fits (subst (λ (x : Core). Advances x new (rule_met x r k g n) s) e a)
+    paid-advances c new h s fits (subst (λ (x : Core). Advances x new (clause_met x r k g n) s) e a)
 
 -- the first of the clauses is tried, with those behind it as a choice
-pub retry-moved : (c mid : Core) (rules : List Rule) (i : ℕ) (r : Rule) (k g n : ℕ) → mid ≡ record c { frames = mid.frames }
-    → choices_in mid ≡ with_more (clauses_from c.store rules (suc i)) k (goal_now c g) (bindings_now c) (items_now c n) (choices_in c)
-    → i < length rules → r ≡ get_or rules i r → rule_tried mid r k g n ≡ rules_tried c rules i k g n
-retry-moved c mid rules i r k g n e choices inside here =
+pub retry-moved : (c mid : Core) (snapshot : List NumberedClause) (i : ℕ) (r : NumberedClause) (k g n : ℕ) → mid ≡ record c { frames = mid.frames }
+    → choices_in mid ≡ with_more (clauses_from c.store snapshot (suc i)) k (goal_now c g) (bindings_now c) (items_now c n) (choices_in c)
+    → i < length snapshot → r ≡ get_or snapshot i r → clause_tried mid r k g n ≡ clauses_tried c snapshot i k g n
+retry-moved c mid snapshot i r k g n e choices inside here =
     let J : List world.Item = items_now c n in
     let tried_over : List visit.Choice → Moved = λ K. tried (setup_of c) (clause_in c.store r) k (goal_now c g) (bindings_now c) J K (world_in c) in
     ap (λ (x : Core). tried (setup_of x) (clause_in x.store r) k (goal_now x g) (bindings_now x) (items_now x n) (choices_in mid) (world_in x)) e
     ∙ (ap tried_over choices
-    ∙ ap (λ (cs : List Clause). move (setup_of c) (Backward (visit.More cs k (goal_now c g) (bindings_now c) J ∷ choices_in c) (world_in c))) (sym (clauses_from-here c.store rules i r inside here)))
+    ∙ ap (λ (cs : List Clause). move (setup_of c) (Backward (visit.More cs k (goal_now c g) (bindings_now c) J ∷ choices_in c) (world_in c))) (sym (clauses_from-here c.store snapshot i r inside here)))
 
 pub retry-advances : (c mid new : Core) (m : Moved) (n : Moved) (s : Step) → mid ≡ record c { frames = mid.frames } → m ≡ n
     → Advances mid new m s → Advances c new n s

@@ -16,7 +16,7 @@ use Rattle.op_machine.specs.declared.lists.Item.TheVariants as item
 use Rattle.op_frames.specs.declared.choice.Choice.{Choice}
 use Rattle.op_frames.specs.declared.choice.ChoiceKind.{ChoiceKind}
 use Rattle.op_frames.specs.declared.choice.ChoiceKind.TheVariants as kind
-use Rattle.op_store.specs.Snapshots.{rules_in}
+use Rattle.op_store.specs.Snapshots.{snapshot_clauses}
 use Rattle.op_machine.specs.declared.held.Held.{Held}
 use Rattle.op_machine.specs.declared.core_state.Core.{Core}
 use Rattle.op_machine.specs.declared.core_state.Mode.{Mode}
@@ -61,7 +61,7 @@ items_in t v n = map (item_term t v) (list_in v.lists n)
 abbrev pub choice_by : Stored → Level → ChoiceKind → Held → ℕ → visit.Choice
 choice_by t v (kind.Redo k) h n = visit.Redo k (term_in t v h.goal) (bindings_in t v) (items_in t v n)
 choice_by t v (kind.Branch p) h n = visit.Branch (term_in t v h.goal) h.barrier (bindings_in t v) (items_in t v n)
-choice_by t v (kind.More k) h n = visit.More (clauses_from t (rules_in h.rules) h.next) k (term_in t v h.goal) (bindings_in t v) (items_in t v n)
+choice_by t v (kind.More k) h n = visit.More (clauses_from t (snapshot_clauses h.snapshot) h.next) k (term_in t v h.goal) (bindings_in t v) (items_in t v n)
 choice_by t v (kind.Fail k) h n = visit.Fail k (term_in t v h.goal) (bindings_in t v) (items_in t v n)
 choice_by t v (kind.Condition p) h n = visit.Condition h.condition (term_in t v h.goal) h.barrier (bindings_in t v) (items_in t v n)
 choice_by t v (kind.Catch k) h n = visit.Fail k (term_in t v h.goal) (bindings_in t v) (items_in t v n)
@@ -152,7 +152,7 @@ pub record IsEarlier (f : Frame) (v : Level) : Type 0 where
 abbrev pub IsKind : ℕ → ChoiceKind → Held → Type 0
 IsKind n (kind.Redo k) h = Unit {0}
 IsKind n (kind.Branch p) h = Unit {0}
-IsKind n (kind.More k) h = (h.next < length (rules_in h.rules)) × AreKnown n (rules_in h.rules)
+IsKind n (kind.More k) h = (h.next < length (snapshot_clauses h.snapshot)) × AreKnown n (snapshot_clauses h.snapshot)
 IsKind n (kind.Fail k) h = Unit {0}
 IsKind n (kind.Condition p) h = Unit {0}
 IsKind n (kind.Catch k) h = ⊥

@@ -9,7 +9,7 @@ use Rattle.op_trace.specs.declared.barrier.Barrier.TheVariants.{Call}
 use Rattle.op_trace.specs.World.{Text, text_eq, World, Clause, Turn, Shown, Solved}
 use Rattle.op_trace.specs.Visit.{control, is_true}
 use Rattle.op_trace.specs.Visit as visit
-use Rattle.op_bind.specs.declared.places.Clause.{Clause as Rule}
+use Rattle.op_bind.specs.declared.places.Clause.{Clause as NumberedClause}
 use Rattle.op_machine.specs.Program.{clause_in, clauses_from, goal_named}
 use Rattle.op_machine.specs.declared.core_state.Core.{Core}
 use Rattle.op_machine.specs.declared.core_state.Step.{Step}
@@ -59,22 +59,22 @@ conjunction_before c g m n =
     world.Goal (goal_named c.store (nth_arg ts 0)) m ∷ world.Goal (goal_named c.store (nth_arg ts 1)) m ∷ items_now c n
 
 -- a clause's head is unified with the goal, with the steps that are left
-abbrev pub head_unified : Core → Rule → ℕ → Option (Result Text)
+abbrev pub head_unified : Core → NumberedClause → ℕ → Option (Result Text)
 head_unified c r g =
     unify text_eq (c.budget - c.steps) (bindings_now c) ((goal_now c g, shift c.bindings.count (clause_in c.store r).head) ∷ [])
 
-abbrev pub rule_met : Core → Rule → ℕ → ℕ → ℕ → Moved
-rule_met c r k g n = met (setup_of c) (clause_in c.store r) k (goal_now c g) (items_now c n) (choices_in c) (world_in c) (head_unified c r g)
+abbrev pub clause_met : Core → NumberedClause → ℕ → ℕ → ℕ → Moved
+clause_met c r k g n = met (setup_of c) (clause_in c.store r) k (goal_now c g) (items_now c n) (choices_in c) (world_in c) (head_unified c r g)
 
 -- the move of a clause that is tried for a goal before a list
-abbrev pub rule_tried : Core → Rule → ℕ → ℕ → ℕ → Moved
-rule_tried c r k g n =
+abbrev pub clause_tried : Core → NumberedClause → ℕ → ℕ → ℕ → Moved
+clause_tried c r k g n =
     tried (setup_of c) (clause_in c.store r) k (goal_now c g) (bindings_now c) (items_now c n) (choices_in c) (world_in c)
 
 -- the move of a choice, made at the present moment, of clauses from one on
-abbrev pub rules_tried : Core → List Rule → ℕ → ℕ → ℕ → ℕ → Moved
-rules_tried c rules i k g n =
-    move (setup_of c) (Backward (visit.More (clauses_from c.store rules i) k (goal_now c g) (bindings_now c) (items_now c n) ∷ choices_in c) (world_in c))
+abbrev pub clauses_tried : Core → List NumberedClause → ℕ → ℕ → ℕ → ℕ → Moved
+clauses_tried c snapshot i k g n =
+    move (setup_of c) (Backward (visit.More (clauses_from c.store snapshot i) k (goal_now c g) (bindings_now c) (items_now c n) ∷ choices_in c) (world_in c))
 
 -- another branch is tried, made at the present moment
 abbrev pub branch_tried : Core → ℕ → Barrier → ℕ → Moved

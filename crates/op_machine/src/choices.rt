@@ -103,7 +103,7 @@ impl Core {
                 calls,
                 barrier: Barrier::Call(call),
                 condition: 0,
-                rules: None,
+                snapshot: None,
                 next: 0,
             },
         )
@@ -130,7 +130,7 @@ impl Core {
                 calls,
                 barrier: Barrier::Call(call),
                 condition: 0,
-                rules: None,
+                snapshot: None,
                 next: 0,
             },
         )
@@ -139,7 +139,7 @@ impl Core {
     // Clauses from one on are tried, where there are any.
     pub(crate) fn push_more(
         &mut self,
-        rules: &Snapshot,
+        snapshot: &Snapshot,
         next: u64,
         call: u64,
         goal: Ref,
@@ -148,16 +148,16 @@ impl Core {
         requires good { IsGood self.old }
         requires there { rest < length self.old.lists }
         requires goal { IsGoal (length self.old.store.names) self.old.bindings.terms goal }
-        requires known { AreKnown (length self.old.store.names) rules.now }
+        requires known { AreKnown (length self.old.store.names) snapshot.now }
         requires called { IsCalled self.old.frames.boxes self.old.calls self.old.lists call goal rest }
-        ensures choices { OnOk result (choices_in self.new ≡ with_more (clauses_from self.old.store rules.now next) call (goal_now self.old goal)
+        ensures choices { OnOk result (choices_in self.new ≡ with_more (clauses_from self.old.store snapshot.now next) call (goal_now self.old goal)
             (bindings_now self.old) (items_now self.old rest) (choices_in self.old)) }
         ensures good { OnOk result (IsGood self.new) }
         ensures rest { self.new ≡ record self.old { frames = self.new.frames } }
         ensures boxes { self.new.frames.boxes ≡ self.old.frames.boxes }
     {
-        if next < rules.len() {
-            let rules = rules.copy()?;
+        if next < snapshot.len() {
+            let snapshot = snapshot.copy()?;
             let lists = self.lists.len();
             let calls = self.calls;
             let kept = Held {
@@ -166,7 +166,7 @@ impl Core {
                 calls,
                 barrier: Barrier::Call(call),
                 condition: 0,
-                rules: Some(rules),
+                snapshot: Some(snapshot),
                 next,
             };
             self.push(ChoiceKind::More(call), rest, kept)?;
@@ -200,7 +200,7 @@ impl Core {
                 calls,
                 barrier,
                 condition: 0,
-                rules: None,
+                snapshot: None,
                 next: 0,
             },
         )
@@ -233,7 +233,7 @@ impl Core {
                 calls,
                 barrier,
                 condition,
-                rules: None,
+                snapshot: None,
                 next: 0,
             },
         )

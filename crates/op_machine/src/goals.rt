@@ -5,7 +5,7 @@ ghost use Rattle.op_trace.specs.Visit.{control, Conjunction};
 ghost use Rattle.op_machine.specs.declared.core_state.Step.TheVariants as step;
 ghost use Rattle.op_machine.specs.Core.{world_in, level_in, items_now, goal_now, bindings_now, choices_in, IsGood, IsGoal};
 ghost use Rattle.op_machine.specs.Resume.{silent, Forward};
-ghost use Rattle.op_machine.specs.Rows.{Keeps, Advances, chosen_now, goal_moved, rule_met, rule_tried, rules_tried, conjunction_before};
+ghost use Rattle.op_machine.specs.Rows.{Keeps, Advances, chosen_now, goal_moved, clause_met, clause_tried, clauses_tried, conjunction_before};
 ghost use Rattle.op_machine.specs.Boxes.{IsCalled};
 ghost use Rattle.op_machine.specs.Program.{IsKnown, AreKnown};
 ghost use Rattle.op_term.specs.Places.{term_at};
@@ -112,7 +112,7 @@ impl Core {
     // One of some clauses is tried, and those behind it are kept as a choice.
     pub(crate) fn retry(
         &mut self,
-        rules: &Snapshot,
+        snapshot: &Snapshot,
         next: u64,
         call: u64,
         goal: Ref,
@@ -121,49 +121,49 @@ impl Core {
         requires good { IsGood self.old }
         requires there { rest < length self.old.lists }
         requires goal { IsGoal (length self.old.store.names) self.old.bindings.terms goal }
-        requires here { next < length rules.now }
-        requires known { AreKnown (length self.old.store.names) rules.now }
+        requires here { next < length snapshot.now }
+        requires known { AreKnown (length self.old.store.names) snapshot.now }
         requires called { IsCalled self.old.frames.boxes self.old.calls self.old.lists call goal rest }
         requires steps { self.old.steps ≤ self.old.budget }
-        ensures advances { IfOk result (Advances self.old self.new (rules_tried self.old rules.now next call goal rest)) }
+        ensures advances { IfOk result (Advances self.old self.new (clauses_tried self.old snapshot.now next call goal rest)) }
         ensures keeps { Keeps self.old self.new }
     {
-        let _count = rules.len();
-        self.push_more(rules, next + 1, call, goal, rest)?;
-        self.attempt(rules.clause(next), call, goal, rest)
+        let _count = snapshot.len();
+        self.push_more(snapshot, next + 1, call, goal, rest)?;
+        self.attempt(snapshot.clause(next), call, goal, rest)
     }
 
     // A clause for the goal of a box is tried: a step, and those of the head.
-    fn attempt(&mut self, rule: &Clause, call: u64, goal: Ref, rest: u64) -> Result<Step, Memory>
+    fn attempt(&mut self, clause: &Clause, call: u64, goal: Ref, rest: u64) -> Result<Step, Memory>
         requires good { IsGood self.old }
         requires there { rest < length self.old.lists }
         requires goal { IsGoal (length self.old.store.names) self.old.bindings.terms goal }
-        requires known { IsKnown (length self.old.store.names) rule.now }
+        requires known { IsKnown (length self.old.store.names) clause.now }
         requires called { IsCalled self.old.frames.boxes self.old.calls self.old.lists call goal rest }
         requires steps { self.old.steps ≤ self.old.budget }
-        ensures advances { IfOk result (Advances self.old self.new (rule_tried self.old rule.now call goal rest)) }
+        ensures advances { IfOk result (Advances self.old self.new (clause_tried self.old clause.now call goal rest)) }
         ensures keeps { Keeps self.old self.new }
     {
         if !self.spend() {
             return Ok(Step::Silent);
         }
-        self.meet(rule, call, goal, rest)
+        self.meet(clause, call, goal, rest)
     }
 
     // A clause's head is unified with the goal; where they match, its body comes next.
-    fn meet(&mut self, rule: &Clause, call: u64, goal: Ref, rest: u64) -> Result<Step, Memory>
+    fn meet(&mut self, clause: &Clause, call: u64, goal: Ref, rest: u64) -> Result<Step, Memory>
         requires good { IsGood self.old }
         requires there { rest < length self.old.lists }
         requires goal { IsGoal (length self.old.store.names) self.old.bindings.terms goal }
-        requires known { IsKnown (length self.old.store.names) rule.now }
+        requires known { IsKnown (length self.old.store.names) clause.now }
         requires called { IsCalled self.old.frames.boxes self.old.calls self.old.lists call goal rest }
         requires steps { self.old.steps ≤ self.old.budget }
-        ensures advances { IfOk result (Advances self.old self.new (rule_met self.old rule.now call goal rest)) }
+        ensures advances { IfOk result (Advances self.old self.new (clause_met self.old clause.now call goal rest)) }
         ensures keeps { Keeps self.old self.new }
     {
         let _names = self.store.symbols().count();
         let mut fuel = Fuel::new(self.budget - self.steps);
-        match self.bindings.rename(rule, &goal, &mut fuel) {
+        match self.bindings.rename(clause, &goal, &mut fuel) {
             Ok(Some(body)) => {
                 self.steps = self.budget - fuel.left();
                 self.enter(body, call, goal, rest)?;

@@ -16,6 +16,6 @@ pub struct Held {
     /// The number of a condition.
     pub condition: u64,
     /// The clauses that a box's procedure had at the call, and the one that is tried next.
-    pub rules: Option<Snapshot>,
+    pub snapshot: Option<Snapshot>,
     pub next: u64,
 }

@@ -2,10 +2,10 @@ ghost use Rattle.std.specs.Prelude.{◌≡◌, ◌+◌, ◌<◌, ◌≤◌, ◌^
 ghost use Rattle.op_machine.specs.declared.core_state.Mode.TheVariants as mode;
 ghost use Rattle.op_machine.specs.Core.{setup_of, state_of, world_in, level_in, items_now, bindings_now, choices_in, choice_of, item_term, IsGood, IsGoal, IsItem, IsFrame};
 ghost use Rattle.op_machine.specs.Program.{AreKnown};
-ghost use Rattle.op_store.specs.Snapshots.{rules_in};
+ghost use Rattle.op_store.specs.Snapshots.{snapshot_clauses};
 ghost use Rattle.op_machine.specs.Resume.{move, Forward, Backward};
 ghost use Rattle.op_machine.specs.Boxes.{IsCalled, IsTried};
-ghost use Rattle.op_machine.specs.Rows.{Keeps, Advances, rules_tried};
+ghost use Rattle.op_machine.specs.Rows.{Keeps, Advances, clauses_tried};
 
 use crate::core_state::{Core, Ending, Mode, Step};
 use crate::held::Held;
@@ -129,15 +129,15 @@ impl Core {
         requires good { IsGood self.old }
         requires there { rest < length self.old.lists }
         requires goal { IsGoal (length self.old.store.names) self.old.bindings.terms kept.now.goal }
-        requires here { kept.now.next < length (rules_in kept.now.rules) }
-        requires known { AreKnown (length self.old.store.names) (rules_in kept.now.rules) }
+        requires here { kept.now.next < length (snapshot_clauses kept.now.snapshot) }
+        requires known { AreKnown (length self.old.store.names) (snapshot_clauses kept.now.snapshot) }
         requires called { IsCalled self.old.frames.boxes self.old.calls self.old.lists call kept.now.goal rest }
         requires steps { self.old.steps ≤ self.old.budget }
-        ensures advances { IfOk result (Advances self.old self.new (rules_tried self.old (rules_in kept.now.rules) kept.now.next call kept.now.goal rest)) }
+        ensures advances { IfOk result (Advances self.old self.new (clauses_tried self.old (snapshot_clauses kept.now.snapshot) kept.now.next call kept.now.goal rest)) }
         ensures keeps { Keeps self.old self.new }
     {
-        match &kept.rules {
-            Some(rules) => self.retry(rules, kept.next, call, kept.goal, rest),
+        match &kept.snapshot {
+            Some(snapshot) => self.retry(snapshot, kept.next, call, kept.goal, rest),
             None => Ok(Step::Silent),
         }
     }

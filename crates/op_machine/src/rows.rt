@@ -15,7 +15,7 @@ ghost use Rattle.op_machine.specs.Program.{clauses, clauses_from, AreKnown};
 ghost use Rattle.op_machine.specs.Resume.{at_solution, showing, with_more, silent, Forward, Backward};
 ghost use Rattle.op_machine.specs.Rows.{Keeps, Advances, IsLooked, exit_moved, box_invoked, body_entered, body_before};
 ghost use Rattle.op_trace.specs.World.{procedure};
-ghost use Rattle.op_store.specs.Snapshots.{rules_in};
+ghost use Rattle.op_store.specs.Snapshots.{snapshot_clauses};
 
 use crate::core_state::{Core, Ending, Mode, Seen, Step};
 use crate::held::Held;
@@ -199,8 +199,8 @@ impl Core {
     // The clauses of a goal's procedure at this moment, or None where there is no such procedure.
     fn clauses_of(&self, goal: Ref) -> Result<Option<Snapshot>, Memory>
         requires { goal < length self.now.bindings.terms }
-        ensures clauses { IfOk result (λ o. procedure (clauses self.now.store) (goal_now self.now goal) ≡ clauses_from self.now.store (rules_in o) 0) }
-        ensures known { IfOk result (λ o. AreKnown (length self.now.store.names) (rules_in o)) }
+        ensures clauses { IfOk result (λ o. procedure (clauses self.now.store) (goal_now self.now goal) ≡ clauses_from self.now.store (snapshot_clauses o) 0) }
+        ensures known { IfOk result (λ o. AreKnown (length self.now.store.names) (snapshot_clauses o)) }
     {
         match pi_of(self.bindings.outline(&goal)) {
             Some(pi) => Ok(self.store.snapshot(pi)?),
@@ -220,7 +220,7 @@ impl Core {
         ensures rest { self.new ≡ record self.old { frames = self.new.frames } }
     {
         match self.clauses_of(goal)? {
-            Some(rules) => self.push_more(&rules, 0, call, goal, rest),
+            Some(snapshot) => self.push_more(&snapshot, 0, call, goal, rest),
             None => Ok(()),
         }
     }

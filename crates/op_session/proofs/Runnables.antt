@@ -13,9 +13,9 @@ use Rattle.op_term.specs.Head.{head, sym as name}
 use Rattle.op_term.specs.declared.symbols.Sym.{Sym}
 use Rattle.op_term.specs.declared.node.Node.TheVariants as nodes
 use Rattle.op_trace.specs.World.{Text}
-use Rattle.op_bind.specs.declared.places.Clause.{Clause as Rule}
+use Rattle.op_bind.specs.declared.places.Clause.{Clause as NumberedClause}
 use Rattle.op_store.specs.declared.pi.Pi.{Pi}
-use Rattle.op_store.specs.Rows.{Rows, all_rules, IsRule, AreRows}
+use Rattle.op_store.specs.Rows.{Rows, all_numbered_clauses, IsNumberedClause, AreRows}
 use Rattle.op_store.specs.World.{name_arity, indicator_of_term, World, procedure_in}
 use Rattle.op_session.specs.Runnable.{is_goal, is_control_pair_name, is_control_pair, is_runnable, all_runnable}
 
@@ -101,13 +101,13 @@ list_all-map p f [] = refl
 list_all-map p f (x ∷ xs) = ap (λ (b : Bool). p (f x) && b) (list_all-map p f xs)
 
 -- the names of the clauses' bodies are those of the store
-bodies-named : (n : ℕ) (k : Pi) (rs : List Rule) → All (λ (r : Rule). IsRule n k r) rs → All (λ (r : Rule). HasNames n r.body) rs
+bodies-named : (n : ℕ) (k : Pi) (rs : List NumberedClause) → All (λ (r : NumberedClause). IsNumberedClause n k r) rs → All (λ (r : NumberedClause). HasNames n r.body) rs
 bodies-named n k rs all i d h = (all i d h).body_names
 
-pub rows-bodies : (n : ℕ) (rows : Rows) → AreRows n rows → All (λ (r : Rule). HasNames n r.body) (all_rules rows)
+pub rows-bodies : (n : ℕ) (rows : Rows) → AreRows n rows → All (λ (r : NumberedClause). HasNames n r.body) (all_numbered_clauses rows)
 rows-bodies n [] h = λ i d l. absurd (omega (arith, l))
 rows-bodies n (e ∷ es) h =
-    All-append (λ (r : Rule). HasNames n r.body) e.1.clauses (all_rules es) (bodies-named n e.0 e.1.clauses h.0.rules) (rows-bodies n es h.1)
+    All-append (λ (r : NumberedClause). HasNames n r.body) e.1.clauses (all_numbered_clauses es) (bodies-named n e.0 e.1.clauses h.0.clauses) (rows-bodies n es h.1)
 
 and-turned : (a b : Bool) → (a && (b && true)) ≡ (b && a)
 and-turned true true = refl

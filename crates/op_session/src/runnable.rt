@@ -1,6 +1,6 @@
 ghost use Rattle.std.specs.Prelude.{◌≡◌, ◌<◌, ◌++◌, ◌∷◌, [], ◌&&◌, ℕ, List, length, map, All, sum_by, IfOk, OnOk};
 ghost use Rattle.std.specs.List.{list_all};
-ghost use Rattle.op_bind.specs.declared.places.Clause.{Clause as Rule};
+ghost use Rattle.op_bind.specs.declared.places.Clause.{Clause as NumberedClause};
 ghost use Rattle.op_logic.specs.Term.{size};
 ghost use Rattle.op_logic.specs.Names.{HasNames, named};
 ghost use Rattle.op_store.specs.World.{indicator_of_term};
@@ -91,8 +91,8 @@ fn is_runnable_term(alloc: Global, store: &Store, term: &Term) -> Result<bool, M
 
 // Whether the bodies of these clauses can be run.
 fn are_runnable_clauses(alloc: Global, store: &Store, clauses: &Snapshot) -> Result<bool, Memory>
-    requires { All (λ (r : Rule). HasNames (length store.now.names) r.body) clauses.now }
-    ensures { IfOk result (λ b. b ≡ list_all (λ (r : Rule). is_runnable (world_of store.now) (named store.now.names r.body)) clauses.now) }
+    requires { All (λ (r : NumberedClause). HasNames (length store.now.names) r.body) clauses.now }
+    ensures { IfOk result (λ b. b ≡ list_all (λ (r : NumberedClause). is_runnable (world_of store.now) (named store.now.names r.body)) clauses.now) }
 {
     'clauses: for i in 0..clauses.len() {
         if !is_runnable_term(alloc, store, &clauses.clause(i).body)? {

@@ -19,7 +19,7 @@ use Rattle.op_store.specs.World.{Indicator, World, Procedure, set_procedure, no_
 use Rattle.op_store.specs.Fault.{Fault, directive, and_then}
 use Rattle.op_store.specs.Locked.{is_locked}
 use Rattle.op_store.specs.Directives.{elements, operator_names, atom_name, atom_names, indicator, or_directive, made_dynamic, may_change, all_dynamic, all_indicate, entries, of_one, ops_set}
-use Rattle.op_store.specs.Rows.{Rows, row_in, with_row, no_rules, pi_eq, indicator_named, row_named, rows_named, AreRows}
+use Rattle.op_store.specs.Rows.{Rows, row_in, with_row, no_numbered_clauses, pi_eq, indicator_named, row_named, rows_named, AreRows}
 use Rattle.op_store.specs.Shapes.{names_of, word}
 use Rattle.op_store.specs.Stored.{Stored, world_of}
 use Rattle.op_store.proofs.Naming.{found-named, put-named}
@@ -149,12 +149,12 @@ pub made-static : (s : Stored) (k : Pi) (is : Bool) → IsTable s.names → is �
     → made_dynamic s.locked (world_of s) (indicator_named s.names k) ≡ Err directive
 made-static s k is t e n f = made-by s k is (Some false) t e n f
 
-pub made-new : (s : Stored) (k : Pi) (rows : Rows) (is : Bool) → IsTable s.names → is ≡ is_locked s.locked (indicator_named s.names k) → is ≡ false → None ≡ option_map (λ p. p.dynamic) (row_in s.rows k) → rows ≡ with_row s.rows k no_rules
+pub made-new : (s : Stored) (k : Pi) (rows : Rows) (is : Bool) → IsTable s.names → is ≡ is_locked s.locked (indicator_named s.names k) → is ≡ false → None ≡ option_map (λ p. p.dynamic) (row_in s.rows k) → rows ≡ with_row s.rows k no_numbered_clauses
     → made_dynamic s.locked (world_of s) (indicator_named s.names k) ≡ Ok (world_of (record s { rows = rows }))
 made-new s k rows is t e n f w =
     made-by s k is None t e n f
     ∙ ap (λ (ps : List (Indicator × Procedure)). let x : World = record { procedures = ps; next = s.next; table = s.table; flags = s.flags } in Ok x)
-    (put-named s.names t s.rows k no_rules ∙ ap (rows_named s.names) (sym w))
+    (put-named s.names t s.rows k no_numbered_clauses ∙ ap (rows_named s.names) (sym w))
 
 pub none-there : (rows : Rows) (k : Pi) → None ≡ option_map (λ p. p.dynamic) (row_in rows k) → row_in rows k ≡ None
 none-there rows k e = by (row_in rows k) e
@@ -171,8 +171,8 @@ new-behind (x ∷ xs) k p e =
     (λ y. ap (take (suc (length xs))) (if_false (pi_eq k x.0) ((x.0, p) ∷ xs) (x ∷ with_row xs k p) y)
     ∙ ap (λ (rows : Rows). x ∷ rows) (new-behind xs k p (sym (if_false (pi_eq k x.0) (Some x.1) (row_in xs k) y) ∙ e)))
 
-pub rows-dynamic : (n : ℕ) (k : Pi) (rows : Rows) → k.name.0 < n → AreRows n rows → AreRows n (with_row rows k no_rules)
-rows-dynamic n k rows l h = row-put n k no_rules rows h (record { name = l; rules = λ i d b. absurd (omega arith) })
+pub rows-dynamic : (n : ℕ) (k : Pi) (rows : Rows) → k.name.0 < n → AreRows n rows → AreRows n (with_row rows k no_numbered_clauses)
+rows-dynamic n k rows l h = row-put n k no_numbered_clauses rows h (record { name = l; clauses = λ i d b. absurd (omega arith) })
 
 pub rows-front : (n m : ℕ) (rows : Rows) → AreRows n rows → AreRows n (take m rows)
 rows-front n zero rows h = tt

@@ -5,7 +5,7 @@ use Rattle.op_logic.proofs.Tests.{if_true, if_false}
 use Rattle.op_logic.specs.Term.{Term, var, int, node, Args, no_args, arg, arity, rename_args}
 use Rattle.op_logic.specs.Names.{name_at, named, IsTable}
 use Rattle.op_trace.specs.World.{Text, Clause}
-use Rattle.op_bind.specs.declared.places.Clause.{Clause as Rule}
+use Rattle.op_bind.specs.declared.places.Clause.{Clause as NumberedClause}
 use Rattle.op_store.specs.declared.locked.Locked.{Locked}
 use Rattle.op_store.specs.declared.pi.Pi.{Pi}
 use Rattle.op_store.specs.World.{Indicator, indicator_of_term, World, Procedure, procedure_in, with_procedure, extended, with_clause}
@@ -13,7 +13,7 @@ use Rattle.op_store.specs.Locked.{is_locked}
 use Rattle.op_store.specs.Fault.{locked}
 use Rattle.op_store.specs.Clauses.{with_parts}
 use Rattle.op_store.specs.Rows.{Rows, row_in, with_row, extended_row, pi_of, indicator_named, clause_named, rows_named}
-use Rattle.op_store.specs.Stored.{Stored, world_of, with_rule}
+use Rattle.op_store.specs.Stored.{Stored, world_of, with_numbered_clause}
 use Rattle.op_store.proofs.Naming.{found-named, put-named, extended-named}
 
 arity-renamed : (f : ℕ → Text) (ts : Args ℕ) → arity (rename_args f ts) ≡ arity ts
@@ -36,7 +36,7 @@ pub parts-joined : (l : Locked) (w : World) (h : Term Text) (n : ℕ) (ok : Opti
 parts-joined l w h n ok k ob b ek eb e =
     ap (λ (o : Option Indicator). with_parts l w h n o ob) ek ∙ (ap (λ (o : Option (Term Text)). with_parts l w h n (Some k) o) eb ∙ if_false (is_locked l k) _ _ e)
 
-pub world-joins : (s : Stored) (k : Pi) (r : Rule) → IsTable s.names → with_clause (world_of s) (indicator_named s.names k) (clause_named s.names r) ≡ world_of (with_rule s k r)
+pub world-joins : (s : Stored) (k : Pi) (r : NumberedClause) → IsTable s.names → with_clause (world_of s) (indicator_named s.names k) (clause_named s.names r) ≡ world_of (with_numbered_clause s k r)
 world-joins s k r t =
     let rows : Rows = s.rows in
     let put : with_procedure (rows_named s.names rows) (indicator_named s.names k) (extended (procedure_in (rows_named s.names rows) (indicator_named s.names k)) (clause_named s.names r)) ≡ rows_named s.names (with_row rows k (extended_row (row_in rows k) r)) =
@@ -53,11 +53,11 @@ locked-told l w names pi head n ob b is ek eb el e =
 
 -- a clause that joins
 pub joined-told : (s new : Stored) (pi : Pi) (head own body : Term ℕ) (n vars : ℕ) (ob : Option (Term Text)) (is : Bool) → IsTable s.names → pi_of head ≡ Some pi → Some (named s.names body) ≡ ob
-    → is ≡ is_locked s.locked (indicator_named s.names pi) → is ≡ false → own ≡ head → vars ≡ n → new ≡ with_rule s pi (record { id = s.next; head = own; body = body; vars = vars })
+    → is ≡ is_locked s.locked (indicator_named s.names pi) → is ≡ false → own ≡ head → vars ≡ n → new ≡ with_numbered_clause s pi (record { id = s.next; head = own; body = body; vars = vars })
     → with_parts s.locked (world_of s) (named s.names head) n (indicator_of_term (named s.names head)) ob ≡ Ok (world_of new)
 joined-told s new pi head own body n vars ob is t ek eb el e eo ev en =
     let k : Indicator = indicator_named s.names pi in
-    let r : Rule = record { id = s.next; head = own; body = body; vars = vars } in
+    let r : NumberedClause = record { id = s.next; head = own; body = body; vars = vars } in
     parts-joined s.locked (world_of s) (named s.names head) n (indicator_of_term (named s.names head)) k ob (named s.names body)
     (indicator-of-named s.names head ∙ ap (λ (o : Option Pi). option_map (indicator_named s.names) o) ek) (sym eb) (sym el ∙ e)
     ∙ (ap (λ (h : Term ℕ). Ok (with_clause (world_of s) k (clause_of (world_of s) (named s.names h) n (named s.names body)))) (sym eo)

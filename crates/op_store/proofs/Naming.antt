@@ -9,12 +9,12 @@ use Rattle.op_logic.proofs.Tests.{by_test}
 use Rattle.op_logic.proofs.Naming.{same_number}
 use Rattle.op_logic.specs.Names.{name_at, IsTable}
 use Rattle.op_trace.specs.World.{Text, Clause}
-use Rattle.op_bind.specs.declared.places.Clause.{Clause as Rule}
+use Rattle.op_bind.specs.declared.places.Clause.{Clause as NumberedClause}
 use Rattle.op_store.specs.declared.pi.Pi.{Pi}
 use Rattle.op_store.specs.declared.procedure.Procedure.{Procedure as Row}
 use Rattle.op_store.specs.World.{Indicator, same_indicator, Procedure, procedure_in, with_procedure, extended, clauses_of_world}
-use Rattle.op_store.specs.Stored.{Stored, rules_of, world_of}
-use Rattle.op_store.specs.Rows.{Rows, pi_eq, row_in, with_row, extended_row, all_rules, indicator_named, clause_named, row_named, rows_named}
+use Rattle.op_store.specs.Stored.{Stored, numbered_clauses, world_of}
+use Rattle.op_store.specs.Rows.{Rows, pi_eq, row_in, with_row, extended_row, all_numbered_clauses, indicator_named, clause_named, row_named, rows_named}
 
 text-same : (names : List Text) → IsTable names → (m n : ℕ) → bytes_eq (name_at names m) (name_at names n) ≡ (m == n)
 text-same names t m n =
@@ -51,18 +51,18 @@ put-named names t (e ∷ es) k p =
     ∙ (ap (λ (ps : List (Indicator × Procedure)). cond (pi_eq k e.0) ((indicator_named names e.0, row_named names p) ∷ rows_named names es) ((indicator_named names e.0, row_named names e.1) ∷ ps)) (put-named names t es k p)
     ∙ put-on names (pi_eq k e.0) e.0 e.1 p es (with_row es k p))
 
-pub extended-named : (names : List Text) (o : Option Row) (r : Rule) → extended (option_map (row_named names) o) (clause_named names r) ≡ row_named names (extended_row o r)
+pub extended-named : (names : List Text) (o : Option Row) (r : NumberedClause) → extended (option_map (row_named names) o) (clause_named names r) ≡ row_named names (extended_row o r)
 extended-named names None r = refl
 extended-named names (Some p) r =
     ap (λ (cs : List Clause). let x : Procedure = record { dynamic = p.dynamic; clauses = cs } in x) (sym (map-append (clause_named names) p.clauses (r ∷ [])))
 
 -- all clauses, over the names
-pub clauses-named : (names : List Text) (rows : Rows) → map (clause_named names) (all_rules rows) ≡ flat_map (λ e. e.1.clauses) (rows_named names rows)
+pub clauses-named : (names : List Text) (rows : Rows) → map (clause_named names) (all_numbered_clauses rows) ≡ flat_map (λ e. e.1.clauses) (rows_named names rows)
 clauses-named names [] = refl
-clauses-named names (e ∷ es) = map-append (clause_named names) e.1.clauses (all_rules es) ∙ ap (λ (cs : List Clause). map (clause_named names) e.1.clauses ++ cs) (clauses-named names es)
+clauses-named names (e ∷ es) = map-append (clause_named names) e.1.clauses (all_numbered_clauses es) ∙ ap (λ (cs : List Clause). map (clause_named names) e.1.clauses ++ cs) (clauses-named names es)
 
 -- the clauses of a world are those of its store
-pub clauses-of : (s : Stored) → map (clause_named s.names) (rules_of s) ≡ clauses_of_world (world_of s)
+pub clauses-of : (s : Stored) → map (clause_named s.names) (numbered_clauses s) ≡ clauses_of_world (world_of s)
 clauses-of s = clauses-named s.names s.rows
 
 some-named : (names : List Text) (o : Option Row) → is_some o ≡ is_some (option_map (row_named names) o)
