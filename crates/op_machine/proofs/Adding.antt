@@ -1,4 +1,4 @@
--- A list is added, a choice is made, and a choice is returned to.
+-- A list is added, a choice point is made, and a choice point is returned to.
 use Rattle.std.proofs.Common.{◌≡◌, ℕ, ◌+◌, ◌<◌, ◌≤◌, List, [], ◌∷◌, ◌++◌, length, take, reverse, refl, sym, subst, arith, length-append, length-take}
 use Rattle.op_machine.specs.declared.core_state.Core.{Core}
 use Rattle.op_machine.specs.declared.core_state.Mode.{Mode}
@@ -7,7 +7,7 @@ use Rattle.op_machine.specs.Core.{Frame}
 use Rattle.op_machine.specs.declared.lists.Item.{Item}
 use Rattle.op_bind.specs.State.{undone}
 use Rattle.op_machine.specs.Lists.{list_in}
-use Rattle.op_machine.specs.Core.{Level, level_in, level_of, level_at, choices_in, IsGood, IsItem, IsMode, IsLevel, IsEarlier, IsFrame, AreFrames, AreValues, IsFailure}
+use Rattle.op_machine.specs.Core.{Level, level_in, level_of, level_at, choice_points_in, IsGood, IsItem, IsMode, IsLevel, IsEarlier, IsFrame, AreFrames, AreValues, IsFailure}
 use Rattle.op_frames.specs.declared.boxes.BoxFrame.{BoxFrame}
 use Rattle.op_frames.specs.Frames.{open_from}
 use Rattle.op_bind.specs.State.{mark_of, IsGoodMark}
@@ -15,14 +15,14 @@ use Rattle.op_machine.specs.Boxes.{boxes_before, IsEntered, IsTried, AreBoxes, A
 use Rattle.op_machine.proofs.Boxing.{longer-boxes, longer-same, boxed-along, restored-boxes, restored-boxed, restored-tried, with_box, pushed-boxes}
 use Rattle.op_frames.proofs.Chains.{chain-kept}
 use Rattle.op_machine.proofs.ListLaws.{take-within}
-use Rattle.op_machine.proofs.Levels.{rises-lists, choices-rise, frames-rise, level-lists, level-now, earlier-now}
+use Rattle.op_machine.proofs.Levels.{rises-lists, choice_points-rise, frames-rise, level-lists, level-now, earlier-now}
 
 abbrev added : Core → Item → ℕ → List (List Item)
 added c i n = c.lists ++ (i ∷ list_in c.lists n) ∷ []
 
-pub added-choices : (c : Core) (i : Item) (n : ℕ) → IsGood c → choices_in (record c { lists = added c i n }) ≡ choices_in c
-added-choices c i n good =
-    choices-rise c.store c.floor.terms (level_in c) (level_of c.bindings (added c i n)) (reverse c.frames.choices) (rises-lists c.bindings c.lists (i ∷ list_in c.lists n)) good.frames
+pub added-choice_points : (c : Core) (i : Item) (n : ℕ) → IsGood c → choice_points_in (record c { lists = added c i n }) ≡ choice_points_in c
+added-choice_points c i n good =
+    choice_points-rise c.store c.floor.terms (level_in c) (level_of c.bindings (added c i n)) (reverse c.frames.choices) (rises-lists c.bindings c.lists (i ∷ list_in c.lists n)) good.frames
 
 mode-more : (m n : ℕ) (q : Mode) → m ≤ n → IsMode m q → IsMode n q
 mode-more m n (mode.Forward i) h a = omega arith
@@ -50,7 +50,7 @@ IsValued c = AreValues (take c.floor.terms c.bindings.terms) c.values.items c.na
 abbrev IsFailed : Core → Type 0
 IsFailed c = IsFailure (take c.floor.terms c.bindings.terms) c.failure
 
--- a machine that was put back to the last choice's moment
+-- a machine that was put back to the last choice point's moment
 abbrev pub restored : Core → Frame → Core
 restored c f = record c {
   bindings = undone c.bindings f.mark;
@@ -58,7 +58,7 @@ restored c f = record c {
   frames = record c.frames { boxes = boxes_before (f.kept.calls + 1) c.frames.boxes };
 }
 
--- the boxes and the choices as they were before the last choice was taken
+-- the boxes and the choice points as they were before the last choice point was taken
 popped-boxes : (c d : Core) → IsGood c → d ≡ record c { frames = d.frames } → d.frames.boxes ≡ c.frames.boxes → AreBoxes d.frames.boxes d.calls d.lists
 popped-boxes c d good e same =
     subst (λ (x : Core). AreBoxes d.frames.boxes x.calls x.lists) (sym e) (subst (λ (B : List BoxFrame). AreBoxes B c.calls c.lists) (sym same) good.boxes)
@@ -71,7 +71,7 @@ popped-boxed c d f good popped e same =
     (subst (λ (B : List BoxFrame). AreBoxed B c.lists c.calls (length c.lists) F) (sym same)
     (subst (AreBoxed c.frames.boxes c.lists c.calls (length c.lists)) popped good.boxed))
 
--- what is open in a box that had been called when a choice was made stays where the others are dropped
+-- what is open in a box that had been called when a choice point was made stays where the others are dropped
 abbrev pub Stays : Core → Frame → Type 0
 Stays d f = (n : ℕ) → n < f.kept.calls + 1 → open_from (boxes_before (f.kept.calls + 1) d.frames.boxes) n ≡ open_from d.frames.boxes n
 
@@ -93,7 +93,7 @@ restored-good c d f good popped e back same stays =
       boxed = restored-boxed d.frames.boxes d.calls d.lists (reverse d.frames.choices) f stays (popped-boxed c d f good popped e same);
     }
 
--- the clauses that the last choice tries are those of a box that is kept, and it was made when no more boxes had been called
+-- the clauses that the last choice point tries are those of a box that is kept, and it was made when no more boxes had been called
 pub popped-tried : (c d : Core) (f : Frame) → IsGood c → reverse c.frames.choices ≡ f ∷ reverse d.frames.choices → d ≡ record c { frames = d.frames }
     → d.frames.boxes ≡ c.frames.boxes → Stays d f
     → (f.kept.calls ≤ d.calls) × IsTried (boxes_before (f.kept.calls + 1) d.frames.boxes) (take f.kept.lists d.lists) f.kind f.kept f.rest
@@ -106,7 +106,7 @@ pub popped-calls : (c d : Core) (f : Frame) → IsGood c → reverse c.frames.ch
     → d.frames.boxes ≡ c.frames.boxes → f.kept.calls ≤ d.calls
 popped-calls c d f good popped e same = (popped-boxed c d f good popped e same).0.calls_there
 
--- the last choice was made earlier, and leads to what was there then
+-- the last choice point was made earlier, and leads to what was there then
 pub popped-frame : (c d : Core) (f : Frame) → IsGood c → reverse c.frames.choices ≡ f ∷ reverse d.frames.choices → d ≡ record c { frames = d.frames }
     → IsEarlier f (level_in d) × IsFrame d.store (level_at f (level_in d)) f
 popped-frame c d f good popped e =
@@ -114,7 +114,7 @@ popped-frame c d f good popped e =
     let here : AreFrames d.store d.floor.terms (level_in d) (f ∷ reverse d.frames.choices) = subst (λ (x : Core). AreFrames x.store x.floor.terms (level_in x) (f ∷ reverse d.frames.choices)) (sym e) frames in
     (here.0, here.2)
 
--- a choice was made now
+-- a choice point was made now
 pub pushed-good : (c : Core) (f : Frame) (F : List Frame) → IsGood c → f.mark ≡ mark_of c.bindings → IsGoodMark c.bindings f.mark
     → f.kept.lists ≡ length c.lists → f.kept.calls ≡ c.calls → IsFrame c.store (level_in c) f → IsTried c.frames.boxes c.lists f.kind f.kept f.rest
     → reverse F ≡ f ∷ reverse c.frames.choices → IsGood (record c { frames = record c.frames { choices = F } })

@@ -22,7 +22,7 @@ use Rattle.op_store.specs.declared.goal.Goal.{Goal}
 use Rattle.op_store.specs.Queries.{IsSoundGoal}
 use Rattle.op_store.specs.Stored.{Stored}
 use Rattle.op_machine.specs.Program.{clauses, goal_named}
-use Rattle.op_machine.specs.Core.{Level, level_in, setup_of, world_in, state_with, state_of, items_in, item_term, bindings_in, choices_of, IsGood, IsGoal, AreLists, AreFrames, AreValues, IsFailure, IsMode, IsSound, Frame}
+use Rattle.op_machine.specs.Core.{Level, level_in, setup_of, world_in, state_with, state_of, items_in, item_term, bindings_in, choice_points_of, IsGood, IsGoal, AreLists, AreFrames, AreValues, IsFailure, IsMode, IsSound, Frame}
 use Rattle.op_machine.specs.Lists.{list_in}
 use Rattle.op_frames.specs.declared.boxes.BoxFrame.{BoxFrame}
 use Rattle.op_machine.specs.Boxes.{exits, innermost, AreBoxes, AreBoxed}
@@ -83,7 +83,7 @@ first-state c q body n query f =
     ap (λ (L : List (List Item)). map (item_term t v) (list_in L 1)) f.lists ∙ ap (λ (x : Term ℕ). world.Goal (goal_named t x) (Call 0) ∷ []) f.value in
     let bound : bindings_in t v ≡ [] = ap (λ (ps : List (ℕ × ℕ)). rename_bindings (name_at t.names) (resolved c.bindings.terms ps)) f.bound in
     ap (state_with t v c.frames.choices (world_in c)) f.mode
-    ∙ (ap (λ (F : List Frame). Forward (items_in t v 1) (choices_of t v (reverse F)) (bindings_in t v) (world_in c)) f.frames
+    ∙ (ap (λ (F : List Frame). Forward (items_in t v 1) (choice_points_of t v (reverse F)) (bindings_in t v) (world_in c)) f.frames
     ∙ (ap (λ I. Forward I [] (bindings_in t v) (world_in c)) items
     ∙ (ap (λ (σ : Bindings Text). Forward (world.Goal (goal_named t q.body) (Call 0) ∷ []) [] σ (world_in c)) bound
     ∙ ap (λ (w : World). Forward (world.Goal (goal_named t q.body) (Call 0) ∷ []) [] [] w) (first-world c q body n query f))))

@@ -1,4 +1,4 @@
--- The boxes that a machine keeps, as lists and boxes are added, and a choice is returned to.
+-- The boxes that a machine keeps, as lists and boxes are added, and a choice point is returned to.
 use Rattle.std.proofs.Common.{◌≡◌, ℕ, zero, suc, ◌+◌, ◌<◌, ◌≤◌, Bool, true, false, List, [], ◌∷◌, ◌++◌, length, take, nat_lt, All, refl, sym, ap, ◌∙◌, subst, arith, if◌then◌else◌, length-append}
 use Rattle.std.proofs.lemmas.List.{get_or-take, get_or_append_left, length-take-le}
 use Rattle.std.proofs.lemmas.List.Elements.{All-filter, All-append}
@@ -36,7 +36,7 @@ tried-along B C L M (kind.Condition p) x n l o a = tt
 tried-along B C L M (kind.Catch k) x n l o a = tt
 tried-along B C L M (kind.Findall k) x n l o a = tt
 
--- so do choices, where the lists and the chains that were there stay
+-- so do choice points, where the lists and the chains that were there stay
 pub boxed-along : (B C : List BoxFrame) (L M : List (List Item)) (c d l m : ℕ) (F : List Frame) → c ≤ d → l ≤ m
     → ((n : ℕ) → n < l → list_in M n ≡ list_in L n) → ((k : ℕ) → k ≤ c → open_from C k ≡ open_from B k)
     → AreBoxed B L c l F → AreBoxed C M d m F
@@ -133,7 +133,7 @@ pushed-called B c L b n e p h a = record {
       (chain-pushed B b (omega arith) ∙ ap (λ (x : List (ℕ × ℕ)). (b.number, b.goal) ∷ x) (ap (open_from B) p ∙ a.chains n h));
 }
 
--- back to a choice: the boxes and the lists that were made since are dropped
+-- back to a choice point: the boxes and the lists that were made since are dropped
 pub taken-same : (L : List (List Item)) (l m : ℕ) → m < l → list_in (take l L) m ≡ list_in L m
 taken-same L l m h = get_or-take l L m [] h
 

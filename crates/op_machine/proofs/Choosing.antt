@@ -27,7 +27,7 @@ clauses_from-some t [] i h = absurd (omega arith)
 clauses_from-some t (q ∷ rs) zero h = (clause_in t q, (clauses_from t rs 0, refl))
 clauses_from-some t (q ∷ rs) (suc i) h = clauses_from-some t rs i (omega arith)
 
--- those that are left are a choice
+-- those that are left are a choice point
 pub with_more-here : (c : Core) (snapshot : List NumberedClause) (i k g n : ℕ) (K : List visit.Choice) → i < length snapshot
     → with_more (clauses_from c.store snapshot i) k (goal_now c g) (bindings_now c) (items_now c n) K ≡ visit.More (clauses_from c.store snapshot i) k (goal_now c g) (bindings_now c) (items_now c n) ∷ K
 with_more-here c snapshot i k g n K h =

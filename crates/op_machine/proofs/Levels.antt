@@ -1,4 +1,4 @@
--- Moments that follow one another: what was there is still there, so earlier choices mean what they meant.
+-- Moments that follow one another: what was there is still there, so earlier choice points mean what they meant.
 use Rattle.std.proofs.Common.{◌≡◌, ℕ, ◌+◌, ◌-◌, ◌<◌, ◌≤◌, List, [], ◌∷◌, ◌++◌, length, take, drop, map, All, pos, refl, sym, ap, ◌∙◌, subst, arith, length-append}
 use Rattle.std.proofs.lemmas.List.{get_or-take, get_or_append_left}
 use Rattle.std.proofs.Math.Seq.{take-length, get_or-append_seam}
@@ -18,7 +18,7 @@ use Rattle.op_machine.proofs.ListLaws.{take-within}
 use Rattle.op_machine.specs.Lists.{list_in}
 use Rattle.op_store.specs.Stored.{Stored}
 use Rattle.op_machine.specs.Program.{goal_named}
-use Rattle.op_machine.specs.Core.{Level, level_at, level_of, items_in, item_term, choices_of, choice_of, IsGoal, IsItem, AreItems, IsLevel, IsEarlier, IsFrame, AreFrames, AreValues, IsFailure}
+use Rattle.op_machine.specs.Core.{Level, level_at, level_of, items_in, item_term, choice_points_of, choice_point_of, IsGoal, IsItem, AreItems, IsLevel, IsEarlier, IsFrame, AreFrames, AreValues, IsFailure}
 
 take-front : {A : Type 0} (xs ys : List A) → take (length xs) (xs ++ ys) ≡ xs
 take-front [] ys = refl
@@ -77,11 +77,11 @@ earlier-rises v w f r e =
       lists_there = omega (arith, e.lists_there, r.lists_there);
     }
 
--- choices that were there mean what they meant
-pub choices-rise : (t : Stored) (floor : ℕ) (v w : Level) (F : List Frame) → Rises v w → AreFrames t floor v F → choices_of t w F ≡ choices_of t v F
-choices-rise t floor v w [] r a = refl
-choices-rise t floor v w (f ∷ F) r a =
-    ap (λ (u : Level). choice_of t u f ∷ choices_of t u F) (level_at-rises v w f r a.0)
+-- choice points that were there mean what they meant
+pub choice_points-rise : (t : Stored) (floor : ℕ) (v w : Level) (F : List Frame) → Rises v w → AreFrames t floor v F → choice_points_of t w F ≡ choice_points_of t v F
+choice_points-rise t floor v w [] r a = refl
+choice_points-rise t floor v w (f ∷ F) r a =
+    ap (λ (u : Level). choice_point_of t u f ∷ choice_points_of t u F) (level_at-rises v w f r a.0)
 
 pub frames-rise : (t : Stored) (floor : ℕ) (v w : Level) (F : List Frame) → Rises v w → AreFrames t floor v F → AreFrames t floor w F
 frames-rise t floor v w [] r a = tt
@@ -168,7 +168,7 @@ level-lists t floor s L i n lev it h =
       floor_there = lev.floor_there;
     }
 
--- a choice that is made now is made at this level
+-- a choice point that is made now is made at this level
 pub level-now : (s : bind.State) (L : List (List Item)) (f : Frame) → f.mark ≡ mark_of s → f.kept.lists ≡ length L → level_at f (level_of s L) ≡ level_of s L
 level-now s L f m l =
     let t : take f.mark.terms s.terms ≡ s.terms = ap (λ (k : bind.Marked). take k.terms s.terms) m ∙ take-length s.terms in

@@ -23,10 +23,10 @@ use Rattle.op_machine.specs.declared.core_state.Ending.TheVariants as outcome
 use Rattle.op_machine.specs.declared.core_state.Step.TheVariants as step
 use Rattle.op_bind.specs.declared.places.Clause.{Clause as NumberedClause}
 use Rattle.op_machine.specs.Program.{clause_in, goal_named, IsKnown}
-use Rattle.op_machine.specs.Core.{setup_of, world_in, level_in, level_of, items_now, goal_now, bindings_now, choices_in, IsGood, IsGoal}
+use Rattle.op_machine.specs.Core.{setup_of, world_in, level_in, level_of, items_now, goal_now, bindings_now, choice_points_in, IsGood, IsGoal}
 use Rattle.op_machine.specs.Rows.{Advances, clause_met, head_unified, body_entered, body_before}
 use Rattle.op_machine.specs.Resume.{Forward, Backward, Over, Moved, silent, met}
-use Rattle.op_machine.proofs.Levels.{Rises, rises-bindings, choices-rise, frames-rise, term-rises, items_in-rise, values-rise, failure-rises, level-bindings}
+use Rattle.op_machine.proofs.Levels.{Rises, rises-bindings, choice_points-rise, frames-rise, term-rises, items_in-rise, values-rise, failure-rises, level-bindings}
 use Rattle.op_machine.proofs.Naming.{shift-named, is_true-shift, unified-named, found, nothing, found-names}
 use Rattle.op_machine.proofs.Paying.{pay-yes, pay-no}
 
@@ -104,21 +104,21 @@ met-yes c s r k g b n after table below good grows goal there e count value =
     let left : after + vars ≤ c.budget - c.steps = found-less c r g (after + vars) (Some (bindings s)) e in
     let w : World = record (world_in c) { steps = c.budget - (after + vars) } in
     let I : List world.Item = entered c.bindings.count C k (goal_now c g) (items_now c n) in
-    let h : World → Moved = λ u. silent (Forward I (choices_in c) (bindings_now mid) (record u { variables = u.variables + vars })) in
+    let h : World → Moved = λ u. silent (Forward I (choice_points_in c) (bindings_now mid) (record u { variables = u.variables + vars })) in
     let steps : c.budget - (after + vars) + vars ≡ c.budget - after = omega arith in
-    let choices : choices_in c ≡ choices_in mid = sym (choices-rise c.store c.floor.terms (level_in c) (level_of s c.lists) (reverse c.frames.choices) (bound-rises c s grows) good.frames) in
-    ap (met (setup_of c) C k (goal_now c g) (items_now c n) (choices_in c) (world_in c)) (head-met c r g table ∙ ap (rename_solved (name_at c.store.names)) e)
+    let choices : choice_points_in c ≡ choice_points_in mid = sym (choice_points-rise c.store c.floor.terms (level_in c) (level_of s c.lists) (reverse c.frames.choices) (bound-rises c s grows) good.frames) in
+    ap (met (setup_of c) C k (goal_now c g) (items_now c n) (choice_points_in c) (world_in c)) (head-met c r g table ∙ ap (rename_solved (name_at c.store.names)) e)
     ∙ (pay-yes (setup_of c) vars w h (omega arith)
-    ∙ (ap (λ (x : ℕ). silent (Forward I (choices_in c) (bindings_now mid) (record (world_in c) { steps = x; variables = c.bindings.count + vars }))) steps
-    ∙ (ap (λ (x : ℕ). silent (Forward I (choices_in c) (bindings_now mid) (record (world_in c) { steps = c.budget - after; variables = x }))) (sym count)
-    ∙ (ap (λ (J : List world.Item). silent (Forward J (choices_in c) (bindings_now mid) (world_in mid))) (entered-same c s r k g b n (c.budget - after) good grows goal there value)
+    ∙ (ap (λ (x : ℕ). silent (Forward I (choice_points_in c) (bindings_now mid) (record (world_in c) { steps = x; variables = c.bindings.count + vars }))) steps
+    ∙ (ap (λ (x : ℕ). silent (Forward I (choice_points_in c) (bindings_now mid) (record (world_in c) { steps = c.budget - after; variables = x }))) (sym count)
+    ∙ (ap (λ (J : List world.Item). silent (Forward J (choice_points_in c) (bindings_now mid) (world_in mid))) (entered-same c s r k g b n (c.budget - after) good grows goal there value)
     ∙ ap (λ (K : List visit.Choice). silent (Forward (body_before mid b k (world.Exit k (goal_now mid g) ∷ items_now mid n)) K (bindings_now mid) (world_in mid))) choices))))
 
 -- one that did not match: the machine goes back
 pub met-no : (c : Core) (r : NumberedClause) (k g n after : ℕ) → IsTable c.store.names → head_met c r g ≡ Some (nothing after)
-    → clause_met c r k g n ≡ silent (Backward (choices_in c) (record (world_in c) { steps = c.budget - after }))
+    → clause_met c r k g n ≡ silent (Backward (choice_points_in c) (record (world_in c) { steps = c.budget - after }))
 met-no c r k g n after table e =
-    ap (met (setup_of c) (clause_in c.store r) k (goal_now c g) (items_now c n) (choices_in c) (world_in c)) (head-met c r g table ∙ ap (rename_solved (name_at c.store.names)) e)
+    ap (met (setup_of c) (clause_in c.store r) k (goal_now c g) (items_now c n) (choice_points_in c) (world_in c)) (head-met c r g table ∙ ap (rename_solved (name_at c.store.names)) e)
 
 -- one whose steps were not there
 pub met-spent : (c : Core) (r : NumberedClause) (k g n : ℕ) → IsTable c.store.names → c.steps ≤ c.budget → with_variables r.vars (head_met c r g) ≡ None
@@ -130,7 +130,7 @@ met-spent c r k g n table below none =
     vars = r.vars
 
     meet : Option (Solved Text) → Moved
-    meet o = met (setup_of c) (clause_in c.store r) k (goal_now c g) (items_now c n) (choices_in c) (world_in c) o
+    meet o = met (setup_of c) (clause_in c.store r) k (goal_now c g) (items_now c n) (choice_points_in c) (world_in c) o
 
     unpaid : (σ : Bindings ℕ) (left : ℕ) → left ≤ c.budget - c.steps → (b : Bool) → nat_le vars left ≡ b → (if b then Some (found σ (left - vars)) else None) ≡ None
         → meet (rename_solved (name_at c.store.names) (Some (found σ left))) ≡ silent (Over visit.Spent (record (world_in c) { steps = c.budget }))
@@ -161,7 +161,7 @@ met-advances c s steps new m n e a = record {
 pub unmet-advances : (c : Core) (s : bind.State) (r : NumberedClause) (k g n after left : ℕ) → IsTable c.store.names → IsGood c → head_met c r g ≡ Some (nothing after) → s ≡ c.bindings → left ≡ after
     → Advances c (record c { bindings = s; steps = c.budget - left; mode = mode.Backward }) (clause_met c r k g n) step.Silent
 unmet-advances c s r k g n after left table good e kept l =
-    let m : clause_met c r k g n ≡ silent (Backward (choices_in c) (record (world_in c) { steps = c.budget - after })) = met-no c r k g n after table e in
+    let m : clause_met c r k g n ≡ silent (Backward (choice_points_in c) (record (world_in c) { steps = c.budget - after })) = met-no c r k g n after table e in
     let done : Advances c (record c { steps = c.budget - after; mode = mode.Backward }) (clause_met c r k g n) step.Silent = record {
       turns = ap (λ (x : Moved). x.turns) (sym m);
       state = ap (λ (x : Moved). x.state) (sym m);

@@ -18,7 +18,7 @@ pub and_then-assoc : (v : Visited) (h i : Verdict → World → Visited)
 and_then-assoc v h i =
     ap (λ (ts : List Turn). record { turns = ts; verdict = (i (h v.verdict v.world).verdict (h v.verdict v.world).world).verdict; world = (i (h v.verdict v.world).verdict (h v.verdict v.world).world).world }) (append_assoc v.turns (h v.verdict v.world).turns (i (h v.verdict v.world).verdict (h v.verdict v.world).world).turns)
 
--- the results that no choice changes
+-- the results that no choice point changes
 pub resume-Stopped : (s : Setup) (K : List Choice) (w : World) → resume s K Stopped w ≡ gives Stopped w
 unfolding resume
 resume-Stopped s [] w = refl
@@ -39,7 +39,7 @@ resume-Spent s (More [] k g σ J ∷ K) w = resume-Spent s K w
 resume-Spent s (More (c ∷ cs) k g σ J ∷ K) w = resume-Spent s K w
 resume-Spent s (Fail k g σ J ∷ K) w = resume-Spent s K w
 
--- a cut leads to the choices that it keeps
+-- a cut leads to the choice points that it keeps
 pub resume-cut : (s : Setup) (K : List Choice) (m : Barrier) (w : World) → resume s K (CutTo m) w ≡ resume s (keep m K) Failed w
 unfolding resume
 resume-cut s [] m w = refl
@@ -108,13 +108,13 @@ tried-row s c k g σ J w K =
     (λ u. met s c k g J K u (unify text_eq (s.budget - u.steps) σ ((g, shift u.variables c.head) ∷ []))) K
     (matched-row s c k g J (record w { steps = w.steps + 1 }) (unify text_eq (s.budget - (w.steps + 1)) σ ((g, shift w.variables c.head) ∷ [])) K)
 
--- a walk whose row makes a choice
+-- a walk whose row makes a choice point
 pub push-row : (s : Setup) (v : Visited) (c : Choice) (K : List Choice)
     → and_then (and_then v (after (visit s) s c)) (resume s K) ≡ and_then v (resume s (c ∷ K))
 unfolding resume
 push-row s v c K = and_then-assoc v (after (visit s) s c) (resume s K)
 
--- no further clauses are no choice
+-- no further clauses are no choice point
 pub resume-with_more : (s : Setup) (cs : List Clause) (k : ℕ) (g : Term Text) (σ : Bindings Text) (J : List Item) (K : List Choice) (r : Verdict) (w : World)
     → resume s (with_more cs k g σ J K) r w ≡ resume s (More cs k g σ J ∷ K) r w
 unfolding resume

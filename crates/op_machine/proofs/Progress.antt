@@ -95,7 +95,7 @@ IsOver (Forward I K σ w) = ⊥
 IsOver (Backward K w) = ⊥
 IsOver (Over r w) = Unit {0}
 
--- the last choice has a clause, if it is one of clauses
+-- the last choice point has a clause, if it is one of clauses
 abbrev pub HasClauses : State → Type 0
 HasClauses (Backward (More [] k g σ J ∷ K) w) = ⊥
 HasClauses t = Unit {0}

@@ -1,4 +1,4 @@
--- Each move keeps barriers and choices in step.
+-- Each move keeps barriers and choice points in step.
 use Rattle.std.proofs.Common.{◌≡◌, inl, inr, ℕ, ◌+◌, ◌-◌, ◌<◌, ◌≤◌, ◌==◌, nat_le, Bool, true, false, List, [], ◌∷◌, Option, Some, None, refl, sym, ap, ◌∙◌, subst, arith, if◌then◌else◌}
 use Rattle.std.proofs.lemmas.Bool.Decides.{nat_tests}
 use Rattle.op_logic.specs.Term.{Term, shift}
@@ -10,7 +10,7 @@ use Rattle.op_trace.specs.Visit.{Stopped, Control, TrueGoal, FailGoal, CutGoal, 
 use Rattle.op_machine.specs.Resume.{stays, goes, keep, with_more, State, Forward, Backward, Over, Moved, paid, chosen, met, tried, branched, move}
 use Rattle.op_machine.specs.Scope.{Behind, Scoped, IsGiven, IsGoalBarrier, AreGiven, AreScoped, InStep}
 
--- no choice is dropped as the last by a cut of a goal
+-- no choice point is dropped as the last by a cut of a goal
 pub goal-goes : (c d : ℕ) (x : Choice) (m : Barrier) → IsGoalBarrier c d m → goes x m ≡ false
 goal-goes c d (Redo k g σ J) m h = refl
 goal-goes c d (Branch t b σ J) m h = refl
@@ -99,7 +99,7 @@ keep-scoped c d m (x ∷ K) a = go (stays x m) (goes x m) (keep-scoped c d m K a
     go false true below = a.1
     go false false below = below
 
--- a new box's own choice ends no cut to a barrier that was given before
+-- a new box's own choice point ends no cut to a barrier that was given before
 pub keep-fresh : (c d k : ℕ) (m : Barrier) (g : Term Text) (σ : Bindings Text) (J : List Item) (K : List Choice) → IsGiven c d m → c < k
     → keep m (Fail k g σ J ∷ K) ≡ keep m K
 keep-fresh c d k (Call m) g σ J K low high =
@@ -145,7 +145,7 @@ pub again-behind : (c d : ℕ) (m : Barrier) (K : List Choice) (t : Term Text) (
 again-behind c d m K t J h b n has =
     elim has [ inl e ↦ subst (λ (i : Barrier). keep i (keep m K) ≡ keep i K) (sym e) (keep-keep c d m K h) | inr r ↦ b n r ]
 
--- a condition before what follows its success, over its own choice
+-- a condition before what follows its success, over its own choice point
 pub if_then_else_chosen-scoped : (c d n : ℕ) (t u e : Term Text) (m : Barrier) (σ : Bindings Text) (J : List Item) (K : List Choice)
     → IsGoalBarrier c d m → AreGiven c d J → d < n → Scoped K (Goal u m ∷ J)
     → Scoped (Condition n e m σ J ∷ K) (Goal t (InCondition n) ∷ Cut (AtSuccess n) ∷ Goal u m ∷ J)

@@ -12,7 +12,7 @@ use Rattle.op_machine.specs.declared.core_state.Mode.TheVariants as mode
 use Rattle.op_machine.specs.declared.core_state.Step.TheVariants as step
 use Rattle.op_machine.specs.declared.lists.Item.TheVariants as item
 use Rattle.op_machine.specs.Program.{goal_named}
-use Rattle.op_machine.specs.Core.{IsGoal, IsGood, item_term, level_in, items_now, choices_in, bindings_now, world_in, goal_now}
+use Rattle.op_machine.specs.Core.{IsGoal, IsGood, item_term, level_in, items_now, choice_points_in, bindings_now, world_in, goal_now}
 use Rattle.op_machine.specs.Rows.{Advances, conjunction_before}
 use Rattle.op_machine.specs.Resume.{Forward, silent}
 
@@ -31,8 +31,8 @@ pub select_conjunction-advances : (c mid new : Core) (g : ℕ) (m : Barrier) (n 
     → term_at c.bindings.terms second ≡ nth_arg (args_of (term_at c.bindings.terms g)) 1
     → items_now mid tail ≡ item_term c.store (level_in c) (item.Goal second m) ∷ items_now c n
     → items_now new items ≡ item_term mid.store (level_in mid) (item.Goal first m) ∷ items_now mid tail
-    → choices_in mid ≡ choices_in c → choices_in new ≡ choices_in mid → IsGood new → items < length new.lists
-    → Advances c (record new { mode = mode.Forward items }) (silent (Forward (conjunction_before c g m n) (choices_in c) (bindings_now c) (world_in c))) step.Silent
+    → choice_points_in mid ≡ choice_points_in c → choice_points_in new ≡ choice_points_in mid → IsGood new → items < length new.lists
+    → Advances c (record new { mode = mode.Forward items }) (silent (Forward (conjunction_before c g m n) (choice_points_in c) (bindings_now c) (world_in c))) step.Silent
 select_conjunction-advances c mid new g m n first second tail items em en ef es rest all cm cn good inside =
     let from_mid : goal_now mid first ≡ goal_now c first = ap (λ (x : Core). goal_now x first) em in
     let one : goal_now mid first ≡ goal_named c.store (nth_arg (args_of (term_at c.bindings.terms g)) 0) = from_mid ∙ ap (goal_named c.store) ef in
@@ -41,7 +41,7 @@ select_conjunction-advances c mid new g m n first second tail items em en ef es 
     all ∙ (ap (λ (t : Term Text). world.Goal t m ∷ items_now mid tail) one
     ∙ (ap (λ (J : List world.Item). world.Goal (goal_named c.store (nth_arg (args_of (term_at c.bindings.terms g)) 0)) m ∷ J) rest
     ∙ ap (λ (t : Term Text). world.Goal (goal_named c.store (nth_arg (args_of (term_at c.bindings.terms g)) 0)) m ∷ world.Goal t m ∷ items_now c n) two)) in
-    let choices : choices_in new ≡ choices_in c = cn ∙ cm in
+    let choices : choice_points_in new ≡ choice_points_in c = cn ∙ cm in
     let bound : bindings_now new ≡ bindings_now c = ap bindings_now en ∙ ap bindings_now em in
     let same : world_in new ≡ world_in c = ap world_in en ∙ ap world_in em in
     record {

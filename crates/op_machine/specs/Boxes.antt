@@ -43,7 +43,7 @@ pub record AreBoxes (B : List BoxFrame) (calls : ℕ) (L : List (List Item)) : T
   pub given : (n : ℕ) → n < length L → innermost (list_in L n) ≤ calls
   pub chains : (n : ℕ) → n < length L → open_from B (innermost (list_in L n)) ≡ exits (list_in L n)
 
--- the box whose clauses a choice tries is kept
+-- the box whose clauses a choice point tries is kept
 abbrev pub IsTried : List BoxFrame → List (List Item) → ChoiceKind → Held → ℕ → Type 0
 IsTried B L (kind.Redo k) h n = Unit {0}
 IsTried B L (kind.Branch p) h n = Unit {0}
@@ -53,7 +53,7 @@ IsTried B L (kind.Condition p) h n = Unit {0}
 IsTried B L (kind.Catch k) h n = Unit {0}
 IsTried B L (kind.Findall k) h n = Unit {0}
 
--- a choice was made when no more boxes had been called, and no more lists were there
+-- a choice point was made when no more boxes had been called, and no more lists were there
 pub record IsBoxed (B : List BoxFrame) (L : List (List Item)) (calls lists : ℕ) (f : Choice Held) : Type 0 where
   pub calls_there : f.kept.calls ≤ calls
   pub lists_there : f.kept.lists ≤ lists

@@ -32,7 +32,7 @@ use Rattle.op_machine.specs.Resume.{State, Forward, Backward, Over}
 use Rattle.op_machine.specs.Counted.{Counted}
 use Rattle.op_machine.specs.Scope.{InStep}
 
--- a choice with what the machine keeps with it
+-- a choice point with what the machine keeps with it
 abbrev pub Frame : Type 0
 Frame = Choice Held
 
@@ -57,27 +57,27 @@ item_term t v (item.Exit k r) = world.Exit k (term_in t v r)
 abbrev pub items_in : Stored → Level → ℕ → List world.Item
 items_in t v n = map (item_term t v) (list_in v.lists n)
 
--- no choice of a catch or of a findall is made yet (`IsKind`): what stands for them has no meaning
-abbrev pub choice_by : Stored → Level → ChoiceKind → Held → ℕ → visit.Choice
-choice_by t v (kind.Redo k) h n = visit.Redo k (term_in t v h.goal) (bindings_in t v) (items_in t v n)
-choice_by t v (kind.Branch p) h n = visit.Branch (term_in t v h.goal) h.barrier (bindings_in t v) (items_in t v n)
-choice_by t v (kind.More k) h n = visit.More (clauses_from t (snapshot_clauses h.snapshot) h.next) k (term_in t v h.goal) (bindings_in t v) (items_in t v n)
-choice_by t v (kind.Fail k) h n = visit.Fail k (term_in t v h.goal) (bindings_in t v) (items_in t v n)
-choice_by t v (kind.Condition p) h n = visit.Condition h.condition (term_in t v h.goal) h.barrier (bindings_in t v) (items_in t v n)
-choice_by t v (kind.Catch k) h n = visit.Fail k (term_in t v h.goal) (bindings_in t v) (items_in t v n)
-choice_by t v (kind.Findall k) h n = visit.Fail k (term_in t v h.goal) (bindings_in t v) (items_in t v n)
+-- no choice point of a catch or of a findall is made yet (`IsKind`): what stands for them has no meaning
+abbrev pub choice_point_by : Stored → Level → ChoiceKind → Held → ℕ → visit.Choice
+choice_point_by t v (kind.Redo k) h n = visit.Redo k (term_in t v h.goal) (bindings_in t v) (items_in t v n)
+choice_point_by t v (kind.Branch p) h n = visit.Branch (term_in t v h.goal) h.barrier (bindings_in t v) (items_in t v n)
+choice_point_by t v (kind.More k) h n = visit.More (clauses_from t (snapshot_clauses h.snapshot) h.next) k (term_in t v h.goal) (bindings_in t v) (items_in t v n)
+choice_point_by t v (kind.Fail k) h n = visit.Fail k (term_in t v h.goal) (bindings_in t v) (items_in t v n)
+choice_point_by t v (kind.Condition p) h n = visit.Condition h.condition (term_in t v h.goal) h.barrier (bindings_in t v) (items_in t v n)
+choice_point_by t v (kind.Catch k) h n = visit.Fail k (term_in t v h.goal) (bindings_in t v) (items_in t v n)
+choice_point_by t v (kind.Findall k) h n = visit.Fail k (term_in t v h.goal) (bindings_in t v) (items_in t v n)
 
-abbrev pub choice_of : Stored → Level → Frame → visit.Choice
-choice_of t v f = choice_by t v f.kind f.kept f.rest
+abbrev pub choice_point_of : Stored → Level → Frame → visit.Choice
+choice_point_of t v f = choice_point_by t v f.kind f.kept f.rest
 
--- the moment at which a choice was made, which is the beginning of a later one
+-- the moment at which a choice point was made, which is the beginning of a later one
 abbrev pub level_at : Frame → Level → Level
 level_at f v = record { terms = take f.mark.terms v.terms; bound = oldest f.mark.bound v.bound; lists = take f.kept.lists v.lists }
 
 -- the last first
-abbrev pub choices_of : Stored → Level → List Frame → List visit.Choice
-choices_of t v [] = []
-choices_of t v (f ∷ F) = choice_of t (level_at f v) f ∷ choices_of t (level_at f v) F
+abbrev pub choice_points_of : Stored → Level → List Frame → List visit.Choice
+choice_points_of t v [] = []
+choice_points_of t v (f ∷ F) = choice_point_of t (level_at f v) f ∷ choice_points_of t (level_at f v) F
 
 abbrev pub setup_of : Core → Setup
 setup_of c = record { budget = c.budget; wanted = c.wanted }
@@ -100,8 +100,8 @@ items_now c n = items_in c.store (level_in c) n
 abbrev pub goal_now : Core → ℕ → Term Text
 goal_now c g = term_in c.store (level_in c) g
 
-abbrev pub choices_in : Core → List visit.Choice
-choices_in c = choices_of c.store (level_in c) (reverse c.frames.choices)
+abbrev pub choice_points_in : Core → List visit.Choice
+choice_points_in c = choice_points_of c.store (level_in c) (reverse c.frames.choices)
 
 abbrev pub verdict_of : Ending → Verdict
 verdict_of ending.Stopped = visit.Stopped
@@ -109,8 +109,8 @@ verdict_of ending.Failed = visit.Failed
 verdict_of ending.Spent = visit.Spent
 
 abbrev pub state_with : Stored → Level → List Frame → World → Mode → State
-state_with t v F w (mode.Forward n) = Forward (items_in t v n) (choices_of t v (reverse F)) (bindings_in t v) w
-state_with t v F w mode.Backward = Backward (choices_of t v (reverse F)) w
+state_with t v F w (mode.Forward n) = Forward (items_in t v n) (choice_points_of t v (reverse F)) (bindings_in t v) w
+state_with t v F w mode.Backward = Backward (choice_points_of t v (reverse F)) w
 state_with t v F w (mode.Over e) = Over (verdict_of e) w
 
 abbrev pub state_of : Core → State
@@ -141,7 +141,7 @@ pub record IsLevel (t : Stored) (floor : ℕ) (v : Level) : Type 0 where
   pub bound : HaveNames (length t.names) (resolved v.terms v.bound)
   pub floor_there : floor ≤ length v.terms
 
--- a choice was made at an earlier moment
+-- a choice point was made at an earlier moment
 pub record IsEarlier (f : Frame) (v : Level) : Type 0 where
   pub terms_there : f.mark.terms ≤ length v.terms
   pub bound_there : f.mark.bound ≤ length v.bound
@@ -158,7 +158,7 @@ IsKind n (kind.Condition p) h = Unit {0}
 IsKind n (kind.Catch k) h = ⊥
 IsKind n (kind.Findall k) h = ⊥
 
--- a choice leads to what was there when it was made
+-- a choice point leads to what was there when it was made
 pub record IsFrame (t : Stored) (v : Level) (f : Frame) : Type 0 where
   pub rest : f.rest < length v.lists
   pub goal : IsGoal (length t.names) v.terms f.kept.goal

@@ -4,7 +4,7 @@ use Rattle.op_trace.specs.World.{World, Setup, Item, Goal, Cut, Exit, open_boxes
 use Rattle.op_trace.specs.Visit.{Choice, Redo, Branch, More, Fail, Condition}
 use Rattle.op_machine.specs.Resume.{State, Forward, Backward, Over}
 
--- how many events the choices show by themselves
+-- how many events the choice points show by themselves
 abbrev pub pending : List Choice → ℕ
 pending [] = 0
 pending (Redo k g σ J ∷ K) = suc (pending K)

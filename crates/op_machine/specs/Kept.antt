@@ -1,4 +1,4 @@
--- What a cut keeps of the choices that a machine has, the last first.
+-- What a cut keeps of the choice points that a machine has, the last first.
 use Rattle.std.specs.Prelude.{Bool, false, List, [], ◌∷◌, if◌then◌else◌}
 use Rattle.op_trace.specs.declared.barrier.Barrier.{Barrier}
 use Rattle.op_trace.specs.declared.barrier.Barrier.TheVariants.{Call, InCondition, AtSuccess}

@@ -1,4 +1,4 @@
--- What a machine in the middle of a walk still owes: its items and the choices that it keeps say which turns are to come.
+-- What a machine in the middle of a walk still owes: its items and the choice points that it keeps say which turns are to come.
 use Rattle.std.specs.Prelude.{ℕ, ◌+◌, ◌-◌, ◌==◌, nat_le, Bool, true, false, List, [], ◌∷◌, if◌then◌else◌, Option, Some, None}
 use Rattle.op_logic.specs.Term.{Term, shift}
 use Rattle.op_logic.specs.Bind.{Bindings, unify, Solved as Result}
@@ -9,19 +9,19 @@ use Rattle.op_trace.specs.declared.barrier.Barrier.TheVariants.{Call, InConditio
 use Rattle.op_trace.specs.World.{Text, text_eq, Clause, World, Setup, same_barrier, Item, Goal, Cut, Exit, Turn, Shown, Solved, procedure}
 use Rattle.op_trace.specs.Visit.{Verdict, Failed, CutTo, Stopped, Spent, Visited, gives, and_then, event_of, with_event, Control, TrueGoal, FailGoal, CutGoal, Conjunction, Disjunction, IfThenElse, BoxedGoal, control, entered, Choice, Redo, Branch, More, Fail, Condition, after, visit}
 
--- where no choice is left, a cut leaves nothing more to fail
+-- where no choice point is left, a cut leaves nothing more to fail
 abbrev pub at_top : Verdict → World → Visited
 at_top Failed w = gives Failed w
 at_top (CutTo m) w = gives Failed w
 at_top Stopped w = gives Stopped w
 at_top Spent w = gives Spent w
 
--- what is left to do after a result: what the last choice does, then what is left by the others
+-- what is left to do after a result: what the last choice point does, then what is left by the others
 unfoldable pub resume : Setup → List Choice → Verdict → World → Visited
 resume s [] r w = at_top r w
 resume s (c ∷ K) r w = and_then (after (visit s) s c r w) (resume s K)
 
--- a choice to which a cut to a barrier comes, and which it keeps: a box's own, which makes its fail event, and a condition's for a cut
+-- a choice point to which a cut to a barrier comes, and which it keeps: a box's own, which makes its fail event, and a condition's for a cut
 -- inside the condition
 abbrev pub stays : Choice → Barrier → Bool
 stays (Redo k g σ J) m = false
@@ -43,7 +43,7 @@ abbrev pub keep : Barrier → List Choice → List Choice
 keep m [] = []
 keep m (c ∷ K) = if stays c m then c ∷ K else (if goes c m then K else keep m K)
 
--- a machine goes on with its items, or goes back to its last choice, or is at the end
+-- a machine goes on with its items, or goes back to its last choice point, or is at the end
 pub data State : Type 0 where
   Forward : List Item → List Choice → Bindings Text → World → State
   Backward : List Choice → World → State
@@ -73,7 +73,7 @@ paid false s n w h = silent (Over Spent (record w { steps = s.budget }))
 abbrev pub pay : Setup → ℕ → World → (World → Moved) → Moved
 pay s n w h = paid (nat_le (w.steps + n) s.budget) s n w h
 
--- a choice of further clauses, where there are any
+-- a choice point of further clauses, where there are any
 abbrev pub with_more : List Clause → ℕ → Term Text → Bindings Text → List Item → List Choice → List Choice
 with_more [] k g σ J K = K
 with_more (c ∷ cs) k g σ J K = More (c ∷ cs) k g σ J ∷ K
@@ -84,7 +84,7 @@ invoked g J K σ w =
     let u : World = record w { calls = k } in
     showing port.Call k g σ J u (Backward (with_more (procedure w.clauses g) k g σ J (Fail k g σ J ∷ K)) (with_event u))
 
--- a condition comes next, and the else branch is kept as a choice
+-- a condition comes next, and the else branch is kept as a choice point
 abbrev pub if_then_else_chosen : Term Text → Term Text → Term Text → Barrier → List Item → List Choice → Bindings Text → World → Moved
 if_then_else_chosen c t e m J K σ w =
     let n : ℕ = w.conditions + 1 in
@@ -105,7 +105,7 @@ met s c k g J K w (Some (None, left)) = silent (Backward K (record w { steps = s
 met s c k g J K w (Some (Some τ, left)) =
     pay s c.variables (record w { steps = s.budget - left }) (λ u. silent (Forward (entered w.variables c k g J) K τ (record u { variables = u.variables + c.variables })))
 
--- a clause is tried, with these choices below it
+-- a clause is tried, with these choice points below it
 abbrev pub tried : Setup → Clause → ℕ → Term Text → Bindings Text → List Item → List Choice → World → Moved
 tried s c k g σ J K w =
     pay s 1 w (λ u. met s c k g J K u (unify text_eq (s.budget - u.steps) σ ((g, shift u.variables c.head) ∷ [])))

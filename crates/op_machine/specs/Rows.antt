@@ -14,7 +14,7 @@ use Rattle.op_machine.specs.Program.{clause_in, clauses_from, goal_named}
 use Rattle.op_machine.specs.declared.core_state.Core.{Core}
 use Rattle.op_machine.specs.declared.core_state.Step.{Step}
 use Rattle.op_machine.specs.declared.core_state.Step.TheVariants as step
-use Rattle.op_machine.specs.Core.{setup_of, world_in, items_now, goal_now, bindings_now, choices_in, state_of, event_seen, IsGood, IsSeen}
+use Rattle.op_machine.specs.Core.{setup_of, world_in, items_now, goal_now, bindings_now, choice_points_in, state_of, event_seen, IsGood, IsSeen}
 use Rattle.op_machine.specs.Resume.{Moved, Forward, Backward, silent, pay, keep, if_then_else_chosen, chosen, invoked, met, tried, branched, move}
 
 -- the turn that a machine shows after a step
@@ -30,18 +30,18 @@ IsLooked s c = Unit {0}
 
 -- the move of a goal that is selected before a list, and what it leads to once its step was paid
 abbrev pub chosen_now : Core → Term Text → Barrier → ℕ → World → Moved
-chosen_now c t m n w = chosen (control t) t m (items_now c n) (choices_in c) (bindings_now c) w
+chosen_now c t m n w = chosen (control t) t m (items_now c n) (choice_points_in c) (bindings_now c) w
 
 abbrev pub goal_moved : Core → Term Text → Barrier → ℕ → Moved
 goal_moved c t m n = pay (setup_of c) 1 (world_in c) (chosen_now c t m n)
 
 -- the exit of a box before a list
 abbrev pub exit_moved : Core → ℕ → ℕ → ℕ → Moved
-exit_moved c k g n = move (setup_of c) (Forward (world.Exit k (goal_now c g) ∷ items_now c n) (choices_in c) (bindings_now c) (world_in c))
+exit_moved c k g n = move (setup_of c) (Forward (world.Exit k (goal_now c g) ∷ items_now c n) (choice_points_in c) (bindings_now c) (world_in c))
 
 -- a box is invoked
 abbrev pub box_invoked : Core → ℕ → ℕ → Moved
-box_invoked c g n = invoked (goal_now c g) (items_now c n) (choices_in c) (bindings_now c) (world_in c)
+box_invoked c g n = invoked (goal_now c g) (items_now c n) (choice_points_in c) (bindings_now c) (world_in c)
 
 -- the body of a clause before items, with this barrier: nothing for a fact
 abbrev pub body_before : Core → ℕ → ℕ → List world.Item → List world.Item
@@ -50,7 +50,7 @@ body_before c b k J = if is_true (goal_now c b) then J else world.Goal (goal_now
 -- a clause's body and then the exit of the box come next
 abbrev pub body_entered : Core → ℕ → ℕ → ℕ → ℕ → Moved
 body_entered c b k g n =
-    silent (Forward (body_before c b k (world.Exit k (goal_now c g) ∷ items_now c n)) (choices_in c) (bindings_now c) (world_in c))
+    silent (Forward (body_before c b k (world.Exit k (goal_now c g) ∷ items_now c n)) (choice_points_in c) (bindings_now c) (world_in c))
 
 -- the two goals of a conjunction before a list
 abbrev pub conjunction_before : Core → ℕ → Barrier → ℕ → List world.Item
@@ -64,34 +64,34 @@ head_unified c r g =
     unify text_eq (c.budget - c.steps) (bindings_now c) ((goal_now c g, shift c.bindings.count (clause_in c.store r).head) ∷ [])
 
 abbrev pub clause_met : Core → NumberedClause → ℕ → ℕ → ℕ → Moved
-clause_met c r k g n = met (setup_of c) (clause_in c.store r) k (goal_now c g) (items_now c n) (choices_in c) (world_in c) (head_unified c r g)
+clause_met c r k g n = met (setup_of c) (clause_in c.store r) k (goal_now c g) (items_now c n) (choice_points_in c) (world_in c) (head_unified c r g)
 
 -- the move of a clause that is tried for a goal before a list
 abbrev pub clause_tried : Core → NumberedClause → ℕ → ℕ → ℕ → Moved
 clause_tried c r k g n =
-    tried (setup_of c) (clause_in c.store r) k (goal_now c g) (bindings_now c) (items_now c n) (choices_in c) (world_in c)
+    tried (setup_of c) (clause_in c.store r) k (goal_now c g) (bindings_now c) (items_now c n) (choice_points_in c) (world_in c)
 
--- the move of a choice, made at the present moment, of clauses from one on
+-- the move of a choice point, made at the present moment, of clauses from one on
 abbrev pub clauses_tried : Core → List NumberedClause → ℕ → ℕ → ℕ → ℕ → Moved
 clauses_tried c snapshot i k g n =
-    move (setup_of c) (Backward (visit.More (clauses_from c.store snapshot i) k (goal_now c g) (bindings_now c) (items_now c n) ∷ choices_in c) (world_in c))
+    move (setup_of c) (Backward (visit.More (clauses_from c.store snapshot i) k (goal_now c g) (bindings_now c) (items_now c n) ∷ choice_points_in c) (world_in c))
 
 -- another branch is tried, made at the present moment
 abbrev pub branch_tried : Core → ℕ → Barrier → ℕ → Moved
-branch_tried c g m n = branched (setup_of c) (goal_now c g) m (bindings_now c) (items_now c n) (choices_in c) (world_in c)
+branch_tried c g m n = branched (setup_of c) (goal_now c g) m (bindings_now c) (items_now c n) (choice_points_in c) (world_in c)
 
--- the choices that a cut keeps
+-- the choice points that a cut keeps
 abbrev pub cut_moved : Core → Barrier → ℕ → Moved
-cut_moved c m n = silent (Forward (items_now c n) (keep m (choices_in c)) (bindings_now c) (world_in c))
+cut_moved c m n = silent (Forward (items_now c n) (keep m (choice_points_in c)) (bindings_now c) (world_in c))
 
--- the first branch comes next, and the second is kept as a choice
+-- the first branch comes next, and the second is kept as a choice point
 abbrev pub disjunction_before : Core → ℕ → ℕ → Barrier → ℕ → Moved
 disjunction_before c a b m n =
-    silent (Forward (world.Goal (goal_now c a) m ∷ items_now c n) (visit.Branch (goal_now c b) m (bindings_now c) (items_now c n) ∷ choices_in c) (bindings_now c) (world_in c))
+    silent (Forward (world.Goal (goal_now c a) m ∷ items_now c n) (visit.Branch (goal_now c b) m (bindings_now c) (items_now c n) ∷ choice_points_in c) (bindings_now c) (world_in c))
 
--- a condition comes next, and the else branch is kept as a choice
+-- a condition comes next, and the else branch is kept as a choice point
 abbrev pub if_then_else_before : Core → ℕ → ℕ → ℕ → Barrier → ℕ → Moved
-if_then_else_before c a b e m n = if_then_else_chosen (goal_now c a) (goal_now c b) (goal_now c e) m (items_now c n) (choices_in c) (bindings_now c) (world_in c)
+if_then_else_before c a b e m n = if_then_else_chosen (goal_now c a) (goal_now c b) (goal_now c e) m (items_now c n) (choice_points_in c) (bindings_now c) (world_in c)
 
 -- the program and the goal's names stay, also where memory is wanting, and steps never fall
 pub record Keeps (old new : Core) : Type 0 where

@@ -1,4 +1,4 @@
--- Barriers and choices in step: a cut to the barrier of an item leaves what the cuts of the items behind it keep.
+-- Barriers and choice points in step: a cut to the barrier of an item leaves what the cuts of the items behind it keep.
 use Rattle.std.specs.Prelude.{◌≡◌, ℕ, ◌≤◌, List, [], ◌∷◌}
 use Rattle.op_trace.specs.declared.barrier.Barrier.{Barrier}
 use Rattle.op_trace.specs.declared.barrier.Barrier.TheVariants.{Call, InCondition, AtSuccess}
@@ -35,17 +35,17 @@ AreGiven c d (Goal t m ∷ J) = IsGoalBarrier c d m × AreGiven c d J
 AreGiven c d (Cut m ∷ J) = IsGiven c d m × AreGiven c d J
 AreGiven c d (Exit k g ∷ J) = AreGiven c d J
 
--- a choice goes on over the choices below it: a cut to the box of further clauses leaves all of these
-abbrev pub IsScopedChoice : ℕ → ℕ → Choice → List Choice → Type 0
-IsScopedChoice c d (Redo k g σ J) K = Unit {0}
-IsScopedChoice c d (Branch t m σ J) K = Scoped K (Goal t m ∷ J) × AreGiven c d (Goal t m ∷ J)
-IsScopedChoice c d (More cs k g σ J) K = (keep (Call k) K ≡ K) × Scoped K J × (k ≤ c) × AreGiven c d J
-IsScopedChoice c d (Fail k g σ J) K = Unit {0}
-IsScopedChoice c d (Condition n t m σ J) K = Scoped K (Goal t m ∷ J) × AreGiven c d (Goal t m ∷ J)
+-- a choice point goes on over the choice points below it: a cut to the box of further clauses leaves all of these
+abbrev pub IsScopedChoicePoint : ℕ → ℕ → Choice → List Choice → Type 0
+IsScopedChoicePoint c d (Redo k g σ J) K = Unit {0}
+IsScopedChoicePoint c d (Branch t m σ J) K = Scoped K (Goal t m ∷ J) × AreGiven c d (Goal t m ∷ J)
+IsScopedChoicePoint c d (More cs k g σ J) K = (keep (Call k) K ≡ K) × Scoped K J × (k ≤ c) × AreGiven c d J
+IsScopedChoicePoint c d (Fail k g σ J) K = Unit {0}
+IsScopedChoicePoint c d (Condition n t m σ J) K = Scoped K (Goal t m ∷ J) × AreGiven c d (Goal t m ∷ J)
 
 abbrev pub AreScoped : ℕ → ℕ → List Choice → Type 0
 AreScoped c d [] = Unit {0}
-AreScoped c d (x ∷ K) = IsScopedChoice c d x K × AreScoped c d K
+AreScoped c d (x ∷ K) = IsScopedChoicePoint c d x K × AreScoped c d K
 
 abbrev pub InStep : State → Type 0
 InStep (Forward I K σ w) = Scoped K I × AreGiven w.calls w.conditions I × AreScoped w.calls w.conditions K

@@ -5,7 +5,7 @@ ghost use Rattle.op_trace.specs.declared.barrier.Barrier.TheVariants.{InConditio
 ghost use Rattle.op_trace.specs.World.{Goal, Cut};
 ghost use Rattle.op_trace.specs.Visit.{IfThenElse, control_of_disjunction};
 ghost use Rattle.op_machine.specs.declared.core_state.Step.TheVariants as step;
-ghost use Rattle.op_machine.specs.Core.{world_in, level_in, items_now, goal_now, bindings_now, choices_in, IsGood, IsGoal};
+ghost use Rattle.op_machine.specs.Core.{world_in, level_in, items_now, goal_now, bindings_now, choice_points_in, IsGood, IsGoal};
 ghost use Rattle.op_machine.specs.Program.{goal_named};
 ghost use Rattle.op_machine.specs.Resume.{chosen};
 ghost use Rattle.op_machine.specs.Rows.{Keeps, Advances, branch_tried, disjunction_before, if_then_else_before};
@@ -32,7 +32,7 @@ impl Core {
         requires conditions { self.old.conditions < 2 ^ 63 }
         ensures advances { OnOk result (Advances self.old self.new (chosen
             (control_of_disjunction (goal_named self.old.store (nth_arg (args_of (term_at self.old.bindings.terms goal)) 0)) (goal_named self.old.store (nth_arg (args_of (term_at self.old.bindings.terms goal)) 1)))
-            (goal_now self.old goal) barrier (items_now self.old rest) (choices_in self.old) (bindings_now self.old) (world_in self.old)) step.Silent) }
+            (goal_now self.old goal) barrier (items_now self.old rest) (choice_points_in self.old) (bindings_now self.old) (world_in self.old)) step.Silent) }
         ensures keeps { Keeps self.old self.new }
     {
         let first = self.bindings.argument(&goal, 0);
@@ -60,7 +60,7 @@ impl Core {
         requires conditions { self.old.conditions < 2 ^ 63 }
         ensures advances { OnOk result (Advances self.old self.new (chosen
             (IfThenElse (goal_named self.old.store (nth_arg (args_of (term_at self.old.bindings.terms goal)) 0)) (goal_named self.old.store (nth_arg (args_of (term_at self.old.bindings.terms goal)) 1)) (atom (codes "fail")))
-            (goal_now self.old goal) barrier (items_now self.old rest) (choices_in self.old) (bindings_now self.old) (world_in self.old)) step.Silent) }
+            (goal_now self.old goal) barrier (items_now self.old rest) (choice_points_in self.old) (bindings_now self.old) (world_in self.old)) step.Silent) }
         ensures keeps { Keeps self.old self.new }
     {
         let _names = self.store.symbols().count();
@@ -69,7 +69,7 @@ impl Core {
         self.select_if_then_else(condition, then, self.failure, barrier, rest)
     }
 
-    // Two branches: the first comes next, and the second is kept as a choice.
+    // Two branches: the first comes next, and the second is kept as a choice point.
     fn branch(&mut self, first: Ref, second: Ref, barrier: Barrier, rest: u64) -> Result<(), Memory>
         requires good { IsGood self.old }
         requires there { rest < length self.old.lists }
@@ -90,7 +90,7 @@ impl Core {
         Ok(())
     }
 
-    // A condition comes next, and the cut of its success behind it; the else branch is kept as a choice.
+    // A condition comes next, and the cut of its success behind it; the else branch is kept as a choice point.
     fn select_if_then_else(
         &mut self,
         condition: Ref,
@@ -132,7 +132,7 @@ impl Core {
         ensures within { IfOk result (λ n. n < length self.new.lists) }
         ensures items { IfOk result (λ n. items_now self.new n
             ≡ Goal (goal_now self.old condition) (InCondition number) ∷ Cut (AtSuccess number) ∷ Goal (goal_now self.old then) barrier ∷ items_now self.old rest) }
-        ensures choices { OnOk result (choices_in self.new ≡ choices_in self.old) }
+        ensures choices { OnOk result (choice_points_in self.new ≡ choice_points_in self.old) }
         ensures good { OnOk result (IsGood self.new) }
         ensures rest { self.new ≡ record self.old { lists = self.new.lists } }
     {

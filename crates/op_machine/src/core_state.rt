@@ -22,7 +22,7 @@ pub enum Ending {
 pub enum Mode {
     /// The items of a list, from its number.
     Forward { items: u64 },
-    /// The last choice.
+    /// The last choice point.
     Backward,
     /// Nothing.
     Over { ending: Ending },

@@ -3,7 +3,7 @@ ghost use Rattle.op_trace.specs.declared.barrier.Barrier.{Barrier};
 ghost use Rattle.op_trace.specs.World.{Goal};
 ghost use Rattle.op_trace.specs.Visit.{control, Conjunction};
 ghost use Rattle.op_machine.specs.declared.core_state.Step.TheVariants as step;
-ghost use Rattle.op_machine.specs.Core.{world_in, level_in, items_now, goal_now, bindings_now, choices_in, IsGood, IsGoal};
+ghost use Rattle.op_machine.specs.Core.{world_in, level_in, items_now, goal_now, bindings_now, choice_points_in, IsGood, IsGoal};
 ghost use Rattle.op_machine.specs.Resume.{silent, Forward};
 ghost use Rattle.op_machine.specs.Rows.{Keeps, Advances, chosen_now, goal_moved, clause_met, clause_tried, clauses_tried, conjunction_before};
 ghost use Rattle.op_machine.specs.Boxes.{IsCalled};
@@ -86,7 +86,7 @@ impl Core {
         requires there { rest < length self.old.lists }
         requires goal { IsGoal (length self.old.store.names) self.old.bindings.terms goal }
         requires two { arity (args_of (term_at self.old.bindings.terms goal)) ≡ 2 }
-        ensures advances { OnOk result (Advances self.old self.new (silent (Forward (conjunction_before self.old goal barrier rest) (choices_in self.old) (bindings_now self.old) (world_in self.old))) step.Silent) }
+        ensures advances { OnOk result (Advances self.old self.new (silent (Forward (conjunction_before self.old goal barrier rest) (choice_points_in self.old) (bindings_now self.old) (world_in self.old))) step.Silent) }
         ensures keeps { Keeps self.old self.new }
     {
         let first = self.bindings.argument(&goal, 0);
@@ -109,7 +109,7 @@ impl Core {
         Ok(())
     }
 
-    // One of some clauses is tried, and those behind it are kept as a choice.
+    // One of some clauses is tried, and those behind it are kept as a choice point.
     pub(crate) fn retry(
         &mut self,
         snapshot: &Snapshot,

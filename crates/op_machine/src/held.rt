@@ -2,12 +2,12 @@ use op_bind::Ref;
 use op_store::Snapshot;
 use op_trace::Barrier;
 
-/// What the machine keeps with a choice.
+/// What the machine keeps with a choice point.
 #[derive(Drop)]
 pub struct Held {
     /// The goal of the box, or of the branch that is tried.
     pub goal: Ref,
-    /// How many lists there were when the choice was made.
+    /// How many lists there were when the choice point was made.
     pub lists: u64,
     /// How many boxes had been called.
     pub calls: u64,

@@ -2,7 +2,7 @@
 #![tactic(auto)]
 
 mod branches;
-mod choices;
+mod choice_points;
 mod core_state;
 mod goals;
 mod held;

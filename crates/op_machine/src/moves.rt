@@ -1,6 +1,6 @@
 ghost use Rattle.std.specs.Prelude.{◌≡◌, ◌+◌, ◌<◌, ◌≤◌, ◌^◌, [], ◌∷◌, length, IfOk};
 ghost use Rattle.op_machine.specs.declared.core_state.Mode.TheVariants as mode;
-ghost use Rattle.op_machine.specs.Core.{setup_of, state_of, world_in, level_in, items_now, bindings_now, choices_in, choice_of, item_term, IsGood, IsGoal, IsItem, IsFrame};
+ghost use Rattle.op_machine.specs.Core.{setup_of, state_of, world_in, level_in, items_now, bindings_now, choice_points_in, choice_point_of, item_term, IsGood, IsGoal, IsItem, IsFrame};
 ghost use Rattle.op_machine.specs.Program.{AreKnown};
 ghost use Rattle.op_store.specs.Snapshots.{snapshot_clauses};
 ghost use Rattle.op_machine.specs.Resume.{move, Forward, Backward};
@@ -43,7 +43,7 @@ impl Core {
         requires conditions { self.old.conditions < 2 ^ 63 }
         requires steps { self.old.steps ≤ self.old.budget }
         ensures advances { IfOk result (Advances self.old self.new (move (setup_of self.old)
-            (Forward (items_now self.old items) (choices_in self.old) (bindings_now self.old) (world_in self.old)))) }
+            (Forward (items_now self.old items) (choice_points_in self.old) (bindings_now self.old) (world_in self.old)))) }
         ensures keeps { Keeps self.old self.new }
     {
         match self.lists.first(items) {
@@ -62,7 +62,7 @@ impl Core {
         requires conditions { self.old.conditions < 2 ^ 63 }
         requires steps { self.old.steps ≤ self.old.budget }
         ensures advances { IfOk result (Advances self.old self.new (move (setup_of self.old)
-            (Forward (item_term self.old.store (level_in self.old) item ∷ items_now self.old rest) (choices_in self.old) (bindings_now self.old) (world_in self.old)))) }
+            (Forward (item_term self.old.store (level_in self.old) item ∷ items_now self.old rest) (choice_points_in self.old) (bindings_now self.old) (world_in self.old)))) }
         ensures keeps { Keeps self.old self.new }
     {
         match item {
@@ -76,14 +76,14 @@ impl Core {
         }
     }
 
-    // The last choice is taken, or there is none.
+    // The last choice point is taken, or there is none.
     fn backward(&mut self) -> Result<Step, Memory>
         requires good { IsGood self.old }
         requires mode { self.old.mode ≡ mode.Backward }
         requires events { self.old.events < 2 ^ 63 }
         requires calls { self.old.calls < 2 ^ 63 }
         requires steps { self.old.steps ≤ self.old.budget }
-        ensures advances { IfOk result (Advances self.old self.new (move (setup_of self.old) (Backward (choices_in self.old) (world_in self.old)))) }
+        ensures advances { IfOk result (Advances self.old self.new (move (setup_of self.old) (Backward (choice_points_in self.old) (world_in self.old)))) }
         ensures keeps { Keeps self.old self.new }
     {
         match self.pop() {
@@ -100,7 +100,7 @@ impl Core {
         }
     }
 
-    // What a choice, made at the present moment, does after a failure.
+    // What a choice point, made at the present moment, does after a failure.
     fn resume(&mut self, choice: &Choice<Held>) -> Result<Step, Memory>
         requires good { IsGood self.old }
         requires frame { IsFrame self.old.store (level_in self.old) choice.now }
@@ -109,7 +109,7 @@ impl Core {
         requires events { self.old.events < 2 ^ 63 }
         requires steps { self.old.steps ≤ self.old.budget }
         ensures advances { IfOk result (Advances self.old self.new (move (setup_of self.old)
-            (Backward (choice_of self.old.store (level_in self.old) choice.now ∷ choices_in self.old) (world_in self.old)))) }
+            (Backward (choice_point_of self.old.store (level_in self.old) choice.now ∷ choice_points_in self.old) (world_in self.old)))) }
         ensures keeps { Keeps self.old self.new }
     {
         let kept = &choice.kept;
@@ -124,7 +124,7 @@ impl Core {
         }
     }
 
-    // The next of the clauses that a choice keeps is tried.
+    // The next of the clauses that a choice point keeps is tried.
     fn go_on(&mut self, kept: &Held, call: u64, rest: u64) -> Result<Step, Memory>
         requires good { IsGood self.old }
         requires there { rest < length self.old.lists }

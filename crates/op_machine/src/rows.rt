@@ -8,7 +8,7 @@ ghost use Rattle.op_bind.specs.State.{undone};
 ghost use Rattle.op_machine.specs.declared.core_state.Mode.TheVariants as mode;
 ghost use Rattle.op_machine.specs.declared.core_state.Ending.TheVariants as ending;
 ghost use Rattle.op_machine.specs.declared.core_state.Step.TheVariants as step;
-ghost use Rattle.op_machine.specs.Core.{setup_of, world_in, level_in, items_now, goal_now, bindings_now, choices_in, item_term, items_in, event_seen, IsGood, IsItem, IsGoal, IsEarlier};
+ghost use Rattle.op_machine.specs.Core.{setup_of, world_in, level_in, items_now, goal_now, bindings_now, choice_points_in, item_term, items_in, event_seen, IsGood, IsItem, IsGoal, IsEarlier};
 ghost use Rattle.op_frames.specs.Frames.{open_from};
 ghost use Rattle.op_machine.specs.Boxes.{boxes_before, IsCalled, IsEntered};
 ghost use Rattle.op_machine.specs.Program.{clauses, clauses_from, AreKnown};
@@ -76,7 +76,7 @@ impl Core {
         };
     }
 
-    // Back to the bindings, the lists and the boxes that were there when a choice was made.
+    // Back to the bindings, the lists and the boxes that were there when a choice point was made.
     pub(crate) fn restore(&mut self, choice: &Choice<Held>)
         requires earlier { IsEarlier choice.now (level_in self.old) }
         requires some { 0 < choice.now.kept.lists }
@@ -102,7 +102,7 @@ impl Core {
         requires entered { IsEntered self.old.frames.boxes self.old.calls self.old.lists item rest }
         ensures within { IfOk result (λ n. n < length self.new.lists) }
         ensures items { IfOk result (λ n. items_now self.new n ≡ item_term self.old.store (level_in self.old) item ∷ items_now self.old rest) }
-        ensures choices { OnOk result (choices_in self.new ≡ choices_in self.old) }
+        ensures choices { OnOk result (choice_points_in self.new ≡ choice_points_in self.old) }
         ensures good { OnOk result (IsGood self.new) }
         ensures rest { self.new ≡ record self.old { lists = self.new.lists } }
     {
@@ -113,7 +113,7 @@ impl Core {
     pub(crate) fn solve(&mut self) -> Step
         requires good { IsGood self.old }
         requires fits { self.old.solutions < 2 ^ 63 }
-        ensures advances { Advances self.old self.new (at_solution (setup_of self.old) (choices_in self.old) (bindings_now self.old) (world_in self.old)) result }
+        ensures advances { Advances self.old self.new (at_solution (setup_of self.old) (choice_points_in self.old) (bindings_now self.old) (world_in self.old)) result }
         ensures keeps { Keeps self.old self.new }
     {
         self.solutions += 1;
@@ -150,7 +150,7 @@ impl Core {
         requires fits { self.old.events < 2 ^ 63 }
         ensures advances { Advances self.old self.new (showing port call (goal_now self.old goal) (bindings_now self.old)
             (items_now self.old rest) (world_in self.old)
-            (Backward (choices_in self.old) (with_event (world_in self.old)))) result }
+            (Backward (choice_points_in self.old) (with_event (world_in self.old)))) result }
         ensures keeps { Keeps self.old self.new }
     {
         self.show(port, call, goal, rest);
@@ -208,14 +208,14 @@ impl Core {
         }
     }
 
-    // A choice of the clauses of a goal's procedure, where it has any.
+    // A choice point of the clauses of a goal's procedure, where it has any.
     fn push_clauses(&mut self, call: u64, goal: Ref, rest: u64) -> Result<(), Memory>
         requires good { IsGood self.old }
         requires there { rest < length self.old.lists }
         requires goal { IsGoal (length self.old.store.names) self.old.bindings.terms goal }
         requires called { IsCalled self.old.frames.boxes self.old.calls self.old.lists call goal rest }
-        ensures choices { OnOk result (choices_in self.new ≡ with_more (procedure (clauses self.old.store) (goal_now self.old goal)) call (goal_now self.old goal)
-            (bindings_now self.old) (items_now self.old rest) (choices_in self.old)) }
+        ensures choices { OnOk result (choice_points_in self.new ≡ with_more (procedure (clauses self.old.store) (goal_now self.old goal)) call (goal_now self.old goal)
+            (bindings_now self.old) (items_now self.old rest) (choice_points_in self.old)) }
         ensures good { OnOk result (IsGood self.new) }
         ensures rest { self.new ≡ record self.old { frames = self.new.frames } }
     {
@@ -248,7 +248,7 @@ impl Core {
         requires body { IsGoal (length self.old.store.names) self.old.bindings.terms body }
         ensures within { IfOk result (λ n. n < length self.new.lists) }
         ensures items { IfOk result (λ n. items_now self.new n ≡ body_before self.old body call (items_now self.old rest)) }
-        ensures choices { OnOk result (choices_in self.new ≡ choices_in self.old) }
+        ensures choices { OnOk result (choice_points_in self.new ≡ choice_points_in self.old) }
         ensures good { OnOk result (IsGood self.new) }
         ensures rest { self.new ≡ record self.old { lists = self.new.lists } }
     {

@@ -78,7 +78,7 @@ module _ (f g : Visitor) (s : Setup) (n : ℕ) (agree : Agree s.budget n f g) (l
   after-same (Fail k t σ J) r w low high = refl
   after-same (Condition c t m σ J) r w low high = on_condition-same c (branches f s t m σ J) (branches g s t m σ J) r w (branches-same t m σ J w low high)
 
-  -- the walks of the same items, and then the same choice
+  -- the walks of the same items, and then the same choice point
   pub chosen-same : (I : List Item) (c : Choice) (σ : Bindings Text) (w : World) → n < w.steps → w.steps ≤ s.budget
       → and_then (f I σ w) (after f s c) ≡ and_then (g I σ w) (after g s c)
   chosen-same I c σ w low high =

@@ -166,7 +166,7 @@ on_condition n h (CutTo m) w = reaches (same_barrier m (InCondition n)) h (reach
 on_condition n h Stopped w = gives Stopped w
 on_condition n h Spent w = gives Spent w
 
--- what each kind of choice does after a result
+-- what each kind of choice point does after a result
 abbrev pub after : Visitor → Setup → Choice → Verdict → World → Visited
 after visit s (Redo k g σ J) r w = on_failed (λ u. shows port.Redo k g σ J u (gives Failed)) r w
 after visit s (Branch t m σ J) r w = on_failed (branches visit s t m σ J) r w

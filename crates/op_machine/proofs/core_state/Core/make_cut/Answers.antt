@@ -4,7 +4,7 @@ use Rattle.op_machine.specs.declared.core_state.Core.{Core}
 use Rattle.op_machine.specs.declared.held.Held.{Held}
 use Rattle.op_machine.specs.Core.{Frame}
 use Rattle.op_machine.specs.Kept.{keep_frames}
-use Rattle.op_machine.proofs.Keeping.{cut_moved-choices, cut_moved-good}
+use Rattle.op_machine.proofs.Keeping.{cut_moved-choice_points, cut_moved-good}
 use Rattle.op_machine.proofs.core_state.Core.make_cut.Goals as goal
 
 pub returns-clause-choices : goal.returns-clause-choices
@@ -14,7 +14,7 @@ returns-clause-choices c =
     let kept : reverse new.frames.choices ≡ keep_frames c.args.barrier (reverse old.frames.choices) =
     ap (λ (f : Framed Held). reverse f.choices) c.cut_to.ensures
     ∙ subst (λ (xs : List Frame). reverse (take c.kept_by-kept.result xs) ≡ keep_frames c.args.barrier (reverse xs)) c.choices.ensures c.kept_by-kept.ensures.kept in
-    cut_moved-choices old new c.args.barrier c.requires.good refl kept
+    cut_moved-choice_points old new c.args.barrier c.requires.good refl kept
 
 pub returns-clause-good : goal.returns-clause-good
 returns-clause-good c =

@@ -1,7 +1,7 @@
 use Rattle.std.proofs.Common.{◌≡◌, ℕ, suc, ◌+◌, List, length, arith, sym, ap, subst, ◌∙◌}
 use Rattle.op_bind.specs.declared.places.Clause.{Clause as NumberedClause}
 use Rattle.op_machine.specs.declared.core_state.Core.{Core}
-use Rattle.op_machine.specs.Core.{goal_now, bindings_now, items_now, choices_in}
+use Rattle.op_machine.specs.Core.{goal_now, bindings_now, items_now, choice_points_in}
 use Rattle.op_frames.specs.declared.boxes.BoxFrame.{BoxFrame}
 use Rattle.op_machine.specs.Boxes.{IsCalled}
 use Rattle.op_machine.specs.Program.{clauses_from, IsKnown}
@@ -18,7 +18,7 @@ returns-clause-advances c =
     let moved = retry-moved old mid c.args.snapshot.now c.args.next c.clause.result.now c.args.call c.args.goal c.args.rest
     c.in_ok-push_more.ensures.rest
     (c.in_ok-push_more.ensures.choices
-    ∙ ap (λ (i : ℕ). with_more (clauses_from old.store c.args.snapshot.now i) c.args.call (goal_now old c.args.goal) (bindings_now old) (items_now old c.args.rest) (choices_in old)) one)
+    ∙ ap (λ (i : ℕ). with_more (clauses_from old.store c.args.snapshot.now i) c.args.call (goal_now old c.args.goal) (bindings_now old) (items_now old c.args.rest) (choice_points_in old)) one)
     c.requires.here c.clause.ensures in
     IfOk-then c.attempt.result _ _
     (λ s a. retry-advances old mid c.attempt.new.self (clause_tried mid c.clause.result.now c.args.call c.args.goal c.args.rest) (clauses_tried old c.args.snapshot.now c.args.next c.args.call c.args.goal c.args.rest) s c.in_ok-push_more.ensures.rest moved a)

@@ -1,6 +1,6 @@
 ghost use Rattle.std.specs.Prelude.{◌≡◌, ◌<◌, ◌≤◌, [], ◌∷◌, length, take, reverse, OnOk, IfNone, MatchOption};
 ghost use Rattle.op_trace.specs.Visit as visit;
-ghost use Rattle.op_machine.specs.Core.{level_in, items_now, goal_now, bindings_now, choices_in, choice_by, IsGood, IsGoal, IsKind};
+ghost use Rattle.op_machine.specs.Core.{level_in, items_now, goal_now, bindings_now, choice_points_in, choice_point_by, IsGood, IsGoal, IsKind};
 ghost use Rattle.op_machine.specs.Program.{clauses_from, AreKnown};
 ghost use Rattle.op_machine.specs.Resume.{keep, with_more};
 ghost use Rattle.op_machine.specs.Boxes.{IsCalled, IsTried};
@@ -14,7 +14,7 @@ use op_frames::{Choice, ChoiceKind};
 use op_store::Snapshot;
 use op_trace::Barrier;
 
-// Whether a cut to a barrier comes to a choice and keeps it.
+// Whether a cut to a barrier comes to a choice point and keeps it.
 fn stays(choice: &Choice<Held>, barrier: Barrier) -> bool
     ensures { result ≡ frame_stays choice.now barrier }
 {
@@ -29,7 +29,7 @@ fn stays(choice: &Choice<Held>, barrier: Barrier) -> bool
     }
 }
 
-// Whether a cut to a barrier comes to a choice and drops it as the last.
+// Whether a cut to a barrier comes to a choice point and drops it as the last.
 fn goes(choice: &Choice<Held>, barrier: Barrier) -> bool
     ensures { result ≡ frame_goes choice.now barrier }
 {
@@ -39,7 +39,7 @@ fn goes(choice: &Choice<Held>, barrier: Barrier) -> bool
     }
 }
 
-// How many of some choices a cut to a barrier keeps.
+// How many of some choice points a cut to a barrier keeps.
 fn kept_by(choices: &[Choice<Held>], barrier: Barrier) -> u64
     ensures within { result ≤ length choices.now }
     ensures kept { reverse (take result choices.now) ≡ keep_frames barrier (reverse choices.now) }
@@ -58,7 +58,7 @@ fn kept_by(choices: &[Choice<Held>], barrier: Barrier) -> u64
 }
 
 impl Core {
-    // A choice above the others, made now.
+    // A choice point above the others, made now.
     pub(crate) fn push(&mut self, kind: ChoiceKind, rest: u64, kept: Held) -> Result<(), Memory>
         requires good { IsGood self.old }
         requires there { rest < length self.old.lists }
@@ -67,7 +67,7 @@ impl Core {
         requires kind { IsKind (length self.old.store.names) kind kept }
         requires calls { kept.calls ≡ self.old.calls }
         requires tried { IsTried self.old.frames.boxes self.old.lists kind kept rest }
-        ensures choices { OnOk result (choices_in self.new ≡ choice_by self.old.store (level_in self.old) kind kept rest ∷ choices_in self.old) }
+        ensures choices { OnOk result (choice_points_in self.new ≡ choice_point_by self.old.store (level_in self.old) kind kept rest ∷ choice_points_in self.old) }
         ensures good { OnOk result (IsGood self.new) }
         ensures rest { self.new ≡ record self.old { frames = self.new.frames } }
         ensures boxes { self.new.frames.boxes ≡ self.old.frames.boxes }
@@ -87,7 +87,7 @@ impl Core {
         requires good { IsGood self.old }
         requires there { rest < length self.old.lists }
         requires goal { IsGoal (length self.old.store.names) self.old.bindings.terms goal }
-        ensures choices { OnOk result (choices_in self.new ≡ visit.Redo call (goal_now self.old goal) (bindings_now self.old) (items_now self.old rest) ∷ choices_in self.old) }
+        ensures choices { OnOk result (choice_points_in self.new ≡ visit.Redo call (goal_now self.old goal) (bindings_now self.old) (items_now self.old rest) ∷ choice_points_in self.old) }
         ensures good { OnOk result (IsGood self.new) }
         ensures rest { self.new ≡ record self.old { frames = self.new.frames } }
         ensures boxes { self.new.frames.boxes ≡ self.old.frames.boxes }
@@ -114,7 +114,7 @@ impl Core {
         requires good { IsGood self.old }
         requires there { rest < length self.old.lists }
         requires goal { IsGoal (length self.old.store.names) self.old.bindings.terms goal }
-        ensures choices { OnOk result (choices_in self.new ≡ visit.Fail call (goal_now self.old goal) (bindings_now self.old) (items_now self.old rest) ∷ choices_in self.old) }
+        ensures choices { OnOk result (choice_points_in self.new ≡ visit.Fail call (goal_now self.old goal) (bindings_now self.old) (items_now self.old rest) ∷ choice_points_in self.old) }
         ensures good { OnOk result (IsGood self.new) }
         ensures rest { self.new ≡ record self.old { frames = self.new.frames } }
         ensures boxes { self.new.frames.boxes ≡ self.old.frames.boxes }
@@ -150,8 +150,8 @@ impl Core {
         requires goal { IsGoal (length self.old.store.names) self.old.bindings.terms goal }
         requires known { AreKnown (length self.old.store.names) snapshot.now }
         requires called { IsCalled self.old.frames.boxes self.old.calls self.old.lists call goal rest }
-        ensures choices { OnOk result (choices_in self.new ≡ with_more (clauses_from self.old.store snapshot.now next) call (goal_now self.old goal)
-            (bindings_now self.old) (items_now self.old rest) (choices_in self.old)) }
+        ensures choices { OnOk result (choice_points_in self.new ≡ with_more (clauses_from self.old.store snapshot.now next) call (goal_now self.old goal)
+            (bindings_now self.old) (items_now self.old rest) (choice_points_in self.old)) }
         ensures good { OnOk result (IsGood self.new) }
         ensures rest { self.new ≡ record self.old { frames = self.new.frames } }
         ensures boxes { self.new.frames.boxes ≡ self.old.frames.boxes }
@@ -184,7 +184,7 @@ impl Core {
         requires good { IsGood self.old }
         requires there { rest < length self.old.lists }
         requires goal { IsGoal (length self.old.store.names) self.old.bindings.terms goal }
-        ensures choices { OnOk result (choices_in self.new ≡ visit.Branch (goal_now self.old goal) barrier (bindings_now self.old) (items_now self.old rest) ∷ choices_in self.old) }
+        ensures choices { OnOk result (choice_points_in self.new ≡ visit.Branch (goal_now self.old goal) barrier (bindings_now self.old) (items_now self.old rest) ∷ choice_points_in self.old) }
         ensures good { OnOk result (IsGood self.new) }
         ensures rest { self.new ≡ record self.old { frames = self.new.frames } }
         ensures boxes { self.new.frames.boxes ≡ self.old.frames.boxes }
@@ -217,7 +217,7 @@ impl Core {
         requires good { IsGood self.old }
         requires there { rest < length self.old.lists }
         requires goal { IsGoal (length self.old.store.names) self.old.bindings.terms goal }
-        ensures choices { OnOk result (choices_in self.new ≡ visit.Condition condition (goal_now self.old goal) barrier (bindings_now self.old) (items_now self.old rest) ∷ choices_in self.old) }
+        ensures choices { OnOk result (choice_points_in self.new ≡ visit.Condition condition (goal_now self.old goal) barrier (bindings_now self.old) (items_now self.old rest) ∷ choice_points_in self.old) }
         ensures good { OnOk result (IsGood self.new) }
         ensures rest { self.new ≡ record self.old { frames = self.new.frames } }
         ensures boxes { self.new.frames.boxes ≡ self.old.frames.boxes }
@@ -239,7 +239,7 @@ impl Core {
         )
     }
 
-    // The last choice, which is dropped.
+    // The last choice point, which is dropped.
     pub(crate) fn pop(&mut self) -> Option<Choice<Held>>
         ensures frames { MatchOption result (reverse self.old.frames.choices ≡ []) (λ f. reverse self.old.frames.choices ≡ f ∷ reverse self.new.frames.choices) }
         ensures empty { IfNone result (reverse self.new.frames.choices ≡ []) }
@@ -252,7 +252,7 @@ impl Core {
     // A cut is made at once: what it drops is freed.
     pub(crate) fn make_cut(&mut self, barrier: Barrier)
         requires good { IsGood self.old }
-        ensures choices { choices_in self.new ≡ keep barrier (choices_in self.old) }
+        ensures choices { choice_points_in self.new ≡ keep barrier (choice_points_in self.old) }
         ensures good { IsGood self.new }
         ensures rest { self.new ≡ record self.old { frames = self.new.frames } }
         ensures boxes { self.new.frames.boxes ≡ self.old.frames.boxes }
