@@ -40,14 +40,14 @@ pub rises-back : (v : Level) (f : Frame) → IsEarlier f v → Rises (level_at f
 rises-back v f e =
     let t : length (take f.mark.terms v.terms) ≡ f.mark.terms = length-take-le f.mark.terms v.terms e.terms_there in
     let b : length (oldest f.mark.bound v.bound) ≡ f.mark.bound = length-drop (length v.bound - f.mark.bound) v.bound ∙ omega (arith, e.bound_there) in
-    let l : length (take f.kept.lists v.lists) ≡ f.kept.lists = length-take-le f.kept.lists v.lists e.lists_there in
+    let l : length (take f.kept.continuations v.continuations) ≡ f.kept.continuations = length-take-le f.kept.continuations v.continuations e.continuations_there in
     record {
       terms_there = omega (arith, t, e.terms_there);
       terms = ap (λ (n : ℕ). take n v.terms) t;
       bound_there = omega (arith, b, e.bound_there);
       bound = ap (λ (n : ℕ). oldest n v.bound) b;
-      lists_there = omega (arith, l, e.lists_there);
-      lists = ap (λ (n : ℕ). take n v.lists) l;
+      continuations_there = omega (arith, l, e.continuations_there);
+      continuations = ap (λ (n : ℕ). take n v.continuations) l;
     }
 
 -- what a cut keeps leads to what was there
@@ -99,8 +99,8 @@ cut_moved-good c d m good e same kept =
       mode = good.mode;
       values = good.values;
       failure = good.failure;
-      boxes = subst (λ (B : List BoxFrame). AreBoxes B c.calls c.lists) (sym same) good.boxes;
-      boxed = subst (λ (B : List BoxFrame). AreBoxed B c.lists c.calls (length c.lists) (reverse d.frames.choices)) (sym same)
-          (subst (AreBoxed c.frames.boxes c.lists c.calls (length c.lists)) (sym kept)
-          (keep-boxed c.frames.boxes c.lists c.calls (length c.lists) (reverse c.frames.choices) m good.boxed));
+      boxes = subst (λ (B : List BoxFrame). AreBoxes B c.calls c.continuations) (sym same) good.boxes;
+      boxed = subst (λ (B : List BoxFrame). AreBoxed B c.continuations c.calls (length c.continuations) (reverse d.frames.choices)) (sym same)
+          (subst (AreBoxed c.frames.boxes c.continuations c.calls (length c.continuations)) (sym kept)
+          (keep-boxed c.frames.boxes c.continuations c.calls (length c.continuations) (reverse c.frames.choices) m good.boxed));
     })

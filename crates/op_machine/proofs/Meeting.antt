@@ -51,16 +51,16 @@ found-less c r g left o e = subst (IsLess (c.budget - c.steps)) e (met-less c r 
 abbrev pub bound_on : Core → bind.State → ℕ → Core
 bound_on c s steps = record c { bindings = s; steps = steps }
 
-pub bound-rises : (c : Core) (s : bind.State) → Grows c.bindings s → Rises (level_in c) (level_of s c.lists)
-bound-rises c s g = rises-bindings c.bindings s c.lists g
+pub bound-rises : (c : Core) (s : bind.State) → Grows c.bindings s → Rises (level_in c) (level_of s c.continuations)
+bound-rises c s g = rises-bindings c.bindings s c.continuations g
 
 pub bound-good : (c : Core) (s : bind.State) (steps : ℕ) → IsGood c → Grows c.bindings s → HaveNames (length c.store.names) (bindings s) → IsGood (bound_on c s steps)
 bound-good c s steps good g names = record {
-  level = level-bindings c.store c.floor.terms c.bindings s c.lists g names good.level;
-  frames = frames-rise c.store c.floor.terms (level_in c) (level_of s c.lists) (reverse c.frames.choices) (bound-rises c s g) good.frames;
+  level = level-bindings c.store c.floor.terms c.bindings s c.continuations g names good.level;
+  frames = frames-rise c.store c.floor.terms (level_in c) (level_of s c.continuations) (reverse c.frames.choices) (bound-rises c s g) good.frames;
   mode = good.mode;
-  values = values-rise c.floor.terms (level_in c) (level_of s c.lists) c.values.items c.names (bound-rises c s g) good.level.floor_there good.values;
-  failure = failure-rises c.floor.terms (level_in c) (level_of s c.lists) c.failure (bound-rises c s g) good.level.floor_there good.failure;
+  values = values-rise c.floor.terms (level_in c) (level_of s c.continuations) c.values.items c.names (bound-rises c s g) good.level.floor_there good.values;
+  failure = failure-rises c.floor.terms (level_in c) (level_of s c.continuations) c.failure (bound-rises c s g) good.level.floor_there good.failure;
   boxes = good.boxes;
   boxed = good.boxed;
 }
@@ -75,7 +75,7 @@ bound-names c r g after s good goal clause e =
 abbrev entered_by : Bool → Term Text → ℕ → Term Text → List world.Item → List world.Item
 entered_by b t k g J = if b then world.Exit k g ∷ J else world.Goal t (Call k) ∷ world.Exit k g ∷ J
 
-entered-same : (c : Core) (s : bind.State) (r : NumberedClause) (k g b n steps : ℕ) → IsGood c → Grows c.bindings s → IsGoal (length c.store.names) c.bindings.terms g → n < length c.lists
+entered-same : (c : Core) (s : bind.State) (r : NumberedClause) (k g b n steps : ℕ) → IsGood c → Grows c.bindings s → IsGoal (length c.store.names) c.bindings.terms g → n < length c.continuations
     → term_at s.terms b ≡ shift c.bindings.count r.body
     → entered c.bindings.count (clause_in c.store r) k (goal_now c g) (items_now c n)
     ≡ body_before (bound_on c s steps) b k (world.Exit k (goal_now (bound_on c s steps) g) ∷ items_now (bound_on c s steps) n)
@@ -83,8 +83,8 @@ entered-same c s r k g b n steps good grows goal there value =
     let mid : Core = bound_on c s steps in
     let body : Term Text = (clause_in c.store r).body in
     let is_body : goal_now mid b ≡ shift c.bindings.count body = ap (goal_named c.store) value ∙ shift-named c.store c.bindings.count r.body in
-    let is_goal : goal_now mid g ≡ goal_now c g = ap (goal_named c.store) (term-rises (level_in c) (level_of s c.lists) g (bound-rises c s grows) goal.0) in
-    let is_rest : items_now mid n ≡ items_now c n = items_in-rise c.store c.floor.terms (level_in c) (level_of s c.lists) n (bound-rises c s grows) good.level there in
+    let is_goal : goal_now mid g ≡ goal_now c g = ap (goal_named c.store) (term-rises (level_in c) (level_of s c.continuations) g (bound-rises c s grows) goal.0) in
+    let is_rest : items_now mid n ≡ items_now c n = items_in-rise c.store c.floor.terms (level_in c) (level_of s c.continuations) n (bound-rises c s grows) good.level there in
     ap (λ (x : Bool). entered_by x (shift c.bindings.count body) k (goal_now c g) (items_now c n)) (sym (ap is_true is_body ∙ is_true-shift c.bindings.count body))
     ∙ (ap (λ (t : Term Text). entered_by (is_true (goal_now mid b)) t k (goal_now c g) (items_now c n)) (sym is_body)
     ∙ (ap (λ (t : Term Text). entered_by (is_true (goal_now mid b)) (goal_now mid b) k t (items_now c n)) (sym is_goal)
@@ -92,7 +92,7 @@ entered-same c s r k g b n steps good grows goal there value =
 
 -- a head that matched: the body is entered, under the bindings that were found
 pub met-yes : (c : Core) (s : bind.State) (r : NumberedClause) (k g b n after : ℕ) → IsTable c.store.names → c.steps ≤ c.budget → IsGood c → Grows c.bindings s
-    → IsGoal (length c.store.names) c.bindings.terms g → n < length c.lists
+    → IsGoal (length c.store.names) c.bindings.terms g → n < length c.continuations
     → head_met c r g ≡ Some (found (bindings s) (after + r.vars))
     → s.count ≡ c.bindings.count + r.vars
     → term_at s.terms b ≡ shift c.bindings.count r.body
@@ -106,7 +106,7 @@ met-yes c s r k g b n after table below good grows goal there e count value =
     let I : List world.Item = entered c.bindings.count C k (goal_now c g) (items_now c n) in
     let h : World → Moved = λ u. silent (Forward I (choice_points_in c) (bindings_now mid) (record u { variables = u.variables + vars })) in
     let steps : c.budget - (after + vars) + vars ≡ c.budget - after = omega arith in
-    let choices : choice_points_in c ≡ choice_points_in mid = sym (choice_points-rise c.store c.floor.terms (level_in c) (level_of s c.lists) (reverse c.frames.choices) (bound-rises c s grows) good.frames) in
+    let choices : choice_points_in c ≡ choice_points_in mid = sym (choice_points-rise c.store c.floor.terms (level_in c) (level_of s c.continuations) (reverse c.frames.choices) (bound-rises c s grows) good.frames) in
     ap (met (setup_of c) C k (goal_now c g) (items_now c n) (choice_points_in c) (world_in c)) (head-met c r g table ∙ ap (rename_solved (name_at c.store.names)) e)
     ∙ (pay-yes (setup_of c) vars w h (omega arith)
     ∙ (ap (λ (x : ℕ). silent (Forward I (choice_points_in c) (bindings_now mid) (record (world_in c) { steps = x; variables = c.bindings.count + vars }))) steps

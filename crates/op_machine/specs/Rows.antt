@@ -28,14 +28,14 @@ abbrev pub IsLooked : Step → Core → Type 0
 IsLooked step.Event c = IsSeen c
 IsLooked s c = Unit {0}
 
--- the move of a goal that is selected before a list, and what it leads to once its step was paid
+-- the move of a goal that is selected before a continuation, and what it leads to once its step was paid
 abbrev pub chosen_now : Core → Term Text → Barrier → ℕ → World → Moved
 chosen_now c t m n w = chosen (control t) t m (items_now c n) (choice_points_in c) (bindings_now c) w
 
 abbrev pub goal_moved : Core → Term Text → Barrier → ℕ → Moved
 goal_moved c t m n = pay (setup_of c) 1 (world_in c) (chosen_now c t m n)
 
--- the exit of a box before a list
+-- the exit of a box before a continuation
 abbrev pub exit_moved : Core → ℕ → ℕ → ℕ → Moved
 exit_moved c k g n = move (setup_of c) (Forward (world.Exit k (goal_now c g) ∷ items_now c n) (choice_points_in c) (bindings_now c) (world_in c))
 
@@ -52,7 +52,7 @@ abbrev pub body_entered : Core → ℕ → ℕ → ℕ → ℕ → Moved
 body_entered c b k g n =
     silent (Forward (body_before c b k (world.Exit k (goal_now c g) ∷ items_now c n)) (choice_points_in c) (bindings_now c) (world_in c))
 
--- the two goals of a conjunction before a list
+-- the two goals of a conjunction before a continuation
 abbrev pub conjunction_before : Core → ℕ → Barrier → ℕ → List world.Item
 conjunction_before c g m n =
     let ts : Args ℕ = args_of (term_at c.bindings.terms g) in
@@ -66,7 +66,7 @@ head_unified c r g =
 abbrev pub clause_met : Core → NumberedClause → ℕ → ℕ → ℕ → Moved
 clause_met c r k g n = met (setup_of c) (clause_in c.store r) k (goal_now c g) (items_now c n) (choice_points_in c) (world_in c) (head_unified c r g)
 
--- the move of a clause that is tried for a goal before a list
+-- the move of a clause that is tried for a goal before a continuation
 abbrev pub clause_tried : Core → NumberedClause → ℕ → ℕ → ℕ → Moved
 clause_tried c r k g n =
     tried (setup_of c) (clause_in c.store r) k (goal_now c g) (bindings_now c) (items_now c n) (choice_points_in c) (world_in c)

@@ -10,9 +10,9 @@ ghost use Rattle.op_machine.specs.Program.{goal_named};
 ghost use Rattle.op_machine.specs.Resume.{chosen};
 ghost use Rattle.op_machine.specs.Rows.{Keeps, Advances, branch_tried, disjunction_before, if_then_else_before};
 
+use crate::continuations::Item;
 use crate::core_state::{Core, Mode, Step};
 use crate::kind::is_if_then;
-use crate::lists::Item;
 use op_base::Memory;
 use op_bind::Ref;
 use op_trace::Barrier;
@@ -26,7 +26,7 @@ impl Core {
         rest: u64,
     ) -> Result<(), Memory>
         requires good { IsGood self.old }
-        requires there { rest < length self.old.lists }
+        requires there { rest < length self.old.continuations }
         requires goal { IsGoal (length self.old.store.names) self.old.bindings.terms goal }
         requires two { arity (args_of (term_at self.old.bindings.terms goal)) ≡ 2 }
         requires conditions { self.old.conditions < 2 ^ 63 }
@@ -54,7 +54,7 @@ impl Core {
         rest: u64,
     ) -> Result<(), Memory>
         requires good { IsGood self.old }
-        requires there { rest < length self.old.lists }
+        requires there { rest < length self.old.continuations }
         requires goal { IsGoal (length self.old.store.names) self.old.bindings.terms goal }
         requires two { arity (args_of (term_at self.old.bindings.terms goal)) ≡ 2 }
         requires conditions { self.old.conditions < 2 ^ 63 }
@@ -72,7 +72,7 @@ impl Core {
     // Two branches: the first comes next, and the second is kept as a choice point.
     fn branch(&mut self, first: Ref, second: Ref, barrier: Barrier, rest: u64) -> Result<(), Memory>
         requires good { IsGood self.old }
-        requires there { rest < length self.old.lists }
+        requires there { rest < length self.old.continuations }
         requires first { IsGoal (length self.old.store.names) self.old.bindings.terms first }
         requires second { IsGoal (length self.old.store.names) self.old.bindings.terms second }
         ensures advances { OnOk result (Advances self.old self.new (disjunction_before self.old first second barrier rest) step.Silent) }
@@ -100,7 +100,7 @@ impl Core {
         rest: u64,
     ) -> Result<(), Memory>
         requires good { IsGood self.old }
-        requires there { rest < length self.old.lists }
+        requires there { rest < length self.old.continuations }
         requires condition { IsGoal (length self.old.store.names) self.old.bindings.terms condition }
         requires then { IsGoal (length self.old.store.names) self.old.bindings.terms then }
         requires otherwise { IsGoal (length self.old.store.names) self.old.bindings.terms otherwise }
@@ -116,7 +116,7 @@ impl Core {
         Ok(())
     }
 
-    // A condition with its number, the cut of its success and what follows it, before a list.
+    // A condition with its number, the cut of its success and what follows it, before a continuation.
     fn add_condition(
         &mut self,
         number: u64,
@@ -126,15 +126,15 @@ impl Core {
         rest: u64,
     ) -> Result<u64, Memory>
         requires good { IsGood self.old }
-        requires there { rest < length self.old.lists }
+        requires there { rest < length self.old.continuations }
         requires condition { IsGoal (length self.old.store.names) self.old.bindings.terms condition }
         requires then { IsGoal (length self.old.store.names) self.old.bindings.terms then }
-        ensures within { IfOk result (λ n. n < length self.new.lists) }
+        ensures within { IfOk result (λ n. n < length self.new.continuations) }
         ensures items { IfOk result (λ n. items_now self.new n
             ≡ Goal (goal_now self.old condition) (InCondition number) ∷ Cut (AtSuccess number) ∷ Goal (goal_now self.old then) barrier ∷ items_now self.old rest) }
         ensures choices { OnOk result (choice_points_in self.new ≡ choice_points_in self.old) }
         ensures good { OnOk result (IsGood self.new) }
-        ensures rest { self.new ≡ record self.old { lists = self.new.lists } }
+        ensures rest { self.new ≡ record self.old { continuations = self.new.continuations } }
     {
         let tail = self.add(
             Item::Goal {
@@ -166,7 +166,7 @@ impl Core {
         rest: u64,
     ) -> Result<Step, Memory>
         requires good { IsGood self.old }
-        requires there { rest < length self.old.lists }
+        requires there { rest < length self.old.continuations }
         requires goal { IsGoal (length self.old.store.names) self.old.bindings.terms goal }
         requires steps { self.old.steps ≤ self.old.budget }
         ensures advances { IfOk result (Advances self.old self.new (branch_tried self.old goal barrier rest)) }

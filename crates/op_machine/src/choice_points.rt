@@ -61,12 +61,12 @@ impl Core {
     // A choice point above the others, made now.
     pub(crate) fn push(&mut self, kind: ChoiceKind, rest: u64, kept: Held) -> Result<(), Memory>
         requires good { IsGood self.old }
-        requires there { rest < length self.old.lists }
+        requires there { rest < length self.old.continuations }
         requires goal { IsGoal (length self.old.store.names) self.old.bindings.terms kept.goal }
-        requires lists { kept.lists ≡ length self.old.lists }
+        requires continuations { kept.continuations ≡ length self.old.continuations }
         requires kind { IsKind (length self.old.store.names) kind kept }
         requires calls { kept.calls ≡ self.old.calls }
-        requires tried { IsTried self.old.frames.boxes self.old.lists kind kept rest }
+        requires tried { IsTried self.old.frames.boxes self.old.continuations kind kept rest }
         ensures choices { OnOk result (choice_points_in self.new ≡ choice_point_by self.old.store (level_in self.old) kind kept rest ∷ choice_points_in self.old) }
         ensures good { OnOk result (IsGood self.new) }
         ensures rest { self.new ≡ record self.old { frames = self.new.frames } }
@@ -85,21 +85,21 @@ impl Core {
     // The exit of a box is redone.
     pub(crate) fn push_redo(&mut self, call: u64, goal: Ref, rest: u64) -> Result<(), Memory>
         requires good { IsGood self.old }
-        requires there { rest < length self.old.lists }
+        requires there { rest < length self.old.continuations }
         requires goal { IsGoal (length self.old.store.names) self.old.bindings.terms goal }
         ensures choices { OnOk result (choice_points_in self.new ≡ visit.Redo call (goal_now self.old goal) (bindings_now self.old) (items_now self.old rest) ∷ choice_points_in self.old) }
         ensures good { OnOk result (IsGood self.new) }
         ensures rest { self.new ≡ record self.old { frames = self.new.frames } }
         ensures boxes { self.new.frames.boxes ≡ self.old.frames.boxes }
     {
-        let lists = self.lists.len();
+        let continuations = self.continuations.len();
         let calls = self.calls;
         self.push(
             ChoiceKind::Redo(call),
             rest,
             Held {
                 goal,
-                lists,
+                continuations,
                 calls,
                 barrier: Barrier::Call(call),
                 condition: 0,
@@ -112,21 +112,21 @@ impl Core {
     // A box has no further alternative.
     pub(crate) fn push_fail(&mut self, call: u64, goal: Ref, rest: u64) -> Result<(), Memory>
         requires good { IsGood self.old }
-        requires there { rest < length self.old.lists }
+        requires there { rest < length self.old.continuations }
         requires goal { IsGoal (length self.old.store.names) self.old.bindings.terms goal }
         ensures choices { OnOk result (choice_points_in self.new ≡ visit.Fail call (goal_now self.old goal) (bindings_now self.old) (items_now self.old rest) ∷ choice_points_in self.old) }
         ensures good { OnOk result (IsGood self.new) }
         ensures rest { self.new ≡ record self.old { frames = self.new.frames } }
         ensures boxes { self.new.frames.boxes ≡ self.old.frames.boxes }
     {
-        let lists = self.lists.len();
+        let continuations = self.continuations.len();
         let calls = self.calls;
         self.push(
             ChoiceKind::Fail(call),
             rest,
             Held {
                 goal,
-                lists,
+                continuations,
                 calls,
                 barrier: Barrier::Call(call),
                 condition: 0,
@@ -146,10 +146,10 @@ impl Core {
         rest: u64,
     ) -> Result<(), Memory>
         requires good { IsGood self.old }
-        requires there { rest < length self.old.lists }
+        requires there { rest < length self.old.continuations }
         requires goal { IsGoal (length self.old.store.names) self.old.bindings.terms goal }
         requires known { AreKnown (length self.old.store.names) snapshot.now }
-        requires called { IsCalled self.old.frames.boxes self.old.calls self.old.lists call goal rest }
+        requires called { IsCalled self.old.frames.boxes self.old.calls self.old.continuations call goal rest }
         ensures choices { OnOk result (choice_points_in self.new ≡ with_more (clauses_from self.old.store snapshot.now next) call (goal_now self.old goal)
             (bindings_now self.old) (items_now self.old rest) (choice_points_in self.old)) }
         ensures good { OnOk result (IsGood self.new) }
@@ -158,11 +158,11 @@ impl Core {
     {
         if next < snapshot.len() {
             let snapshot = snapshot.copy()?;
-            let lists = self.lists.len();
+            let continuations = self.continuations.len();
             let calls = self.calls;
             let kept = Held {
                 goal,
-                lists,
+                continuations,
                 calls,
                 barrier: Barrier::Call(call),
                 condition: 0,
@@ -182,21 +182,21 @@ impl Core {
         rest: u64,
     ) -> Result<(), Memory>
         requires good { IsGood self.old }
-        requires there { rest < length self.old.lists }
+        requires there { rest < length self.old.continuations }
         requires goal { IsGoal (length self.old.store.names) self.old.bindings.terms goal }
         ensures choices { OnOk result (choice_points_in self.new ≡ visit.Branch (goal_now self.old goal) barrier (bindings_now self.old) (items_now self.old rest) ∷ choice_points_in self.old) }
         ensures good { OnOk result (IsGood self.new) }
         ensures rest { self.new ≡ record self.old { frames = self.new.frames } }
         ensures boxes { self.new.frames.boxes ≡ self.old.frames.boxes }
     {
-        let lists = self.lists.len();
+        let continuations = self.continuations.len();
         let calls = self.calls;
         self.push(
             ChoiceKind::Branch(rest),
             rest,
             Held {
                 goal,
-                lists,
+                continuations,
                 calls,
                 barrier,
                 condition: 0,
@@ -215,21 +215,21 @@ impl Core {
         rest: u64,
     ) -> Result<(), Memory>
         requires good { IsGood self.old }
-        requires there { rest < length self.old.lists }
+        requires there { rest < length self.old.continuations }
         requires goal { IsGoal (length self.old.store.names) self.old.bindings.terms goal }
         ensures choices { OnOk result (choice_points_in self.new ≡ visit.Condition condition (goal_now self.old goal) barrier (bindings_now self.old) (items_now self.old rest) ∷ choice_points_in self.old) }
         ensures good { OnOk result (IsGood self.new) }
         ensures rest { self.new ≡ record self.old { frames = self.new.frames } }
         ensures boxes { self.new.frames.boxes ≡ self.old.frames.boxes }
     {
-        let lists = self.lists.len();
+        let continuations = self.continuations.len();
         let calls = self.calls;
         self.push(
             ChoiceKind::Condition(rest),
             rest,
             Held {
                 goal,
-                lists,
+                continuations,
                 calls,
                 barrier,
                 condition,

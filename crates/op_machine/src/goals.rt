@@ -11,9 +11,9 @@ ghost use Rattle.op_machine.specs.Program.{IsKnown, AreKnown};
 ghost use Rattle.op_term.specs.Places.{term_at};
 ghost use Rattle.op_logic.specs.Term.{args_of, arity};
 
+use crate::continuations::Item;
 use crate::core_state::{Core, Mode, Step};
 use crate::kind::{Kind, kind_of};
-use crate::lists::Item;
 use op_base::Memory;
 use op_bind::{Clause, Ref};
 use op_store::Snapshot;
@@ -24,7 +24,7 @@ impl Core {
     // A goal is selected.
     pub(crate) fn select(&mut self, goal: Ref, barrier: Barrier, rest: u64) -> Result<Step, Memory>
         requires good { IsGood self.old }
-        requires there { rest < length self.old.lists }
+        requires there { rest < length self.old.continuations }
         requires goal { IsGoal (length self.old.store.names) self.old.bindings.terms goal }
         requires fits { self.old.events < 2 ^ 63 }
         requires calls { self.old.calls < 2 ^ 63 }
@@ -42,7 +42,7 @@ impl Core {
     // A goal of which the step was paid.
     fn choose(&mut self, goal: Ref, barrier: Barrier, rest: u64) -> Result<Step, Memory>
         requires good { IsGood self.old }
-        requires there { rest < length self.old.lists }
+        requires there { rest < length self.old.continuations }
         requires goal { IsGoal (length self.old.store.names) self.old.bindings.terms goal }
         requires fits { self.old.events < 2 ^ 63 }
         requires calls { self.old.calls < 2 ^ 63 }
@@ -83,7 +83,7 @@ impl Core {
     // Both goals of a conjunction come next.
     fn select_conjunction(&mut self, goal: Ref, barrier: Barrier, rest: u64) -> Result<(), Memory>
         requires good { IsGood self.old }
-        requires there { rest < length self.old.lists }
+        requires there { rest < length self.old.continuations }
         requires goal { IsGoal (length self.old.store.names) self.old.bindings.terms goal }
         requires two { arity (args_of (term_at self.old.bindings.terms goal)) ≡ 2 }
         ensures advances { OnOk result (Advances self.old self.new (silent (Forward (conjunction_before self.old goal barrier rest) (choice_points_in self.old) (bindings_now self.old) (world_in self.old))) step.Silent) }
@@ -119,11 +119,11 @@ impl Core {
         rest: u64,
     ) -> Result<Step, Memory>
         requires good { IsGood self.old }
-        requires there { rest < length self.old.lists }
+        requires there { rest < length self.old.continuations }
         requires goal { IsGoal (length self.old.store.names) self.old.bindings.terms goal }
         requires here { next < length snapshot.now }
         requires known { AreKnown (length self.old.store.names) snapshot.now }
-        requires called { IsCalled self.old.frames.boxes self.old.calls self.old.lists call goal rest }
+        requires called { IsCalled self.old.frames.boxes self.old.calls self.old.continuations call goal rest }
         requires steps { self.old.steps ≤ self.old.budget }
         ensures advances { IfOk result (Advances self.old self.new (clauses_tried self.old snapshot.now next call goal rest)) }
         ensures keeps { Keeps self.old self.new }
@@ -136,10 +136,10 @@ impl Core {
     // A clause for the goal of a box is tried: a step, and those of the head.
     fn attempt(&mut self, clause: &Clause, call: u64, goal: Ref, rest: u64) -> Result<Step, Memory>
         requires good { IsGood self.old }
-        requires there { rest < length self.old.lists }
+        requires there { rest < length self.old.continuations }
         requires goal { IsGoal (length self.old.store.names) self.old.bindings.terms goal }
         requires known { IsKnown (length self.old.store.names) clause.now }
-        requires called { IsCalled self.old.frames.boxes self.old.calls self.old.lists call goal rest }
+        requires called { IsCalled self.old.frames.boxes self.old.calls self.old.continuations call goal rest }
         requires steps { self.old.steps ≤ self.old.budget }
         ensures advances { IfOk result (Advances self.old self.new (clause_tried self.old clause.now call goal rest)) }
         ensures keeps { Keeps self.old self.new }
@@ -153,10 +153,10 @@ impl Core {
     // A clause's head is unified with the goal; where they match, its body comes next.
     fn meet(&mut self, clause: &Clause, call: u64, goal: Ref, rest: u64) -> Result<Step, Memory>
         requires good { IsGood self.old }
-        requires there { rest < length self.old.lists }
+        requires there { rest < length self.old.continuations }
         requires goal { IsGoal (length self.old.store.names) self.old.bindings.terms goal }
         requires known { IsKnown (length self.old.store.names) clause.now }
-        requires called { IsCalled self.old.frames.boxes self.old.calls self.old.lists call goal rest }
+        requires called { IsCalled self.old.frames.boxes self.old.calls self.old.continuations call goal rest }
         requires steps { self.old.steps ≤ self.old.budget }
         ensures advances { IfOk result (Advances self.old self.new (clause_met self.old clause.now call goal rest)) }
         ensures keeps { Keeps self.old self.new }

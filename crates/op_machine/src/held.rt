@@ -7,8 +7,8 @@ use op_trace::Barrier;
 pub struct Held {
     /// The goal of the box, or of the branch that is tried.
     pub goal: Ref,
-    /// How many lists there were when the choice point was made.
-    pub lists: u64,
+    /// How many continuations there were when the choice point was made.
+    pub continuations: u64,
     /// How many boxes had been called.
     pub calls: u64,
     /// Where a cut in a branch cuts to.

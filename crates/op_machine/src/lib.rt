@@ -3,12 +3,12 @@
 
 mod branches;
 mod choice_points;
+mod continuations;
 mod core_state;
 mod goals;
 mod held;
 mod kind;
 pub mod laws;
-mod lists;
 mod machine;
 mod moves;
 mod parts;

@@ -7,9 +7,9 @@ ghost use Rattle.op_machine.specs.Resume.{move, Forward, Backward};
 ghost use Rattle.op_machine.specs.Boxes.{IsCalled, IsTried};
 ghost use Rattle.op_machine.specs.Rows.{Keeps, Advances, clauses_tried};
 
+use crate::continuations::Item;
 use crate::core_state::{Core, Ending, Mode, Step};
 use crate::held::Held;
-use crate::lists::Item;
 use op_base::Memory;
 use op_frames::{Choice, ChoiceKind};
 use op_trace::Port;
@@ -33,10 +33,10 @@ impl Core {
         }
     }
 
-    // The first item of a list is done, or there is none.
+    // The first item of a continuation is done, or there is none.
     fn forward(&mut self, items: u64) -> Result<Step, Memory>
         requires good { IsGood self.old }
-        requires there { items < length self.old.lists }
+        requires there { items < length self.old.continuations }
         requires events { self.old.events < 2 ^ 63 }
         requires solutions { self.old.solutions < 2 ^ 63 }
         requires calls { self.old.calls < 2 ^ 63 }
@@ -46,7 +46,7 @@ impl Core {
             (Forward (items_now self.old items) (choice_points_in self.old) (bindings_now self.old) (world_in self.old)))) }
         ensures keeps { Keeps self.old self.new }
     {
-        match self.lists.first(items) {
+        match self.continuations.first(items) {
             Some((item, rest)) => self.perform(item, rest),
             None => Ok(self.solve()),
         }
@@ -56,7 +56,7 @@ impl Core {
     fn perform(&mut self, item: Item, rest: u64) -> Result<Step, Memory>
         requires good { IsGood self.old }
         requires item { IsItem (length self.old.store.names) self.old.bindings.terms item }
-        requires there { rest < length self.old.lists }
+        requires there { rest < length self.old.continuations }
         requires events { self.old.events < 2 ^ 63 }
         requires calls { self.old.calls < 2 ^ 63 }
         requires conditions { self.old.conditions < 2 ^ 63 }
@@ -105,7 +105,7 @@ impl Core {
         requires good { IsGood self.old }
         requires frame { IsFrame self.old.store (level_in self.old) choice.now }
         requires calls { choice.now.kept.calls ≤ self.old.calls }
-        requires tried { IsTried self.old.frames.boxes self.old.lists choice.now.kind choice.now.kept choice.now.rest }
+        requires tried { IsTried self.old.frames.boxes self.old.continuations choice.now.kind choice.now.kept choice.now.rest }
         requires events { self.old.events < 2 ^ 63 }
         requires steps { self.old.steps ≤ self.old.budget }
         ensures advances { IfOk result (Advances self.old self.new (move (setup_of self.old)
@@ -127,11 +127,11 @@ impl Core {
     // The next of the clauses that a choice point keeps is tried.
     fn go_on(&mut self, kept: &Held, call: u64, rest: u64) -> Result<Step, Memory>
         requires good { IsGood self.old }
-        requires there { rest < length self.old.lists }
+        requires there { rest < length self.old.continuations }
         requires goal { IsGoal (length self.old.store.names) self.old.bindings.terms kept.now.goal }
         requires here { kept.now.next < length (snapshot_clauses kept.now.snapshot) }
         requires known { AreKnown (length self.old.store.names) (snapshot_clauses kept.now.snapshot) }
-        requires called { IsCalled self.old.frames.boxes self.old.calls self.old.lists call kept.now.goal rest }
+        requires called { IsCalled self.old.frames.boxes self.old.calls self.old.continuations call kept.now.goal rest }
         requires steps { self.old.steps ≤ self.old.budget }
         ensures advances { IfOk result (Advances self.old self.new (clauses_tried self.old (snapshot_clauses kept.now.snapshot) kept.now.next call kept.now.goal rest)) }
         ensures keeps { Keeps self.old self.new }

@@ -10,7 +10,7 @@ push_clauses-requires-clause-called c =
     let boxed : Core = c.call_box.new.self in
     let shown : Core = c.show.new.self in
     let pushed : Core = c.push_fail.new.self in
-    let at : Core → List BoxFrame → Type 0 = λ x B. IsCalled B x.calls x.lists c.in_ok-call.call c.args.goal c.args.rest in
+    let at : Core → List BoxFrame → Type 0 = λ x B. IsCalled B x.calls x.continuations c.in_ok-call.call c.args.goal c.args.rest in
     let same = c.in_ok-push_fail.ensures.boxes ∙ ap (λ (x : Core). x.frames.boxes) c.show.ensures.rest in
     subst (λ (x : Core). at x pushed.frames.boxes) (sym c.in_ok-push_fail.ensures.rest)
     (subst (λ (x : Core). at x pushed.frames.boxes) (sym c.show.ensures.rest)

@@ -35,5 +35,5 @@ pub attempt-requires-clause-called : goal.attempt-requires-clause-called
 attempt-requires-clause-called c =
     let old : Core = c.args.self.now in
     let mid : Core = c.push_more.new.self in
-    subst (λ (x : Core). IsCalled mid.frames.boxes x.calls x.lists c.args.call c.args.goal c.args.rest) (sym c.in_ok-push_more.ensures.rest)
-    (subst (λ (B : List BoxFrame). IsCalled B old.calls old.lists c.args.call c.args.goal c.args.rest) (sym c.in_ok-push_more.ensures.boxes) c.requires.called)
+    subst (λ (x : Core). IsCalled mid.frames.boxes x.calls x.continuations c.args.call c.args.goal c.args.rest) (sym c.in_ok-push_more.ensures.rest)
+    (subst (λ (B : List BoxFrame). IsCalled B old.calls old.continuations c.args.call c.args.goal c.args.rest) (sym c.in_ok-push_more.ensures.boxes) c.requires.called)
