@@ -33,7 +33,7 @@ pub fn open_boxes(alloc: Global, from: u64, number: u64) -> Result<String, Memor
     Ok(line)
 }
 
-/// Of four choices how many a cut leaves, and what they keep, the last first.
+/// Of four choice points how many a cut leaves, and what they keep, the last first.
 pub fn choices(alloc: Global, barrier: u64) -> Result<String, Memory> {
     let bindings = Bindings::new(alloc);
     let mark = bindings.mark();

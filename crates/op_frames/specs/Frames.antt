@@ -1,4 +1,4 @@
--- Boxes and choices, in the order in which they were made.
+-- Boxes and choice points, in the order in which they were made.
 use Rattle.std.specs.Prelude.{ℕ, ◌==◌, List, [], ◌∷◌, reverse, if◌then◌else◌}
 use Rattle.std.specs.List.Sorted.{IsNonDecreasingBy}
 use Rattle.op_frames.specs.declared.boxes.BoxFrame.{BoxFrame}

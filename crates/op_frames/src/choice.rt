@@ -19,7 +19,7 @@ pub enum ChoiceKind {
     Findall(u64),
 }
 
-/// A choice: the bindings to return to, the items that go on in the machine's own list, and what else the machine keeps with it.
+/// A choice point: the bindings to return to, the items that go on in the machine's own list, and what else the machine keeps with it.
 #[derive(Drop)]
 pub struct Choice<T> {
     pub mark: Mark,

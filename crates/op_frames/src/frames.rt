@@ -9,7 +9,7 @@ use op_bind::{Mark, Ref};
 use std::alloc::Global;
 use std::marker::Model;
 
-/// Boxes by rising number, and choices, each in the order in which they were made.
+/// Boxes by rising number, and choice points, each in the order in which they were made.
 #[derive(Drop)]
 pub struct Frames<T> {
     boxes: Vec<BoxFrame>,
@@ -27,7 +27,7 @@ impl<T> Model for Frames<T> {
 }
 
 impl<T: Drop> Frames<T> {
-    /// No box and no choice.
+    /// No box and no choice point.
     pub fn new(alloc: Global) -> Frames<T>
         ensures boxes { result.boxes ≡ [] }
         ensures choices { result.choices ≡ [] }
@@ -68,7 +68,7 @@ impl<T: Drop> Frames<T> {
         self.boxes.truncate(kept);
     }
 
-    /// Adds a choice.
+    /// Adds a choice point.
     pub fn push_choice(&mut self, choice: Choice<T>) -> Result<(), Memory>
         ensures ok { OnOk result (self.new ≡ record self.old { choices = self.old.choices ++ choice ∷ [] }) }
         ensures err { OnErr result (self.new ≡ self.old) }
@@ -77,7 +77,7 @@ impl<T: Drop> Frames<T> {
         Ok(())
     }
 
-    /// Takes the last choice; None where there is none.
+    /// Takes the last choice point; None where there is none.
     pub fn pop_choice(&mut self) -> Option<Choice<T>>
         ensures choices { MatchOption result (self.old.choices ≡ []) (λ c. self.old.choices ≡ self.new.choices ++ c ∷ []) }
         ensures none { MatchOption result (self.new ≡ self.old) (λ c. self.new ≡ record self.old { choices = self.new.choices }) }
@@ -85,14 +85,14 @@ impl<T: Drop> Frames<T> {
         self.choices.pop()
     }
 
-    /// Keeps the first `barrier` choices, and frees the others.
+    /// Keeps the first `barrier` choice points, and frees the others.
     pub fn cut_to(&mut self, barrier: u64)
         ensures { self.new ≡ record self.old { choices = take barrier self.old.choices } }
     {
         self.choices.truncate(barrier as usize);
     }
 
-    /// The choices, in the order in which they were made.
+    /// The choice points, in the order in which they were made.
     pub fn choices(&self) -> &[Choice<T>]
         ensures { result.now ≡ self.now.choices }
     {

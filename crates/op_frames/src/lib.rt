@@ -1,4 +1,4 @@
-//! What a machine keeps of a walk over a search tree: the boxes that were called, and the choices that are left.
+//! What a machine keeps of a walk over a search tree: the boxes that were called, and the choice points that are left.
 #![tactic(auto)]
 
 mod boxes;

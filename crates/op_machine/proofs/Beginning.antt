@@ -16,21 +16,21 @@ use Rattle.op_trace.specs.Run.{started}
 use Rattle.op_machine.specs.declared.core_state.Core.{Core}
 use Rattle.op_machine.specs.declared.core_state.Mode.{Mode}
 use Rattle.op_machine.specs.declared.core_state.Mode.TheVariants as mode
-use Rattle.op_machine.specs.declared.lists.Item.{Item}
-use Rattle.op_machine.specs.declared.lists.Item.TheVariants as item
+use Rattle.op_machine.specs.declared.continuations.Item.{Item}
+use Rattle.op_machine.specs.declared.continuations.Item.TheVariants as item
 use Rattle.op_store.specs.declared.goal.Goal.{Goal}
 use Rattle.op_store.specs.Queries.{IsSoundGoal}
 use Rattle.op_store.specs.Stored.{Stored}
 use Rattle.op_machine.specs.Program.{clauses, goal_named}
-use Rattle.op_machine.specs.Core.{Level, level_in, setup_of, world_in, state_with, state_of, items_in, item_term, bindings_in, choices_of, IsGood, IsGoal, AreLists, AreFrames, AreValues, IsFailure, IsMode, IsSound, Frame}
-use Rattle.op_machine.specs.Lists.{list_in}
+use Rattle.op_machine.specs.Core.{Level, level_in, setup_of, world_in, state_with, state_of, items_in, item_term, bindings_in, choice_points_of, IsGood, IsGoal, AreContinuations, AreFrames, AreValues, IsFailure, IsMode, IsSound, Frame}
+use Rattle.op_machine.specs.Continuations.{continuation_in}
 use Rattle.op_frames.specs.declared.boxes.BoxFrame.{BoxFrame}
 use Rattle.op_machine.specs.Boxes.{exits, innermost, AreBoxes, AreBoxed}
 use Rattle.op_machine.specs.Counted.{Counted}
-use Rattle.op_machine.specs.Resume.{State, Going}
+use Rattle.op_machine.specs.Resume.{State, Forward}
 use Rattle.op_machine.specs.Scope.{InStep}
 use Rattle.op_machine.specs.Turned.{IsBegun}
-use Rattle.op_machine.specs.Made.{first_lists, IsMade}
+use Rattle.op_machine.specs.Made.{first_continuations, IsMade}
 use Rattle.op_machine.specs.declared.parts.Parts.{Parts}
 use Rattle.op_machine.specs.declared.held.Held.{Held}
 use Rattle.op_frames.specs.Frames.{Framed}
@@ -39,7 +39,7 @@ use Rattle.op_machine.proofs.Valuing.{values-stay}
 
 -- what was made before the first move
 pub record IsFirst (c : Core) (q : Goal) (body : ℕ) : Type 0 where
-  pub lists : c.lists ≡ first_lists body
+  pub continuations : c.continuations ≡ first_continuations body
   pub mode : c.mode ≡ mode.Forward 1
   pub frames : c.frames.choices ≡ []
   pub boxes : c.frames.boxes ≡ []
@@ -54,7 +54,7 @@ pub record IsFirst (c : Core) (q : Goal) (body : ℕ) : Type 0 where
   pub numbers : (c.calls ≡ 0) × (c.steps ≡ 0) × (c.events ≡ 0) × (c.solutions ≡ 0) × (c.conditions ≡ 0)
 
 abbrev begun : Stored → Goal → State
-begun t q = Going (world.Goal (goal_named t q.body) (Call 0) ∷ []) [] [] (started q.vars (loaded (clauses t)))
+begun t q = Forward (world.Goal (goal_named t q.body) (Call 0) ∷ []) [] [] (started q.vars (loaded (clauses t)))
 
 abbrev numbered : Stored → ℕ → ℕ → ℕ → ℕ → ℕ → ℕ → World
 numbered t variables calls conditions steps events solutions =
@@ -80,13 +80,13 @@ first-state c q body n query f =
     let t : Stored = c.store in
     let v : Level = level_in c in
     let items : items_in t v 1 ≡ world.Goal (goal_named t q.body) (Call 0) ∷ [] =
-    ap (λ (L : List (List Item)). map (item_term t v) (list_in L 1)) f.lists ∙ ap (λ (x : Term ℕ). world.Goal (goal_named t x) (Call 0) ∷ []) f.value in
+    ap (λ (L : List (List Item)). map (item_term t v) (continuation_in L 1)) f.continuations ∙ ap (λ (x : Term ℕ). world.Goal (goal_named t x) (Call 0) ∷ []) f.value in
     let bound : bindings_in t v ≡ [] = ap (λ (ps : List (ℕ × ℕ)). rename_bindings (name_at t.names) (resolved c.bindings.terms ps)) f.bound in
     ap (state_with t v c.frames.choices (world_in c)) f.mode
-    ∙ (ap (λ (F : List Frame). Going (items_in t v 1) (choices_of t v (reverse F)) (bindings_in t v) (world_in c)) f.frames
-    ∙ (ap (λ I. Going I [] (bindings_in t v) (world_in c)) items
-    ∙ (ap (λ (σ : Bindings Text). Going (world.Goal (goal_named t q.body) (Call 0) ∷ []) [] σ (world_in c)) bound
-    ∙ ap (λ (w : World). Going (world.Goal (goal_named t q.body) (Call 0) ∷ []) [] [] w) (first-world c q body n query f))))
+    ∙ (ap (λ (F : List Frame). Forward (items_in t v 1) (choice_points_of t v (reverse F)) (bindings_in t v) (world_in c)) f.frames
+    ∙ (ap (λ I. Forward I [] (bindings_in t v) (world_in c)) items
+    ∙ (ap (λ (σ : Bindings Text). Forward (world.Goal (goal_named t q.body) (Call 0) ∷ []) [] σ (world_in c)) bound
+    ∙ ap (λ (w : World). Forward (world.Goal (goal_named t q.body) (Call 0) ∷ []) [] [] w) (first-world c q body n query f))))
 
 pub first-begun : (c : Core) (q : Goal) (body n budget wanted : ℕ) → IsSoundGoal n q → IsFirst c q body → c.budget ≡ budget → c.wanted ≡ wanted → IsBegun c.store q.body q.vars q.names budget wanted c
 first-begun c q body n budget wanted query f b w = record {
@@ -97,29 +97,29 @@ first-begun c q body n budget wanted query f b w = record {
   turns = omega (arith, f.numbers.2, f.numbers.3);
 }
 
-first-lists-good : (n : ℕ) (ts : List (Term ℕ)) (body : ℕ) → IsGoal n ts body → AreLists n ts (first_lists body)
-first-lists-good n ts body g zero h = tt
-first-lists-good n ts body g (suc zero) h = (g, tt)
-first-lists-good n ts body g (suc (suc m)) h = absurd (omega arith)
+first-continuations-good : (n : ℕ) (ts : List (Term ℕ)) (body : ℕ) → IsGoal n ts body → AreContinuations n ts (first_continuations body)
+first-continuations-good n ts body g zero h = tt
+first-continuations-good n ts body g (suc zero) h = (g, tt)
+first-continuations-good n ts body g (suc (suc m)) h = absurd (omega arith)
 
-first-list : (body n : ℕ) → n < length (first_lists body) → exits (list_in (first_lists body) n) ≡ []
-first-list body zero h = refl
-first-list body (suc zero) h = refl
-first-list body (suc (suc n)) h = absurd (omega arith)
+first-continuation : (body n : ℕ) → n < length (first_continuations body) → exits (continuation_in (first_continuations body) n) ≡ []
+first-continuation body zero h = refl
+first-continuation body (suc zero) h = refl
+first-continuation body (suc (suc n)) h = absurd (omega arith)
 
-first-innermost : (body n : ℕ) → n < length (first_lists body) → innermost (list_in (first_lists body) n) ≡ 0
+first-innermost : (body n : ℕ) → n < length (first_continuations body) → innermost (continuation_in (first_continuations body) n) ≡ 0
 first-innermost body zero h = refl
 first-innermost body (suc zero) h = refl
 first-innermost body (suc (suc n)) h = absurd (omega arith)
 
 -- no box was called
-first-boxes : (c : Core) (q : Goal) (body : ℕ) → IsFirst c q body → AreBoxes c.frames.boxes c.calls c.lists
+first-boxes : (c : Core) (q : Goal) (body : ℕ) → IsFirst c q body → AreBoxes c.frames.boxes c.calls c.continuations
 first-boxes c q body f =
-    subst (λ (B : List BoxFrame). AreBoxes B c.calls c.lists) (sym f.boxes)
-    (subst (AreBoxes [] c.calls) (sym f.lists) (record {
+    subst (λ (B : List BoxFrame). AreBoxes B c.calls c.continuations) (sym f.boxes)
+    (subst (AreBoxes [] c.calls) (sym f.continuations) (record {
       numbers = λ i d h. absurd (omega arith);
       given = λ n h. omega (arith, first-innermost body n h);
-      chains = λ n h. sym (first-list body n h);
+      chains = λ n h. sym (first-continuation body n h);
     }))
 
 first-good : (c : Core) (q : Goal) (body : ℕ) → IsSoundGoal (length c.store.names) q → IsFirst c q body → IsGood c
@@ -128,16 +128,16 @@ first-good c q body query f =
     let goal : IsGoal n c.bindings.terms body = (f.there, subst (HasNames n) (sym f.value) query.names) in
     record {
       level = record {
-        lists = subst (AreLists n c.bindings.terms) (sym f.lists) (first-lists-good n c.bindings.terms body goal);
+        continuations = subst (AreContinuations n c.bindings.terms) (sym f.continuations) (first-continuations-good n c.bindings.terms body goal);
         bound = subst (λ (ps : List (ℕ × ℕ)). HaveNames n (resolved c.bindings.terms ps)) (sym f.bound) tt;
         floor_there = f.floor_there;
       };
       frames = subst (λ (F : List Frame). AreFrames c.store c.floor.terms (level_in c) (reverse F)) (sym f.frames) tt;
-      mode = subst (λ (q : Mode). IsMode (length c.lists) q) (sym f.mode) (subst (λ (L : List (List Item)). 1 < length L) (sym f.lists) (omega arith));
+      mode = subst (λ (q : Mode). IsMode (length c.continuations) q) (sym f.mode) (subst (λ (L : List (List Item)). 1 < length L) (sym f.continuations) (omega arith));
       values = subst (AreValues (take c.floor.terms c.bindings.terms) c.values.items) (sym f.names) f.values;
       failure = f.failure;
       boxes = first-boxes c q body f;
-      boxed = subst (λ (F : List Frame). AreBoxed c.frames.boxes c.lists c.calls (length c.lists) (reverse F)) (sym f.frames) tt;
+      boxed = subst (λ (F : List Frame). AreBoxed c.frames.boxes c.continuations c.calls (length c.continuations) (reverse F)) (sym f.frames) tt;
     }
 
 pub first-sound : (c : Core) (q : Goal) (body : ℕ) → IsSoundGoal (length c.store.names) q → IsFirst c q body → c.budget ≤ 1000000000 → IsSound c
@@ -155,7 +155,7 @@ abbrev pub core_of : Stored → Framed Held → Parts → ℕ → ℕ → Core
 core_of t f p budget wanted = record {
   store = t;
   bindings = p.bindings;
-  lists = p.lists;
+  continuations = p.continuations;
   frames = f;
   mode = mode.Forward p.items;
   seen = record { chrono = 0; call = 0; parent = 0; depth = 0; port = port.Call; goal = p.body };
@@ -174,7 +174,7 @@ core_of t f p budget wanted = record {
 
 pub first-core : (t : Stored) (f : Framed Held) (p : Parts) (q : Goal) (budget wanted : ℕ) → IsMade q p → f.choices ≡ [] → f.boxes ≡ [] → IsFirst (core_of t f p budget wanted) q p.body
 first-core t f p q budget wanted made choices boxes = record {
-  lists = made.lists;
+  continuations = made.continuations;
   mode = ap mode.Forward made.items;
   frames = choices;
   boxes = boxes;
@@ -196,14 +196,14 @@ pub parts-made : (p : Parts) (q : Goal) (first : ℕ) (none given valued failed 
     → failed.bound ≡ valued.bound → failed.count ≡ valued.count → Grows valued failed → p.failure < length failed.terms → term_at failed.terms p.failure ≡ atom 1
     → p.floor ≡ bind.mark_of failed → p.body < length p.bindings.terms → term_at p.bindings.terms p.body ≡ shift first q.body
     → p.bindings.bound ≡ failed.bound → p.bindings.count ≡ failed.count → Grows failed p.bindings
-    → empty ≡ [] ∷ [] → p.items ≡ length empty → p.lists ≡ empty ++ (item.Goal p.body (Call 0) ∷ list_in empty 0) ∷ []
+    → empty ≡ [] ∷ [] → p.items ≡ length empty → p.continuations ≡ empty ++ (item.Goal p.body (Call 0) ∷ continuation_in empty 0) ∷ []
     → p.names ≡ q.names → IsMade q p
 parts-made p q first none given valued failed empty en ef eg vb vc vv fb fc more inside fail em there value cb cc_ grows ee ei el names =
     let start : first ≡ 0 = ef ∙ ap (λ (s : bind.State). s.count) en in
     let at : p.floor.terms ≡ length failed.terms = ap (λ (m : bind.Marked). m.terms) em in
     let front : take p.floor.terms p.bindings.terms ≡ failed.terms = ap (λ (n : ℕ). take n p.bindings.terms) at ∙ grows.terms in
     record {
-      lists = el ∙ ap (λ (L : List (List Item)). L ++ (item.Goal p.body (Call 0) ∷ list_in L 0) ∷ []) ee;
+      continuations = el ∙ ap (λ (L : List (List Item)). L ++ (item.Goal p.body (Call 0) ∷ continuation_in L 0) ∷ []) ee;
       items = ei ∙ ap (λ (L : List (List Item)). length L) ee;
       bound = cb ∙ (fb ∙ (vb ∙ (ap (λ (s : bind.State). s.bound) eg ∙ ap (λ (s : bind.State). s.bound) en)));
       there = there;

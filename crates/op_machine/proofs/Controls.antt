@@ -10,7 +10,7 @@ use Rattle.op_term.specs.Head.{head, sym as sym_of}
 use Rattle.op_term.specs.declared.node.Node.TheVariants as nodes
 use Rattle.op_term.specs.declared.symbols.Sym.{Sym}
 use Rattle.op_trace.specs.World.{Text, text_eq}
-use Rattle.op_trace.specs.Visit.{Control, Succeed, Give_up, Commit, If, Either, Invoke, disjunction, control, control_of_atom, control_of_pair, is_true}
+use Rattle.op_trace.specs.Visit.{Control, TrueGoal, FailGoal, CutGoal, IfThenElse, Disjunction, BoxedGoal, control_of_disjunction, control, control_of_atom, control_of_pair, is_true}
 use Rattle.op_trace.specs.Visit as visit
 use Rattle.op_store.specs.Stored.{Stored, first_names}
 use Rattle.op_machine.specs.Program.{goal_named}
@@ -41,21 +41,21 @@ module _ (t : Stored) (table : IsTable t.names) (begins : take 8 t.names ≡ fir
   other-text : (n k : ℕ) (x : Text) → k < 8 → name_at first_names k ≡ x → n ≢ k → text_eq (name_at t.names n) x ≡ false
   other-text n k x h e ne = subst (λ (y : Text). text_eq (name_at t.names n) y ≡ false) (first-name t.names k begins h ∙ e) (names-differ t.names n k table ne)
 
-  pub truth-atom : (n : ℕ) → n ≡ 0 → control_of_atom (name_at t.names n) ≡ Succeed
-  truth-atom n e = rw (same-text n 0 (codes "true") (omega arith) refl e) refl
+  pub true_name-atom : (n : ℕ) → n ≡ 0 → control_of_atom (name_at t.names n) ≡ TrueGoal
+  true_name-atom n e = rw (same-text n 0 (codes "true") (omega arith) refl e) refl
 
-  pub failure-atom : (n : ℕ) → n ≡ 1 → control_of_atom (name_at t.names n) ≡ Give_up
-  failure-atom n e = rw (other-text n 0 (codes "true") (omega arith) refl (λ q. omega arith), same-text n 1 (codes "fail") (omega arith) refl e) refl
+  pub fail_name-atom : (n : ℕ) → n ≡ 1 → control_of_atom (name_at t.names n) ≡ FailGoal
+  fail_name-atom n e = rw (other-text n 0 (codes "true") (omega arith) refl (λ q. omega arith), same-text n 1 (codes "fail") (omega arith) refl e) refl
 
-  pub falsity-atom : (n : ℕ) → n ≡ 2 → control_of_atom (name_at t.names n) ≡ Give_up
-  falsity-atom n e =
+  pub false_name-atom : (n : ℕ) → n ≡ 2 → control_of_atom (name_at t.names n) ≡ FailGoal
+  false_name-atom n e =
       rw (other-text n 0 (codes "true") (omega arith) refl (λ q. omega arith), other-text n 1 (codes "fail") (omega arith) refl (λ q. omega arith), same-text n 2 (codes "false") (omega arith) refl e) refl
 
-  pub cut-atom : (n : ℕ) → n ≡ 6 → control_of_atom (name_at t.names n) ≡ Commit
-  cut-atom n e =
+  pub cut_name-atom : (n : ℕ) → n ≡ 6 → control_of_atom (name_at t.names n) ≡ CutGoal
+  cut_name-atom n e =
       rw (other-text n 0 (codes "true") (omega arith) refl (λ q. omega arith), other-text n 1 (codes "fail") (omega arith) refl (λ q. omega arith), other-text n 2 (codes "false") (omega arith) refl (λ q. omega arith), same-text n 6 (codes "!") (omega arith) refl e) refl
 
-  pub other-atom : (n : ℕ) → n ≢ 0 → n ≢ 1 → n ≢ 2 → n ≢ 6 → control_of_atom (name_at t.names n) ≡ Invoke
+  pub other-atom : (n : ℕ) → n ≢ 0 → n ≢ 1 → n ≢ 2 → n ≢ 6 → control_of_atom (name_at t.names n) ≡ BoxedGoal
   other-atom n a b c d =
       rw (other-text n 0 (codes "true") (omega arith) refl a, other-text n 1 (codes "fail") (omega arith) refl b, other-text n 2 (codes "false") (omega arith) refl c, other-text n 6 (codes "!") (omega arith) refl d) refl
 
@@ -65,32 +65,32 @@ module _ (t : Stored) (table : IsTable t.names) (begins : take 8 t.names ≡ fir
   pub not-true-atom : (n : ℕ) → n ≢ 0 → is_true (goal_named t (node n no_args)) ≡ false
   not-true-atom n e = other-text n 0 (codes "true") (omega arith) refl e
 
-  pub comma-pair : (n : ℕ) (a b : Term Text) → n ≡ 3 → control_of_pair (name_at t.names n) a b ≡ visit.Both a b
-  comma-pair n a b e = rw (same-text n 3 (codes ",") (omega arith) refl e) refl
+  pub conjunction-pair : (n : ℕ) (a b : Term Text) → n ≡ 3 → control_of_pair (name_at t.names n) a b ≡ visit.Conjunction a b
+  conjunction-pair n a b e = rw (same-text n 3 (codes ",") (omega arith) refl e) refl
 
-  pub either-pair : (n : ℕ) (a b : Term Text) → n ≡ 4 → control_of_pair (name_at t.names n) a b ≡ disjunction a b
-  either-pair n a b e = rw (other-text n 3 (codes ",") (omega arith) refl (λ q. omega arith), same-text n 4 (codes ";") (omega arith) refl e) refl
+  pub disjunction-pair : (n : ℕ) (a b : Term Text) → n ≡ 4 → control_of_pair (name_at t.names n) a b ≡ control_of_disjunction a b
+  disjunction-pair n a b e = rw (other-text n 3 (codes ",") (omega arith) refl (λ q. omega arith), same-text n 4 (codes ";") (omega arith) refl e) refl
 
-  pub then-pair : (n : ℕ) (a b : Term Text) → n ≡ 5 → control_of_pair (name_at t.names n) a b ≡ If a b (atom (codes "fail"))
-  then-pair n a b e =
+  pub if_then-pair : (n : ℕ) (a b : Term Text) → n ≡ 5 → control_of_pair (name_at t.names n) a b ≡ IfThenElse a b (atom (codes "fail"))
+  if_then-pair n a b e =
       rw (other-text n 3 (codes ",") (omega arith) refl (λ q. omega arith), other-text n 4 (codes ";") (omega arith) refl (λ q. omega arith), same-text n 5 (codes "->") (omega arith) refl e) refl
 
-  pub other-pair : (n : ℕ) (a b : Term Text) → n ≢ 3 → n ≢ 4 → n ≢ 5 → control_of_pair (name_at t.names n) a b ≡ Invoke
+  pub other-pair : (n : ℕ) (a b : Term Text) → n ≢ 3 → n ≢ 4 → n ≢ 5 → control_of_pair (name_at t.names n) a b ≡ BoxedGoal
   other-pair n a b x y z =
       rw (other-text n 3 (codes ",") (omega arith) refl x, other-text n 4 (codes ";") (omega arith) refl y, other-text n 5 (codes "->") (omega arith) refl z) refl
 
   -- the kind of an atom, by its number
-  pub atom-control : (g : Term ℕ) (n : ℕ) (k : Kind) → (n ≡ 0 → k ≡ kinds.Truth) → (n ≡ 1 → k ≡ kinds.Failure) → (n ≡ 2 → k ≡ kinds.Failure) → (n ≡ 6 → k ≡ kinds.Cut)
+  pub atom-control : (g : Term ℕ) (n : ℕ) (k : Kind) → (n ≡ 0 → k ≡ kinds.True) → (n ≡ 1 → k ≡ kinds.Fail) → (n ≡ 2 → k ≡ kinds.Fail) → (n ≡ 6 → k ≡ kinds.Cut)
       → (2 < n → n ≢ 6 → k ≡ kinds.Boxed) → control_of_atom (name_at t.names n) ≡ control_of_kind t g k
   atom-control g n k a b c d e =
-      by_equal n 0 (λ q. truth-atom n q ∙ ap (control_of_kind t g) (sym (a q))) (λ x.
-      by_equal n 1 (λ q. failure-atom n q ∙ ap (control_of_kind t g) (sym (b q))) (λ y.
-      by_equal n 2 (λ q. falsity-atom n q ∙ ap (control_of_kind t g) (sym (c q))) (λ z.
-      by_equal n 6 (λ q. cut-atom n q ∙ ap (control_of_kind t g) (sym (d q))) (λ w.
+      by_equal n 0 (λ q. true_name-atom n q ∙ ap (control_of_kind t g) (sym (a q))) (λ x.
+      by_equal n 1 (λ q. fail_name-atom n q ∙ ap (control_of_kind t g) (sym (b q))) (λ y.
+      by_equal n 2 (λ q. false_name-atom n q ∙ ap (control_of_kind t g) (sym (c q))) (λ z.
+      by_equal n 6 (λ q. cut_name-atom n q ∙ ap (control_of_kind t g) (sym (d q))) (λ w.
       other-atom n x y z w ∙ ap (control_of_kind t g) (sym (e (omega (arith, x, y, z)) w))))))
 
   -- the kind of a compound, by its number and its arguments
-  pub struct-control : (f : ℕ) (ts : Args ℕ) (k : Kind) → 0 < arity ts → (f ≡ 3 → arity ts ≡ 2 → k ≡ kinds.Both) → (f ≡ 4 → arity ts ≡ 2 → k ≡ kinds.Either) → (f ≡ 5 → arity ts ≡ 2 → k ≡ kinds.Then)
+  pub struct-control : (f : ℕ) (ts : Args ℕ) (k : Kind) → 0 < arity ts → (f ≡ 3 → arity ts ≡ 2 → k ≡ kinds.Conjunction) → (f ≡ 4 → arity ts ≡ 2 → k ≡ kinds.Disjunction) → (f ≡ 5 → arity ts ≡ 2 → k ≡ kinds.IfThen)
       → (f ≢ 3 → f ≢ 4 → f ≢ 5 → k ≡ kinds.Boxed) → (arity ts ≢ 2 → k ≡ kinds.Boxed)
       → control (goal_named t (node f ts)) ≡ control_of_kind t (node f ts) k
   struct-control f no_args k p a b c d l = absurd (omega (arith, p))
@@ -99,25 +99,25 @@ module _ (t : Stored) (table : IsTable t.names) (begins : take 8 t.names ≡ fir
       let X : Term Text = goal_named t x in
       let Y : Term Text = goal_named t y in
       let of : Kind → Control = control_of_kind t (node f (arg x (arg y no_args))) in
-      by_equal f 3 (λ e. comma-pair f X Y e ∙ ap of (sym (a e refl))) (λ m.
-      by_equal f 4 (λ e. either-pair f X Y e ∙ ap of (sym (b e refl))) (λ n.
-      by_equal f 5 (λ e. then-pair f X Y e ∙ ap of (sym (c e refl))) (λ o.
+      by_equal f 3 (λ e. conjunction-pair f X Y e ∙ ap of (sym (a e refl))) (λ m.
+      by_equal f 4 (λ e. disjunction-pair f X Y e ∙ ap of (sym (b e refl))) (λ n.
+      by_equal f 5 (λ e. if_then-pair f X Y e ∙ ap of (sym (c e refl))) (λ o.
       other-pair f X Y m n o ∙ ap of (sym (d m n o)))))
   struct-control f (arg x (arg y (arg z us))) k p a b c d l = ap (control_of_kind t (node f (arg x (arg y (arg z us))))) (sym (l (λ q. omega (arith, q))))
 
   -- whether the first part of a disjunction is a condition
-  pub then-disjunction : (g : Term ℕ) (e : Term Text) → g ≡ node 5 (args_of g) → arity (args_of g) ≡ 2
-      → disjunction (goal_named t g) e ≡ If (goal_named t (nth_arg (args_of g) 0)) (goal_named t (nth_arg (args_of g) 1)) e
-  then-disjunction (var v) e q two = absurd cc
-  then-disjunction (int i) e q two = absurd cc
-  then-disjunction (node f no_args) e q two = absurd (omega (arith, two))
-  then-disjunction (node f (arg x no_args)) e q two = absurd (omega (arith, two))
-  then-disjunction (node f (arg x (arg y no_args))) e q two =
+  pub if_then-disjunction : (g : Term ℕ) (e : Term Text) → g ≡ node 5 (args_of g) → arity (args_of g) ≡ 2
+      → control_of_disjunction (goal_named t g) e ≡ IfThenElse (goal_named t (nth_arg (args_of g) 0)) (goal_named t (nth_arg (args_of g) 1)) e
+  if_then-disjunction (var v) e q two = absurd cc
+  if_then-disjunction (int i) e q two = absurd cc
+  if_then-disjunction (node f no_args) e q two = absurd (omega (arith, two))
+  if_then-disjunction (node f (arg x no_args)) e q two = absurd (omega (arith, two))
+  if_then-disjunction (node f (arg x (arg y no_args))) e q two =
       let is : f ≡ 5 = cc in
       rw (same-text f 5 (codes "->") (omega arith) refl is) refl
-  then-disjunction (node f (arg x (arg y (arg z us)))) e q two = absurd (omega (arith, two))
+  if_then-disjunction (node f (arg x (arg y (arg z us)))) e q two = absurd (omega (arith, two))
 
-  pub other-disjunction : (g : Term ℕ) (e : Term Text) → ((ts : Args ℕ) → g ≡ node 5 ts → arity ts ≡ 2 → ⊥) → disjunction (goal_named t g) e ≡ Either (goal_named t g) e
+  pub other-disjunction : (g : Term ℕ) (e : Term Text) → ((ts : Args ℕ) → g ≡ node 5 ts → arity ts ≡ 2 → ⊥) → control_of_disjunction (goal_named t g) e ≡ Disjunction (goal_named t g) e
   other-disjunction (var v) e other = refl
   other-disjunction (int i) e other = refl
   other-disjunction (node f no_args) e other = refl
@@ -149,12 +149,12 @@ not-true t (node f no_args) h = absurd (h (sym_of f) refl)
 not-true t (node f (arg x xs)) h = refl
 
 -- no atom has two parts
-pub no-pair : {P : Type 0} (n : ℕ) (k : Kind) → IsPair k → (n ≡ 0 → k ≡ kinds.Truth) → (n ≡ 1 → k ≡ kinds.Failure) → (n ≡ 2 → k ≡ kinds.Failure) → (n ≡ 6 → k ≡ kinds.Cut)
+pub no-pair : {P : Type 0} (n : ℕ) (k : Kind) → IsPair k → (n ≡ 0 → k ≡ kinds.True) → (n ≡ 1 → k ≡ kinds.Fail) → (n ≡ 2 → k ≡ kinds.Fail) → (n ≡ 6 → k ≡ kinds.Cut)
     → (2 < n → n ≢ 6 → k ≡ kinds.Boxed) → P
 no-pair {P} n k pair a b c d e =
-    by_equal n 0 (λ q. single kinds.Truth (a q) (λ h. h)) (λ x.
-    by_equal n 1 (λ q. single kinds.Failure (b q) (λ h. h)) (λ y.
-    by_equal n 2 (λ q. single kinds.Failure (c q) (λ h. h)) (λ z.
+    by_equal n 0 (λ q. single kinds.True (a q) (λ h. h)) (λ x.
+    by_equal n 1 (λ q. single kinds.Fail (b q) (λ h. h)) (λ y.
+    by_equal n 2 (λ q. single kinds.Fail (c q) (λ h. h)) (λ z.
     by_equal n 6 (λ q. single kinds.Cut (d q) (λ h. h)) (λ w. single kinds.Boxed (e (omega (arith, x, y, z)) w) (λ h. h)))))
   where
     single : (j : Kind) → k ≡ j → (IsPair j → ⊥) → P

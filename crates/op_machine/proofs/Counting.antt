@@ -6,9 +6,9 @@ use Rattle.op_logic.specs.Bind.{Bindings, solve, unify, Solved as Result}
 use Rattle.op_trace.specs.declared.barrier.Barrier.{Barrier}
 use Rattle.op_trace.specs.declared.barrier.Barrier.TheVariants.{Call}
 use Rattle.op_trace.specs.World.{Text, text_eq, Clause, World, Setup, Item, Goal, Cut, Exit, open_boxes, procedure}
-use Rattle.op_trace.specs.Visit.{Stopped, Control, Succeed, Give_up, Commit, Both, Either, If, Invoke, control, is_true, entered, Choice, Redo, Branch, More, Fail, Condition}
+use Rattle.op_trace.specs.Visit.{Stopped, Control, TrueGoal, FailGoal, CutGoal, Conjunction, Disjunction, IfThenElse, BoxedGoal, control, is_true, entered, Choice, Redo, Branch, More, Fail, Condition}
 use Rattle.op_trace.proofs.Later.{IsLess, within-less}
-use Rattle.op_machine.specs.Resume.{stays, goes, keep, with_more, State, Going, Back, Over, Moved, paid, chosen, met, tried, branched, move}
+use Rattle.op_machine.specs.Resume.{stays, goes, keep, with_more, State, Forward, Backward, Over, Moved, paid, chosen, met, tried, branched, move}
 use Rattle.op_machine.specs.Counted.{pending, IsNested, AreNested, event_bound, Counts, Counted}
 
 -- the bound rises with the steps
@@ -110,13 +110,13 @@ chosen-counted q s n t m J K σ w e below c con sol ev nest all = go q
     up = bound-up n w.steps (omega arith)
 
     go : (q : Control) → Counted s (chosen q t m J K σ w).state
-    go Succeed = (record { steps = below; calls = omega arith; conditions = omega arith }, omega (arith, up), omega arith, nest, all)
-    go Give_up = (record { steps = below; calls = omega arith; conditions = omega arith }, omega (arith, up), omega arith, all)
-    go Commit = (record { steps = below; calls = omega arith; conditions = omega arith }, omega (arith, up, keep-pending m K), omega arith, nest, keep-nested w.calls m K all)
-    go (Either a b) = (record { steps = below; calls = omega arith; conditions = omega arith }, omega (arith, up), omega arith, nest, (nest, all))
-    go (If x a b) = (record { steps = below; calls = omega arith; conditions = omega arith }, omega (arith, up), omega arith, (tt, nest), (nest, all))
-    go (Both a b) = (record { steps = below; calls = omega arith; conditions = omega arith }, omega (arith, up), omega arith, nest, all)
-    go Invoke =
+    go TrueGoal = (record { steps = below; calls = omega arith; conditions = omega arith }, omega (arith, up), omega arith, nest, all)
+    go FailGoal = (record { steps = below; calls = omega arith; conditions = omega arith }, omega (arith, up), omega arith, all)
+    go CutGoal = (record { steps = below; calls = omega arith; conditions = omega arith }, omega (arith, up, keep-pending m K), omega arith, nest, keep-nested w.calls m K all)
+    go (Disjunction a b) = (record { steps = below; calls = omega arith; conditions = omega arith }, omega (arith, up), omega arith, nest, (nest, all))
+    go (IfThenElse x a b) = (record { steps = below; calls = omega arith; conditions = omega arith }, omega (arith, up), omega arith, (tt, nest), (nest, all))
+    go (Conjunction a b) = (record { steps = below; calls = omega arith; conditions = omega arith }, omega (arith, up), omega arith, nest, all)
+    go BoxedGoal =
         let more : w.calls ≤ w.calls + 1 = omega arith in
         let deep : length (open_boxes J) ≤ w.calls = nested-length w.calls J nest in
         let this : IsNested (w.calls + 1) (Exit (w.calls + 1) t ∷ J) = (omega arith, omega arith, nested-more w.calls (w.calls + 1) J more nest) in
@@ -184,22 +184,22 @@ branched-counted s t m σ J K w counts sol ev nest all =
     (record { steps = fits; calls = omega (arith, counts.calls); conditions = omega (arith, counts.conditions) }, omega (arith, up, deep, counts.calls), omega arith, nest, all))
 
 pub move-counted : (s : Setup) (t : State) → Counted s t → Counted s (move s t).state
-move-counted s (Going [] K σ w) h = go (w.solutions + 1 == s.wanted)
+move-counted s (Forward [] K σ w) h = go (w.solutions + 1 == s.wanted)
   where
-    go : (b : Bool) → Counted s (if b then Over Stopped (record w { solutions = w.solutions + 1 }) else Back K (record w { solutions = w.solutions + 1 }))
+    go : (b : Bool) → Counted s (if b then Over Stopped (record w { solutions = w.solutions + 1 }) else Backward K (record w { solutions = w.solutions + 1 }))
     go true = (record { steps = h.0.steps; calls = h.0.calls; conditions = h.0.conditions }, omega arith, omega arith)
     go false = (record { steps = h.0.steps; calls = h.0.calls; conditions = h.0.conditions }, omega arith, omega arith, h.4)
-move-counted s (Going (Exit k g ∷ J) K σ w) h =
+move-counted s (Forward (Exit k g ∷ J) K σ w) h =
     (record { steps = h.0.steps; calls = h.0.calls; conditions = h.0.conditions }, omega arith, h.2, h.3.2, (h.3, h.4))
-move-counted s (Going (Cut m ∷ J) K σ w) h = (h.0, omega (arith, h.1, keep-pending m K), h.2, h.3.1, keep-nested w.calls m K h.4)
-move-counted s (Going (Goal t m ∷ J) K σ w) h =
+move-counted s (Forward (Cut m ∷ J) K σ w) h = (h.0, omega (arith, h.1, keep-pending m K), h.2, h.3.1, keep-nested w.calls m K h.4)
+move-counted s (Forward (Goal t m ∷ J) K σ w) h =
     paid-counted (nat_le (w.steps + 1) s.budget) s 1 w _ refl h.0 (omega arith) (omega arith)
     (λ fits. chosen-counted (control t) s w.steps t m J K σ (record w { steps = w.steps + 1 }) refl fits h.0.calls h.0.conditions h.2 h.1 h.3 h.4)
-move-counted s (Back [] w) h = (record { steps = h.0.steps; calls = h.0.calls; conditions = h.0.conditions }, omega arith, h.2)
-move-counted s (Back (Redo k g σ J ∷ K) w) h = (record { steps = h.0.steps; calls = h.0.calls; conditions = h.0.conditions }, omega arith, h.2, h.3.1)
-move-counted s (Back (Branch t m σ J ∷ K) w) h = branched-counted s t m σ J K w h.0 h.2 h.1 h.3.0 h.3.1
-move-counted s (Back (Condition n t m σ J ∷ K) w) h = branched-counted s t m σ J K w h.0 h.2 h.1 h.3.0 h.3.1
-move-counted s (Back (Fail k g σ J ∷ K) w) h = (record { steps = h.0.steps; calls = h.0.calls; conditions = h.0.conditions }, omega arith, h.2, h.3.1)
-move-counted s (Back (More [] k g σ J ∷ K) w) h = (record { steps = h.0.steps; calls = h.0.calls; conditions = h.0.conditions }, h.1, h.2, h.3.1)
-move-counted s (Back (More (c ∷ cs) k g σ J ∷ K) w) h = tried-counted s c k g σ J (with_more cs k g σ J K) w h.0 h.2 (omega (arith, h.1, more-pending cs k g σ J K)) h.3.0 (more-nested w.calls cs k g σ J K h.3.0 h.3.1)
+move-counted s (Backward [] w) h = (record { steps = h.0.steps; calls = h.0.calls; conditions = h.0.conditions }, omega arith, h.2)
+move-counted s (Backward (Redo k g σ J ∷ K) w) h = (record { steps = h.0.steps; calls = h.0.calls; conditions = h.0.conditions }, omega arith, h.2, h.3.1)
+move-counted s (Backward (Branch t m σ J ∷ K) w) h = branched-counted s t m σ J K w h.0 h.2 h.1 h.3.0 h.3.1
+move-counted s (Backward (Condition n t m σ J ∷ K) w) h = branched-counted s t m σ J K w h.0 h.2 h.1 h.3.0 h.3.1
+move-counted s (Backward (Fail k g σ J ∷ K) w) h = (record { steps = h.0.steps; calls = h.0.calls; conditions = h.0.conditions }, omega arith, h.2, h.3.1)
+move-counted s (Backward (More [] k g σ J ∷ K) w) h = (record { steps = h.0.steps; calls = h.0.calls; conditions = h.0.conditions }, h.1, h.2, h.3.1)
+move-counted s (Backward (More (c ∷ cs) k g σ J ∷ K) w) h = tried-counted s c k g σ J (with_more cs k g σ J K) w h.0 h.2 (omega (arith, h.1, more-pending cs k g σ J K)) h.3.0 (more-nested w.calls cs k g σ J K h.3.0 h.3.1)
 move-counted s (Over r w) h = h

@@ -4,12 +4,12 @@ use Rattle.op_logic.specs.Term.{Term, shift}
 use Rattle.op_logic.specs.Bind.{Bindings, unify, Solved as Result}
 use Rattle.op_trace.specs.declared.port.Port.TheVariants as port
 use Rattle.op_trace.specs.declared.barrier.Barrier.{Barrier}
-use Rattle.op_trace.specs.declared.barrier.Barrier.TheVariants.{Call, Within, Past}
+use Rattle.op_trace.specs.declared.barrier.Barrier.TheVariants.{Call, InCondition, AtSuccess}
 use Rattle.op_trace.specs.World.{Text, text_eq, Clause, World, Setup, same_barrier, Item, Goal, Cut, Exit, Turn, Shown, Solved, procedure}
-use Rattle.op_trace.specs.Visit.{Verdict, Failed, CutTo, Stopped, Spent, Visited, gives, with_turns, and_then, event_of, with_event, pays, reaches, cut, shows, Control, Succeed, Give_up, Commit, Both, Either, If, Invoke, control, entered, Choice, Redo, Branch, More, Fail, Condition, matched, tries, alternatives, branches, after, boxed, selected, solved, visit, visit_with}
+use Rattle.op_trace.specs.Visit.{Verdict, Failed, CutTo, Stopped, Spent, Visited, gives, with_turns, and_then, event_of, with_event, pays, reaches, cut, shows, Control, TrueGoal, FailGoal, CutGoal, Conjunction, Disjunction, IfThenElse, BoxedGoal, control, entered, Choice, Redo, Branch, More, Fail, Condition, matched, tries, alternatives, branches, after, boxed, selected, solved, visit, visit_with}
 use Rattle.op_trace.proofs.Agree.{visit_rows}
 use Rattle.op_trace.proofs.Only.{Only, visit-only}
-use Rattle.op_machine.specs.Resume.{resume, keep, with_more, State, Going, Back, Over, owed, Moved, silent, paid, invoked, chosen, met, tried, branched, at_solution, move, world_of}
+use Rattle.op_machine.specs.Resume.{resume, keep, with_more, State, Forward, Backward, Over, owed, Moved, silent, paid, invoked, chosen, met, tried, branched, at_solution, move, world_of}
 use Rattle.op_machine.specs.Scope.{Behind, InStep}
 
 -- a walk that leads to another, and then to a third
@@ -18,7 +18,7 @@ pub and_then-assoc : (v : Visited) (h i : Verdict → World → Visited)
 and_then-assoc v h i =
     ap (λ (ts : List Turn). record { turns = ts; verdict = (i (h v.verdict v.world).verdict (h v.verdict v.world).world).verdict; world = (i (h v.verdict v.world).verdict (h v.verdict v.world).world).world }) (append_assoc v.turns (h v.verdict v.world).turns (i (h v.verdict v.world).verdict (h v.verdict v.world).world).turns)
 
--- the results that no choice changes
+-- the results that no choice point changes
 pub resume-Stopped : (s : Setup) (K : List Choice) (w : World) → resume s K Stopped w ≡ gives Stopped w
 unfolding resume
 resume-Stopped s [] w = refl
@@ -39,7 +39,7 @@ resume-Spent s (More [] k g σ J ∷ K) w = resume-Spent s K w
 resume-Spent s (More (c ∷ cs) k g σ J ∷ K) w = resume-Spent s K w
 resume-Spent s (Fail k g σ J ∷ K) w = resume-Spent s K w
 
--- a cut leads to the choices that it keeps
+-- a cut leads to the choice points that it keeps
 pub resume-cut : (s : Setup) (K : List Choice) (m : Barrier) (w : World) → resume s K (CutTo m) w ≡ resume s (keep m K) Failed w
 unfolding resume
 resume-cut s [] m w = refl
@@ -54,7 +54,7 @@ resume-cut s (Fail k g σ J ∷ K) m w = go (same_barrier m (Call k)) (resume-cu
         ≡ resume s (if b then Fail k g σ J ∷ K else keep m K) Failed w
     go true below = refl
     go false below = below
-resume-cut s (Condition n t b σ J ∷ K) m w = go (same_barrier m (Within n)) (same_barrier m (Past n)) (resume-cut s K m w)
+resume-cut s (Condition n t b σ J ∷ K) m w = go (same_barrier m (InCondition n)) (same_barrier m (AtSuccess n)) (resume-cut s K m w)
   where
     go : (c d : Bool) → resume s K (CutTo m) w ≡ resume s (keep m K) Failed w
         → and_then (reaches c (branches (visit s) s t b σ J) (reaches d (gives Failed) (gives (CutTo m))) w) (resume s K)
@@ -97,7 +97,7 @@ matched-row s c k g J w (Some (None, left)) K = refl
 matched-row s c k g J w (Some (Some τ, left)) K =
     paid-row (nat_le (s.budget - left + c.variables) s.budget) s c.variables (record w { steps = s.budget - left })
     (λ u. visit s (entered w.variables c k g J) τ (record u { variables = u.variables + c.variables }))
-    (λ u. silent (Going (entered w.variables c k g J) K τ (record u { variables = u.variables + c.variables }))) K refl
+    (λ u. silent (Forward (entered w.variables c k g J) K τ (record u { variables = u.variables + c.variables }))) K refl
 
 pub tried-row : (s : Setup) (c : Clause) (k : ℕ) (g : Term Text) (σ : Bindings Text) (J : List Item) (w : World) (K : List Choice)
     → and_then (tries (visit s) s c k g σ J w) (resume s K) ≡ comes s (tried s c k g σ J K w)
@@ -108,13 +108,13 @@ tried-row s c k g σ J w K =
     (λ u. met s c k g J K u (unify text_eq (s.budget - u.steps) σ ((g, shift u.variables c.head) ∷ []))) K
     (matched-row s c k g J (record w { steps = w.steps + 1 }) (unify text_eq (s.budget - (w.steps + 1)) σ ((g, shift w.variables c.head) ∷ [])) K)
 
--- a walk whose row makes a choice
+-- a walk whose row makes a choice point
 pub push-row : (s : Setup) (v : Visited) (c : Choice) (K : List Choice)
     → and_then (and_then v (after (visit s) s c)) (resume s K) ≡ and_then v (resume s (c ∷ K))
 unfolding resume
 push-row s v c K = and_then-assoc v (after (visit s) s c) (resume s K)
 
--- no further clauses are no choice
+-- no further clauses are no choice point
 pub resume-with_more : (s : Setup) (cs : List Clause) (k : ℕ) (g : Term Text) (σ : Bindings Text) (J : List Item) (K : List Choice) (r : Verdict) (w : World)
     → resume s (with_more cs k g σ J K) r w ≡ resume s (More cs k g σ J ∷ K) r w
 unfolding resume
@@ -135,20 +135,20 @@ pub branched-row : (s : Setup) (t : Term Text) (m : Barrier) (σ : Bindings Text
     → and_then (branches (visit s) s t m σ J w) (resume s K) ≡ comes s (branched s t m σ J K w)
 unfolding owed
 branched-row s t m σ J w K =
-    paid-row (nat_le (w.steps + 1) s.budget) s 1 w (visit s (Goal t m ∷ J) σ) (λ u. silent (Going (Goal t m ∷ J) K σ u)) K refl
+    paid-row (nat_le (w.steps + 1) s.budget) s 1 w (visit s (Goal t m ∷ J) σ) (λ u. silent (Forward (Goal t m ∷ J) K σ u)) K refl
 
 pub selected-row : (s : Setup) (q : Control) (t : Term Text) (m : Barrier) (J : List Item) (σ : Bindings Text) (w : World) (K : List Choice)
     → Behind m K J → and_then (selected (visit s) s q t m J σ w) (resume s K) ≡ comes s (chosen q t m J K σ w)
 unfolding owed
-selected-row s Succeed t m J σ w K b = refl
-selected-row s Give_up t m J σ w K b = refl
-selected-row s Commit t m J σ w K b = cuts-row s m J K σ w b
-selected-row s (Both x y) t m J σ w K b = refl
-selected-row s (Either x y) t m J σ w K b = push-row s (visit s (Goal x m ∷ J) σ w) (Branch y m σ J) K
-selected-row s (If c x y) t m J σ w K b =
+selected-row s TrueGoal t m J σ w K b = refl
+selected-row s FailGoal t m J σ w K b = refl
+selected-row s CutGoal t m J σ w K b = cuts-row s m J K σ w b
+selected-row s (Conjunction x y) t m J σ w K b = refl
+selected-row s (Disjunction x y) t m J σ w K b = push-row s (visit s (Goal x m ∷ J) σ w) (Branch y m σ J) K
+selected-row s (IfThenElse c x y) t m J σ w K b =
     let n : ℕ = w.conditions + 1 in
-    push-row s (visit s (Goal c (Within n) ∷ Cut (Past n) ∷ Goal x m ∷ J) σ (record w { conditions = n })) (Condition n y m σ J) K
-selected-row s Invoke t m J σ w K b = boxed-row s t J σ w K
+    push-row s (visit s (Goal c (InCondition n) ∷ Cut (AtSuccess n) ∷ Goal x m ∷ J) σ (record w { conditions = n })) (Condition n y m σ J) K
+selected-row s BoxedGoal t m J σ w K b = boxed-row s t J σ w K
 
 pub solved-row : (s : Setup) (σ : Bindings Text) (w : World) (K : List Choice)
     → and_then (solved s σ w) (resume s K) ≡ comes s (at_solution s K σ w)
@@ -159,12 +159,12 @@ solved-row s σ w K = go (w.solutions + 1 == s.wanted)
     u = record w { solutions = w.solutions + 1 }
 
     go : (b : Bool) → and_then (with_turns (Solved σ (record w { solutions = w.solutions + 1 }) ∷ []) (gives (if b then Stopped else Failed) (record w { solutions = w.solutions + 1 }))) (resume s K)
-        ≡ comes s (record { turns = Solved σ (record w { solutions = w.solutions + 1 }) ∷ []; state = if b then Over Stopped (record w { solutions = w.solutions + 1 }) else Back K (record w { solutions = w.solutions + 1 }) })
+        ≡ comes s (record { turns = Solved σ (record w { solutions = w.solutions + 1 }) ∷ []; state = if b then Over Stopped (record w { solutions = w.solutions + 1 }) else Backward K (record w { solutions = w.solutions + 1 }) })
     go true = ap (with_turns (Solved σ (record w { solutions = w.solutions + 1 }) ∷ [])) (resume-Stopped s K (record w { solutions = w.solutions + 1 }))
     go false = refl
 
 pub exit-row : (s : Setup) (k : ℕ) (g : Term Text) (J : List Item) (σ : Bindings Text) (w : World) (K : List Choice) → w.steps ≤ s.budget
-    → and_then (visit_with (visit s) s (Exit k g ∷ J) σ w) (resume s K) ≡ comes s (move s (Going (Exit k g ∷ J) K σ w))
+    → and_then (visit_with (visit s) s (Exit k g ∷ J) σ w) (resume s K) ≡ comes s (move s (Forward (Exit k g ∷ J) K σ w))
 unfolding owed visit_with resume
 exit-row s k g J σ w K below =
     ap (with_turns (Shown (event_of port.Exit k g σ J w) (with_event w) ∷ []))
@@ -174,23 +174,23 @@ exit-row s k g J σ w K below =
 -- what is owed before a move is the turn that it shows and what is owed after it
 pub move-row : (s : Setup) (t : State) → (world_of t).steps ≤ s.budget → InStep t → owed s t ≡ comes s (move s t)
 unfolding owed resume visit_with
-move-row s (Going [] K σ w) below h = ap (λ (v : Visited). and_then v (resume s K)) (visit_rows s [] σ w below) ∙ solved-row s σ w K
-move-row s (Going (Exit k g ∷ J) K σ w) below h =
+move-row s (Forward [] K σ w) below h = ap (λ (v : Visited). and_then v (resume s K)) (visit_rows s [] σ w below) ∙ solved-row s σ w K
+move-row s (Forward (Exit k g ∷ J) K σ w) below h =
     ap (λ (v : Visited). and_then v (resume s K)) (visit_rows s (Exit k g ∷ J) σ w below) ∙ exit-row s k g J σ w K below
-move-row s (Going (Cut m ∷ J) K σ w) below h =
+move-row s (Forward (Cut m ∷ J) K σ w) below h =
     ap (λ (v : Visited). and_then v (resume s K)) (visit_rows s (Cut m ∷ J) σ w below)
     ∙ (ap (λ (v : Visited). and_then (and_then v (cut m)) (resume s K)) (sym (visit_rows s J σ w below)) ∙ cuts-row s m J K σ w h.0.0)
-move-row s (Going (Goal t m ∷ J) K σ w) below h =
+move-row s (Forward (Goal t m ∷ J) K σ w) below h =
     ap (λ (v : Visited). and_then v (resume s K)) (visit_rows s (Goal t m ∷ J) σ w below)
     ∙ paid-row (nat_le (w.steps + 1) s.budget) s 1 w (selected (visit s) s (control t) t m J σ) (chosen (control t) t m J K σ) K
     (selected-row s (control t) t m J σ (record w { steps = w.steps + 1 }) K h.0.0)
-move-row s (Back [] w) below h = refl
-move-row s (Back (Redo k g σ J ∷ K) w) below h = refl
-move-row s (Back (Branch t m σ J ∷ K) w) below h = branched-row s t m σ J w K
-move-row s (Back (Condition n t m σ J ∷ K) w) below h = branched-row s t m σ J w K
-move-row s (Back (Fail k g σ J ∷ K) w) below h = refl
-move-row s (Back (More [] k g σ J ∷ K) w) below h = refl
-move-row s (Back (More (c ∷ cs) k g σ J ∷ K) w) below h =
+move-row s (Backward [] w) below h = refl
+move-row s (Backward (Redo k g σ J ∷ K) w) below h = refl
+move-row s (Backward (Branch t m σ J ∷ K) w) below h = branched-row s t m σ J w K
+move-row s (Backward (Condition n t m σ J ∷ K) w) below h = branched-row s t m σ J w K
+move-row s (Backward (Fail k g σ J ∷ K) w) below h = refl
+move-row s (Backward (More [] k g σ J ∷ K) w) below h = refl
+move-row s (Backward (More (c ∷ cs) k g σ J ∷ K) w) below h =
     let v : Visited = tries (visit s) s c k g σ J w in
     push-row s v (More cs k g σ J) K
     ∙ (ap (with_turns v.turns) (sym (resume-with_more s cs k g σ J K v.verdict v.world)) ∙ tried-row s c k g σ J w (with_more cs k g σ J K))

@@ -14,11 +14,11 @@ use Rattle.op_machine.specs.declared.core_state.Mode.TheVariants as mode
 use Rattle.op_machine.specs.declared.core_state.Ending.TheVariants as outcome
 use Rattle.op_machine.specs.declared.core_state.Step.{Step}
 use Rattle.op_machine.specs.declared.core_state.Step.TheVariants as step
-use Rattle.op_bind.specs.declared.places.Clause.{Clause as Rule}
+use Rattle.op_bind.specs.declared.places.Clause.{Clause as NumberedClause}
 use Rattle.op_machine.specs.Program.{clauses, clauses_from, clause_in}
-use Rattle.op_machine.specs.Core.{Frame, level_in, choices_of, setup_of, world_in, items_now, goal_now, bindings_now, choices_in, event_seen, IsGood, IsGoal}
-use Rattle.op_machine.specs.Rows.{Advances, goal_moved, chosen_now, rule_tried, rule_met, rules_tried, box_invoked}
-use Rattle.op_machine.specs.Resume.{Back, Over, Moved, silent, pay, met, tried, move, with_more}
+use Rattle.op_machine.specs.Core.{Frame, level_in, choice_points_of, setup_of, world_in, items_now, goal_now, bindings_now, choice_points_in, event_seen, IsGood, IsGoal}
+use Rattle.op_machine.specs.Rows.{Advances, goal_moved, chosen_now, clause_tried, clause_met, clauses_tried, box_invoked}
+use Rattle.op_machine.specs.Resume.{Backward, Over, Moved, silent, pay, met, tried, move, with_more}
 use Rattle.op_machine.proofs.Paying.{pay-yes, pay-no}
 use Rattle.op_machine.proofs.Choosing.{clauses_from-here}
 
@@ -70,24 +70,24 @@ chosen-paid c paid new g n m s e fits a =
     (subst (λ (x : Core). Advances x new (chosen_now x (goal_now x g) m n (world_in x)) s) e a)
 
 -- the clause was paid, and then its head was met
-pub tried-paid : (c paid new : Core) (r : Rule) (k g n : ℕ) (s : Step) → paid ≡ record c { steps = c.steps + 1 } → c.steps + 1 ≤ c.budget
-    → Advances paid new (rule_met paid r k g n) s → Advances c new (rule_tried c r k g n) s
+pub tried-paid : (c paid new : Core) (r : NumberedClause) (k g n : ℕ) (s : Step) → paid ≡ record c { steps = c.steps + 1 } → c.steps + 1 ≤ c.budget
+    → Advances paid new (clause_met paid r k g n) s → Advances c new (clause_tried c r k g n) s
 tried-paid c paid new r k g n s e fits a =
     let h : World → Moved =
-    λ u. met (setup_of c) (clause_in c.store r) k (goal_now c g) (items_now c n) (choices_in c) u
+    λ u. met (setup_of c) (clause_in c.store r) k (goal_now c g) (items_now c n) (choice_points_in c) u
     (unify text_eq (c.budget - u.steps) (bindings_now c) ((goal_now c g, shift u.variables (clause_in c.store r).head) ∷ [])) in
-    paid-advances c new h s fits (subst (λ (x : Core). Advances x new (rule_met x r k g n) s) e a)
+    paid-advances c new h s fits (subst (λ (x : Core). Advances x new (clause_met x r k g n) s) e a)
 
--- the first of the clauses is tried, with those behind it as a choice
-pub retry-moved : (c mid : Core) (rules : List Rule) (i : ℕ) (r : Rule) (k g n : ℕ) → mid ≡ record c { frames = mid.frames }
-    → choices_in mid ≡ with_more (clauses_from c.store rules (suc i)) k (goal_now c g) (bindings_now c) (items_now c n) (choices_in c)
-    → i < length rules → r ≡ get_or rules i r → rule_tried mid r k g n ≡ rules_tried c rules i k g n
-retry-moved c mid rules i r k g n e choices inside here =
+-- the first of the clauses is tried, with those behind it as a choice point
+pub retry-moved : (c mid : Core) (snapshot : List NumberedClause) (i : ℕ) (r : NumberedClause) (k g n : ℕ) → mid ≡ record c { frames = mid.frames }
+    → choice_points_in mid ≡ with_more (clauses_from c.store snapshot (suc i)) k (goal_now c g) (bindings_now c) (items_now c n) (choice_points_in c)
+    → i < length snapshot → r ≡ get_or snapshot i r → clause_tried mid r k g n ≡ clauses_tried c snapshot i k g n
+retry-moved c mid snapshot i r k g n e choices inside here =
     let J : List world.Item = items_now c n in
     let tried_over : List visit.Choice → Moved = λ K. tried (setup_of c) (clause_in c.store r) k (goal_now c g) (bindings_now c) J K (world_in c) in
-    ap (λ (x : Core). tried (setup_of x) (clause_in x.store r) k (goal_now x g) (bindings_now x) (items_now x n) (choices_in mid) (world_in x)) e
+    ap (λ (x : Core). tried (setup_of x) (clause_in x.store r) k (goal_now x g) (bindings_now x) (items_now x n) (choice_points_in mid) (world_in x)) e
     ∙ (ap tried_over choices
-    ∙ ap (λ (cs : List Clause). move (setup_of c) (Back (visit.More cs k (goal_now c g) (bindings_now c) J ∷ choices_in c) (world_in c))) (sym (clauses_from-here c.store rules i r inside here)))
+    ∙ ap (λ (cs : List Clause). move (setup_of c) (Backward (visit.More cs k (goal_now c g) (bindings_now c) J ∷ choice_points_in c) (world_in c))) (sym (clauses_from-here c.store snapshot i r inside here)))
 
 pub retry-advances : (c mid new : Core) (m : Moved) (n : Moved) (s : Step) → mid ≡ record c { frames = mid.frames } → m ≡ n
     → Advances mid new m s → Advances c new n s
@@ -114,14 +114,14 @@ is_goal_in c g = IsGoal (length c.store.names) c.bindings.terms g
 
 pub invoked-advances : (c more : Core) (g n : ℕ) → more ≡ called c more
     → event_seen c.store c.bindings more.seen ≡ event_of port.Call (c.calls + 1) (goal_now c g) (bindings_now c) (items_now c n) (world_called c)
-    → choices_in more ≡ with_more (procedure (clauses c.store) (goal_now c g)) (c.calls + 1) (goal_now c g) (bindings_now c) (items_now c n)
-    (visit.Fail (c.calls + 1) (goal_now c g) (bindings_now c) (items_now c n) ∷ choices_in c)
+    → choice_points_in more ≡ with_more (procedure (clauses c.store) (goal_now c g)) (c.calls + 1) (goal_now c g) (bindings_now c) (items_now c n)
+    (visit.Fail (c.calls + 1) (goal_now c g) (bindings_now c) (items_now c n) ∷ choice_points_in c)
     → IsGood more → more.seen.goal ≡ g → is_goal_in c g
     → Advances c (record more { mode = mode.Backward }) (box_invoked c g n) step.Event
 invoked-advances c more g n e seen choices good goal there =
     let u : World = world_called c in
     let after : World = with_event u in
-    let K : List visit.Choice = visit.Fail (c.calls + 1) (goal_now c g) (bindings_now c) (items_now c n) ∷ choices_in c in
+    let K : List visit.Choice = visit.Fail (c.calls + 1) (goal_now c g) (bindings_now c) (items_now c n) ∷ choice_points_in c in
     let made : List visit.Choice = with_more (procedure (clauses c.store) (goal_now c g)) (c.calls + 1) (goal_now c g) (bindings_now c) (items_now c n) K in
     let same_world : world_in more ≡ after = ap world_in e in
     let shown : event_seen more.store more.bindings more.seen ≡ event_of port.Call (c.calls + 1) (goal_now c g) (bindings_now c) (items_now c n) u =
@@ -129,7 +129,7 @@ invoked-advances c more g n e seen choices good goal there =
     let there_more : is_goal_in more g = subst (λ (x : Core). is_goal_in x g) (sym e) there in
     record {
       turns = ap (λ (x : Event). Shown x (world_in more) ∷ []) shown ∙ ap (λ (w : World). Shown (event_of port.Call (c.calls + 1) (goal_now c g) (bindings_now c) (items_now c n) u) w ∷ []) same_world;
-      state = ap (λ (L : List visit.Choice). Back L (world_in more)) choices ∙ ap (λ (w : World). Back made w) same_world;
+      state = ap (λ (L : List visit.Choice). Backward L (world_in more)) choices ∙ ap (λ (w : World). Backward made w) same_world;
       good = record { level = good.level; frames = good.frames; mode = tt; values = good.values; failure = good.failure; boxes = good.boxes; boxed = good.boxed };
       looked = subst (λ (x : ℕ). is_goal_in more x) (sym goal) there_more;
       store = ap (λ (x : Core). x.store) e;
@@ -138,17 +138,17 @@ invoked-advances c more g n e seen choices good goal there =
       wanted = ap (λ (x : Core). x.wanted) e;
     }
 
--- the box was called, the event was shown, the choices were made one after the other
-pub invoked-choices : (c boxed shown pushed more : Core) (g n k : ℕ) → k ≡ c.calls + 1
+-- the box was called, the event was shown, the choice points were made one after the other
+pub invoked-choice_points : (c boxed shown pushed more : Core) (g n k : ℕ) → k ≡ c.calls + 1
     → boxed ≡ record c { calls = boxed.calls; frames = boxed.frames } → boxed.calls ≡ c.calls + 1 → boxed.frames.choices ≡ c.frames.choices
     → shown ≡ record boxed { events = boxed.events + 1; seen = shown.seen }
     → pushed ≡ record shown { frames = pushed.frames } → more ≡ record pushed { frames = more.frames }
     → event_seen boxed.store boxed.bindings shown.seen ≡ event_of port.Call k (goal_now boxed g) (bindings_now boxed) (items_now boxed n) (world_in boxed)
-    → choices_in pushed ≡ visit.Fail k (goal_now shown g) (bindings_now shown) (items_now shown n) ∷ choices_in shown
-    → choices_in more ≡ with_more (procedure (clauses pushed.store) (goal_now pushed g)) k (goal_now pushed g) (bindings_now pushed) (items_now pushed n) (choices_in pushed)
+    → choice_points_in pushed ≡ visit.Fail k (goal_now shown g) (bindings_now shown) (items_now shown n) ∷ choice_points_in shown
+    → choice_points_in more ≡ with_more (procedure (clauses pushed.store) (goal_now pushed g)) k (goal_now pushed g) (bindings_now pushed) (items_now pushed n) (choice_points_in pushed)
     → IsGood more → shown.seen.goal ≡ g → is_goal_in c g
     → Advances c (record more { mode = mode.Backward }) (box_invoked c g n) step.Event
-invoked-choices c boxed shown pushed more g n k ek eb ec same_choices es ep em seen one two good goal there =
+invoked-choice_points c boxed shown pushed more g n k ek eb ec same_choice_points es ep em seen one two good goal there =
     let bs : boxed ≡ record c { calls = c.calls + 1; frames = boxed.frames } = eb ∙ ap (λ (i : ℕ). record c { calls = i; frames = boxed.frames }) ec in
     let seen_more : more.seen ≡ shown.seen = ap (λ (x : Core). x.seen) em ∙ ap (λ (x : Core). x.seen) ep in
     let whole : more ≡ called c more =
@@ -158,15 +158,15 @@ invoked-choices c boxed shown pushed more g n k ek eb ec same_choices es ep em s
     ∙ ap (λ (x : Seen). record c { calls = c.calls + 1; events = c.events + 1; seen = x; frames = more.frames }) (sym seen_more)))) in
     let at_pushed : ℕ → Core → List visit.Choice → List visit.Choice = λ j x K. with_more (procedure (clauses x.store) (goal_now x g)) j (goal_now x g) (bindings_now x) (items_now x n) K in
     let fail_at : ℕ → Core → List visit.Choice → List visit.Choice = λ j x K. visit.Fail j (goal_now x g) (bindings_now x) (items_now x n) ∷ K in
-    let below : choices_in boxed ≡ choices_in c =
-    ap (λ (x : Core). choices_of x.store (level_in x) (reverse boxed.frames.choices)) bs ∙ ap (λ (F : List Frame). choices_of c.store (level_in c) (reverse F)) same_choices in
-    let choices : choices_in more ≡ at_pushed (c.calls + 1) c (fail_at (c.calls + 1) c (choices_in c)) =
-    two ∙ (ap (λ (x : Core). at_pushed k x (choices_in pushed)) ep
+    let below : choice_points_in boxed ≡ choice_points_in c =
+    ap (λ (x : Core). choice_points_of x.store (level_in x) (reverse boxed.frames.choices)) bs ∙ ap (λ (F : List Frame). choice_points_of c.store (level_in c) (reverse F)) same_choice_points in
+    let choices : choice_points_in more ≡ at_pushed (c.calls + 1) c (fail_at (c.calls + 1) c (choice_points_in c)) =
+    two ∙ (ap (λ (x : Core). at_pushed k x (choice_points_in pushed)) ep
     ∙ (ap (at_pushed k shown) one
-    ∙ (ap (λ (x : Core). at_pushed k x (fail_at k x (choices_in x))) es
-    ∙ (ap (λ (x : Core). at_pushed k x (fail_at k x (choices_in boxed))) bs
+    ∙ (ap (λ (x : Core). at_pushed k x (fail_at k x (choice_points_in x))) es
+    ∙ (ap (λ (x : Core). at_pushed k x (fail_at k x (choice_points_in boxed))) bs
     ∙ (ap (λ (K : List visit.Choice). at_pushed k c (fail_at k c K)) below
-    ∙ ap (λ (j : ℕ). at_pushed j c (fail_at j c (choices_in c))) ek))))) in
+    ∙ ap (λ (j : ℕ). at_pushed j c (fail_at j c (choice_points_in c))) ek))))) in
     let shows : event_seen c.store c.bindings shown.seen ≡ event_of port.Call (c.calls + 1) (goal_now c g) (bindings_now c) (items_now c n) (world_called c) =
     sym (ap (λ (x : Core). event_seen x.store x.bindings shown.seen) bs)
     ∙ (seen

@@ -1,24 +1,24 @@
--- Each move keeps barriers and choices in step.
+-- Each move keeps barriers and choice points in step.
 use Rattle.std.proofs.Common.{◌≡◌, inl, inr, ℕ, ◌+◌, ◌-◌, ◌<◌, ◌≤◌, ◌==◌, nat_le, Bool, true, false, List, [], ◌∷◌, Option, Some, None, refl, sym, ap, ◌∙◌, subst, arith, if◌then◌else◌}
 use Rattle.std.proofs.lemmas.Bool.Decides.{nat_tests}
 use Rattle.op_logic.specs.Term.{Term, shift}
 use Rattle.op_logic.specs.Bind.{Bindings, Solved as Result}
 use Rattle.op_trace.specs.declared.barrier.Barrier.{Barrier}
-use Rattle.op_trace.specs.declared.barrier.Barrier.TheVariants.{Call, Within, Past}
+use Rattle.op_trace.specs.declared.barrier.Barrier.TheVariants.{Call, InCondition, AtSuccess}
 use Rattle.op_trace.specs.World.{Text, Clause, World, Setup, Item, Goal, Cut, Exit, Has, procedure}
-use Rattle.op_trace.specs.Visit.{Stopped, Control, Succeed, Give_up, Commit, Both, Either, If, Invoke, control, is_true, entered, Choice, Redo, Branch, More, Fail, Condition}
-use Rattle.op_machine.specs.Resume.{stays, goes, keep, with_more, State, Going, Back, Over, Moved, paid, chosen, met, tried, branched, move}
+use Rattle.op_trace.specs.Visit.{Stopped, Control, TrueGoal, FailGoal, CutGoal, Conjunction, Disjunction, IfThenElse, BoxedGoal, control, is_true, entered, Choice, Redo, Branch, More, Fail, Condition}
+use Rattle.op_machine.specs.Resume.{stays, goes, keep, with_more, State, Forward, Backward, Over, Moved, paid, chosen, met, tried, branched, move}
 use Rattle.op_machine.specs.Scope.{Behind, Scoped, IsGiven, IsGoalBarrier, AreGiven, AreScoped, InStep}
 
--- no choice is dropped as the last by a cut of a goal
+-- no choice point is dropped as the last by a cut of a goal
 pub goal-goes : (c d : ℕ) (x : Choice) (m : Barrier) → IsGoalBarrier c d m → goes x m ≡ false
 goal-goes c d (Redo k g σ J) m h = refl
 goal-goes c d (Branch t b σ J) m h = refl
 goal-goes c d (More cs k g σ J) m h = refl
 goal-goes c d (Fail k g σ J) m h = refl
 goal-goes c d (Condition n t b σ J) (Call k) h = refl
-goal-goes c d (Condition n t b σ J) (Within k) h = refl
-goal-goes c d (Condition n t b σ J) (Past k) h = absurd h
+goal-goes c d (Condition n t b σ J) (InCondition k) h = refl
+goal-goes c d (Condition n t b σ J) (AtSuccess k) h = absurd h
 
 -- a cut of a goal that is made twice is made once
 pub keep-keep : (c d : ℕ) (m : Barrier) (K : List Choice) → IsGoalBarrier c d m → keep m (keep m K) ≡ keep m K
@@ -55,8 +55,8 @@ scoped-along K L (Exit k g ∷ J) same s = scoped-along K L J same s
 
 pub goal-given : (c d : ℕ) (m : Barrier) → IsGoalBarrier c d m → IsGiven c d m
 goal-given c d (Call k) h = h
-goal-given c d (Within n) h = h
-goal-given c d (Past n) h = absurd h
+goal-given c d (InCondition n) h = h
+goal-given c d (AtSuccess n) h = absurd h
 
 pub has-given : (c d : ℕ) (I : List Item) (m : Barrier) → AreGiven c d I → Has m I → IsGiven c d m
 has-given c d [] m a h = absurd h
@@ -67,13 +67,13 @@ has-given c d (Exit k g ∷ J) m a h = has-given c d J m a h
 module _ (c d x y : ℕ) (more : c ≤ x) (over : d ≤ y) where
   pub barrier-more : (m : Barrier) → IsGoalBarrier c d m → IsGoalBarrier x y m
   barrier-more (Call k) h = omega arith
-  barrier-more (Within n) h = omega arith
-  barrier-more (Past n) h = h
+  barrier-more (InCondition n) h = omega arith
+  barrier-more (AtSuccess n) h = h
 
   pub one-more : (m : Barrier) → IsGiven c d m → IsGiven x y m
   one-more (Call k) h = omega arith
-  one-more (Within n) h = omega arith
-  one-more (Past n) h = omega arith
+  one-more (InCondition n) h = omega arith
+  one-more (AtSuccess n) h = omega arith
 
   pub given-more : (I : List Item) → AreGiven c d I → AreGiven x y I
   given-more [] a = tt
@@ -99,14 +99,14 @@ keep-scoped c d m (x ∷ K) a = go (stays x m) (goes x m) (keep-scoped c d m K a
     go false true below = a.1
     go false false below = below
 
--- a new box's own choice ends no cut to a barrier that was given before
+-- a new box's own choice point ends no cut to a barrier that was given before
 pub keep-fresh : (c d k : ℕ) (m : Barrier) (g : Term Text) (σ : Bindings Text) (J : List Item) (K : List Choice) → IsGiven c d m → c < k
     → keep m (Fail k g σ J ∷ K) ≡ keep m K
 keep-fresh c d k (Call m) g σ J K low high =
     let e : (m == k) ≡ false = grind (arith, nat_tests) in
     ap (λ (b : Bool). if b then Fail k g σ J ∷ K else keep (Call m) K) e
-keep-fresh c d k (Within m) g σ J K low high = refl
-keep-fresh c d k (Past m) g σ J K low high = refl
+keep-fresh c d k (InCondition m) g σ J K low high = refl
+keep-fresh c d k (AtSuccess m) g σ J K low high = refl
 
 pub keep-own : (k : ℕ) (g : Term Text) (σ : Bindings Text) (J : List Item) (K : List Choice) → keep (Call k) (Fail k g σ J ∷ K) ≡ Fail k g σ J ∷ K
 keep-own k g σ J K =
@@ -117,23 +117,23 @@ keep-own k g σ J K =
 pub keep-before : (c d n : ℕ) (m b : Barrier) (t : Term Text) (σ : Bindings Text) (J : List Item) (K : List Choice) → IsGiven c d m → d < n
     → keep m (Condition n t b σ J ∷ K) ≡ keep m K
 keep-before c d n (Call m) b t σ J K low high = refl
-keep-before c d n (Within m) b t σ J K low high =
+keep-before c d n (InCondition m) b t σ J K low high =
     let e : (m == n) ≡ false = grind (arith, nat_tests) in
-    ap (λ (a : Bool). if a then Condition n t b σ J ∷ K else keep (Within m) K) e
-keep-before c d n (Past m) b t σ J K low high =
+    ap (λ (a : Bool). if a then Condition n t b σ J ∷ K else keep (InCondition m) K) e
+keep-before c d n (AtSuccess m) b t σ J K low high =
     let e : (m == n) ≡ false = grind (arith, nat_tests) in
-    ap (λ (a : Bool). if a then K else keep (Past m) K) e
+    ap (λ (a : Bool). if a then K else keep (AtSuccess m) K) e
 
 pub keep-within : (n : ℕ) (b : Barrier) (t : Term Text) (σ : Bindings Text) (J : List Item) (K : List Choice)
-    → keep (Within n) (Condition n t b σ J ∷ K) ≡ Condition n t b σ J ∷ K
+    → keep (InCondition n) (Condition n t b σ J ∷ K) ≡ Condition n t b σ J ∷ K
 keep-within n b t σ J K =
     let e : (n == n) ≡ true = grind (arith, nat_tests) in
-    ap (λ (a : Bool). if a then Condition n t b σ J ∷ K else keep (Within n) K) e
+    ap (λ (a : Bool). if a then Condition n t b σ J ∷ K else keep (InCondition n) K) e
 
-pub keep-past : (n : ℕ) (b : Barrier) (t : Term Text) (σ : Bindings Text) (J : List Item) (K : List Choice) → keep (Past n) (Condition n t b σ J ∷ K) ≡ K
+pub keep-past : (n : ℕ) (b : Barrier) (t : Term Text) (σ : Bindings Text) (J : List Item) (K : List Choice) → keep (AtSuccess n) (Condition n t b σ J ∷ K) ≡ K
 keep-past n b t σ J K =
     let e : (n == n) ≡ true = grind (arith, nat_tests) in
-    ap (λ (a : Bool). if a then K else keep (Past n) K) e
+    ap (λ (a : Bool). if a then K else keep (AtSuccess n) K) e
 
 pub more-scoped : (c d : ℕ) (cs : List Clause) (k : ℕ) (g : Term Text) (σ : Bindings Text) (J : List Item) (K : List Choice)
     → keep (Call k) K ≡ K → Scoped K J → k ≤ c → AreGiven c d J → AreScoped c d K → AreScoped c d (with_more cs k g σ J K)
@@ -145,11 +145,11 @@ pub again-behind : (c d : ℕ) (m : Barrier) (K : List Choice) (t : Term Text) (
 again-behind c d m K t J h b n has =
     elim has [ inl e ↦ subst (λ (i : Barrier). keep i (keep m K) ≡ keep i K) (sym e) (keep-keep c d m K h) | inr r ↦ b n r ]
 
--- a condition before what follows its success, over its own choice
-pub asked-scoped : (c d n : ℕ) (t u e : Term Text) (m : Barrier) (σ : Bindings Text) (J : List Item) (K : List Choice)
+-- a condition before what follows its success, over its own choice point
+pub if_then_else_chosen-scoped : (c d n : ℕ) (t u e : Term Text) (m : Barrier) (σ : Bindings Text) (J : List Item) (K : List Choice)
     → IsGoalBarrier c d m → AreGiven c d J → d < n → Scoped K (Goal u m ∷ J)
-    → Scoped (Condition n e m σ J ∷ K) (Goal t (Within n) ∷ Cut (Past n) ∷ Goal u m ∷ J)
-asked-scoped c d n t u e m σ J K h a fresh s =
+    → Scoped (Condition n e m σ J ∷ K) (Goal t (InCondition n) ∷ Cut (AtSuccess n) ∷ Goal u m ∷ J)
+if_then_else_chosen-scoped c d n t u e m σ J K h a fresh s =
     let L : List Choice = Condition n e m σ J ∷ K in
     let same : SameFor K L (Goal u m ∷ J) = λ x has. keep-before c d n x m e σ J K (has-given c d (Goal u m ∷ J) x (h, a) has) fresh in (
       λ x has. ap (keep x) (keep-within n m e σ J K),
@@ -159,23 +159,23 @@ asked-scoped c d n t u e m σ J K h a fresh s =
 pub chosen-in_step : (q : Control) (t : Term Text) (m : Barrier) (J : List Item) (K : List Choice) (σ : Bindings Text) (w : World)
     → Behind m K J → Scoped K J → IsGoalBarrier w.calls w.conditions m → AreGiven w.calls w.conditions J → AreScoped w.calls w.conditions K
     → InStep (chosen q t m J K σ w).state
-chosen-in_step Succeed t m J K σ w b s h a all = (s, a, all)
-chosen-in_step Give_up t m J K σ w b s h a all = all
-chosen-in_step Commit t m J K σ w b s h a all = (scoped-along K (keep m K) J b s, a, keep-scoped w.calls w.conditions m K all)
-chosen-in_step (Both x y) t m J K σ w b s h a all = ((again-behind w.calls w.conditions m K y J h b, (b, s)), (h, (h, a)), all)
-chosen-in_step (Either x y) t m J K σ w b s h a all = ((b, s), (h, a), (((b, s), (h, a)), all))
-chosen-in_step (If c x y) t m J K σ w b s h a all =
+chosen-in_step TrueGoal t m J K σ w b s h a all = (s, a, all)
+chosen-in_step FailGoal t m J K σ w b s h a all = all
+chosen-in_step CutGoal t m J K σ w b s h a all = (scoped-along K (keep m K) J b s, a, keep-scoped w.calls w.conditions m K all)
+chosen-in_step (Conjunction x y) t m J K σ w b s h a all = ((again-behind w.calls w.conditions m K y J h b, (b, s)), (h, (h, a)), all)
+chosen-in_step (Disjunction x y) t m J K σ w b s h a all = ((b, s), (h, a), (((b, s), (h, a)), all))
+chosen-in_step (IfThenElse c x y) t m J K σ w b s h a all =
     let n : ℕ = w.conditions + 1 in
     let same : w.calls ≤ w.calls = omega arith in
     let more : w.conditions ≤ w.conditions + 1 = omega arith in
     let fresh : w.conditions < n = omega arith in
     let last : n ≤ n = omega arith in
     let given : AreGiven w.calls (w.conditions + 1) (Goal x m ∷ J) = given-more w.calls w.conditions w.calls (w.conditions + 1) same more (Goal x m ∷ J) (h, a) in (
-      asked-scoped w.calls w.conditions n c x y m σ J K h a fresh (b, s),
+      if_then_else_chosen-scoped w.calls w.conditions n c x y m σ J K h a fresh (b, s),
       (last, (last, given)),
       (((b, s), given), scoped-more w.calls w.conditions w.calls (w.conditions + 1) same more K all),
     )
-chosen-in_step Invoke t m J K σ w b s h a all =
+chosen-in_step BoxedGoal t m J K σ w b s h a all =
     let k : ℕ = w.calls + 1 in
     let L : List Choice = Fail k t σ J ∷ K in
     let more : w.calls ≤ w.calls + 1 = omega arith in
@@ -188,10 +188,10 @@ chosen-in_step Invoke t m J K σ w b s h a all =
 
 pub entered-in_step : (f : ℕ) (c : Clause) (k : ℕ) (g : Term Text) (J : List Item) (L : List Choice) (τ : Bindings Text) (u : World)
     → ((n : Barrier) → Has n J → keep n (keep (Call k) L) ≡ keep n L) → Scoped L J → k ≤ u.calls → AreGiven u.calls u.conditions J → AreScoped u.calls u.conditions L
-    → InStep (Going (entered f c k g J) L τ u)
+    → InStep (Forward (entered f c k g J) L τ u)
 entered-in_step f c k g J L τ u b s h a all = go (is_true c.body)
   where
-    go : (t : Bool) → InStep (Going (if t then Exit k g ∷ J else Goal (shift f c.body) (Call k) ∷ Exit k g ∷ J) L τ u)
+    go : (t : Bool) → InStep (Forward (if t then Exit k g ∷ J else Goal (shift f c.body) (Call k) ∷ Exit k g ∷ J) L τ u)
     go true = (s, a, all)
     go false = ((b, s), (h, a), all)
 
@@ -223,22 +223,22 @@ pub branched-in_step : (s : Setup) (t : Term Text) (m : Barrier) (σ : Bindings 
 branched-in_step s t m σ J K w sc a all = paid-in_step (nat_le (w.steps + 1) s.budget) s 1 w _ (sc, a, all)
 
 pub move-in_step : (s : Setup) (t : State) → InStep t → InStep (move s t).state
-move-in_step s (Going [] K σ w) h = go (w.solutions + 1 == s.wanted)
+move-in_step s (Forward [] K σ w) h = go (w.solutions + 1 == s.wanted)
   where
-    go : (b : Bool) → InStep (if b then Over Stopped (record w { solutions = w.solutions + 1 }) else Back K (record w { solutions = w.solutions + 1 }))
+    go : (b : Bool) → InStep (if b then Over Stopped (record w { solutions = w.solutions + 1 }) else Backward K (record w { solutions = w.solutions + 1 }))
     go true = tt
     go false = h.2
-move-in_step s (Going (Exit k g ∷ J) K σ w) h =
+move-in_step s (Forward (Exit k g ∷ J) K σ w) h =
     (h.0, h.1, (tt, h.2))
-move-in_step s (Going (Cut m ∷ J) K σ w) h = (scoped-along K (keep m K) J h.0.0 h.0.1, h.1.1, keep-scoped w.calls w.conditions m K h.2)
-move-in_step s (Going (Goal t m ∷ J) K σ w) h =
+move-in_step s (Forward (Cut m ∷ J) K σ w) h = (scoped-along K (keep m K) J h.0.0 h.0.1, h.1.1, keep-scoped w.calls w.conditions m K h.2)
+move-in_step s (Forward (Goal t m ∷ J) K σ w) h =
     paid-in_step (nat_le (w.steps + 1) s.budget) s 1 w _
     (chosen-in_step (control t) t m J K σ (record w { steps = w.steps + 1 }) h.0.0 h.0.1 h.1.0 h.1.1 h.2)
-move-in_step s (Back [] w) h = tt
-move-in_step s (Back (Redo k g σ J ∷ K) w) h = h.1
-move-in_step s (Back (Branch t m σ J ∷ K) w) h = branched-in_step s t m σ J K w h.0.0 h.0.1 h.1
-move-in_step s (Back (Condition n t m σ J ∷ K) w) h = branched-in_step s t m σ J K w h.0.0 h.0.1 h.1
-move-in_step s (Back (Fail k g σ J ∷ K) w) h = h.1
-move-in_step s (Back (More [] k g σ J ∷ K) w) h = h.1
-move-in_step s (Back (More (c ∷ cs) k g σ J ∷ K) w) h = tried-in_step s c cs k g σ J K w h.0.0 h.0.1 h.0.2 h.0.3 h.1
+move-in_step s (Backward [] w) h = tt
+move-in_step s (Backward (Redo k g σ J ∷ K) w) h = h.1
+move-in_step s (Backward (Branch t m σ J ∷ K) w) h = branched-in_step s t m σ J K w h.0.0 h.0.1 h.1
+move-in_step s (Backward (Condition n t m σ J ∷ K) w) h = branched-in_step s t m σ J K w h.0.0 h.0.1 h.1
+move-in_step s (Backward (Fail k g σ J ∷ K) w) h = h.1
+move-in_step s (Backward (More [] k g σ J ∷ K) w) h = h.1
+move-in_step s (Backward (More (c ∷ cs) k g σ J ∷ K) w) h = tried-in_step s c cs k g σ J K w h.0.0 h.0.1 h.0.2 h.0.3 h.1
 move-in_step s (Over r w) h = tt

@@ -6,10 +6,10 @@ use Rattle.op_trace.specs.declared.port.Port.{Port}
 use Rattle.op_trace.specs.World as world
 use Rattle.op_trace.specs.World.{Text, World, Event, open_boxes, head_number}
 use Rattle.op_trace.specs.Visit.{event_of}
-use Rattle.op_machine.specs.declared.lists.Item.{Item}
-use Rattle.op_machine.specs.declared.lists.Item.TheVariants as item
+use Rattle.op_machine.specs.declared.continuations.Item.{Item}
+use Rattle.op_machine.specs.declared.continuations.Item.TheVariants as item
 use Rattle.op_machine.specs.declared.core_state.Core.{Core}
-use Rattle.op_machine.specs.Lists.{list_in, opened}
+use Rattle.op_machine.specs.Continuations.{continuation_in, opened}
 use Rattle.op_store.specs.Stored.{Stored}
 use Rattle.op_machine.specs.Core.{Level, level_in, item_term, items_now, goal_now, bindings_now, world_in, event_seen}
 use Rattle.op_machine.proofs.Naming.{value-named}
@@ -23,13 +23,13 @@ open_boxes-items t v (item.Exit k g ∷ I) = ap (λ ks. k ∷ ks) (open_boxes-it
 abbrev an_event : World → Port → ℕ → Term Text → ℕ → ℕ → Event
 an_event w p k g parent depth = record { chrono = w.events + 1; call = k; parent = parent; depth = depth; port = p; goal = g }
 
-pub event-shown : (c : Core) (p : Port) (k g n parent depth : ℕ) → parent ≡ head_number (opened (list_in c.lists n)) → depth ≡ length (opened (list_in c.lists n))
+pub event-shown : (c : Core) (p : Port) (k g n parent depth : ℕ) → parent ≡ head_number (opened (continuation_in c.continuations n)) → depth ≡ length (opened (continuation_in c.continuations n))
     → event_seen c.store c.bindings (record { chrono = c.events + 1; call = k; parent = parent; depth = depth + 1; port = p; goal = g })
     ≡ event_of p k (goal_now c g) (bindings_now c) (items_now c n) (world_in c)
 event-shown c p k g n parent depth ep ed =
     let J : List world.Item = items_now c n in
     let w : World = world_in c in
-    let o : open_boxes J ≡ opened (list_in c.lists n) = open_boxes-items c.store (level_in c) (list_in c.lists n) in
+    let o : open_boxes J ≡ opened (continuation_in c.continuations n) = open_boxes-items c.store (level_in c) (continuation_in c.continuations n) in
     let e : depth + 1 ≡ 1 + length (open_boxes J) = omega (arith, ap length o) in
     ap (λ (t : Term Text). an_event w p k t parent (depth + 1)) (value-named c.store c.bindings g)
     ∙ (ap (λ (x : ℕ). an_event w p k (apply (bindings_now c) (goal_now c g)) x (depth + 1)) (ep ∙ sym (ap head_number o))

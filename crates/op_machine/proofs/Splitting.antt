@@ -10,11 +10,11 @@ use Rattle.op_trace.specs.World.{Text, World}
 use Rattle.op_machine.specs.declared.core_state.Core.{Core}
 use Rattle.op_machine.specs.declared.core_state.Mode.TheVariants as mode
 use Rattle.op_machine.specs.declared.core_state.Step.TheVariants as step
-use Rattle.op_machine.specs.declared.lists.Item.TheVariants as item
+use Rattle.op_machine.specs.declared.continuations.Item.TheVariants as item
 use Rattle.op_machine.specs.Program.{goal_named}
-use Rattle.op_machine.specs.Core.{IsGoal, IsGood, item_term, level_in, items_now, choices_in, bindings_now, world_in, goal_now}
-use Rattle.op_machine.specs.Rows.{Advances, both_before}
-use Rattle.op_machine.specs.Resume.{Going, silent}
+use Rattle.op_machine.specs.Core.{IsGoal, IsGood, item_term, level_in, items_now, choice_points_in, bindings_now, world_in, goal_now}
+use Rattle.op_machine.specs.Rows.{Advances, conjunction_before}
+use Rattle.op_machine.specs.Resume.{Forward, silent}
 
 args-names : (n : ℕ) (t : Term ℕ) → HasNames n t → ArgsHaveNames n (args_of t)
 args-names n (var v) h = tt
@@ -25,23 +25,23 @@ pub argument-goal : (n : ℕ) (ts : List (Term ℕ)) (g i r : ℕ) → IsGoal n 
 argument-goal n ts g i r goal there value =
     (there, subst (HasNames n) (sym value) (nth-names n (args_of (term_at ts g)) i (args-names n (term_at ts g) goal.1)))
 
--- two lists were added, and the machine goes on with the second
-pub split-advances : (c mid new : Core) (g : ℕ) (m : Barrier) (n first second tail items : ℕ) → mid ≡ record c { lists = mid.lists } → new ≡ record mid { lists = new.lists }
+-- two continuations were added, and the machine goes on with the second
+pub select_conjunction-advances : (c mid new : Core) (g : ℕ) (m : Barrier) (n first second tail items : ℕ) → mid ≡ record c { continuations = mid.continuations } → new ≡ record mid { continuations = new.continuations }
     → term_at c.bindings.terms first ≡ nth_arg (args_of (term_at c.bindings.terms g)) 0
     → term_at c.bindings.terms second ≡ nth_arg (args_of (term_at c.bindings.terms g)) 1
     → items_now mid tail ≡ item_term c.store (level_in c) (item.Goal second m) ∷ items_now c n
     → items_now new items ≡ item_term mid.store (level_in mid) (item.Goal first m) ∷ items_now mid tail
-    → choices_in mid ≡ choices_in c → choices_in new ≡ choices_in mid → IsGood new → items < length new.lists
-    → Advances c (record new { mode = mode.Forward items }) (silent (Going (both_before c g m n) (choices_in c) (bindings_now c) (world_in c))) step.Silent
-split-advances c mid new g m n first second tail items em en ef es rest all cm cn good inside =
+    → choice_points_in mid ≡ choice_points_in c → choice_points_in new ≡ choice_points_in mid → IsGood new → items < length new.continuations
+    → Advances c (record new { mode = mode.Forward items }) (silent (Forward (conjunction_before c g m n) (choice_points_in c) (bindings_now c) (world_in c))) step.Silent
+select_conjunction-advances c mid new g m n first second tail items em en ef es rest all cm cn good inside =
     let from_mid : goal_now mid first ≡ goal_now c first = ap (λ (x : Core). goal_now x first) em in
     let one : goal_now mid first ≡ goal_named c.store (nth_arg (args_of (term_at c.bindings.terms g)) 0) = from_mid ∙ ap (goal_named c.store) ef in
     let two : goal_now c second ≡ goal_named c.store (nth_arg (args_of (term_at c.bindings.terms g)) 1) = ap (goal_named c.store) es in
-    let both : items_now new items ≡ both_before c g m n =
+    let both : items_now new items ≡ conjunction_before c g m n =
     all ∙ (ap (λ (t : Term Text). world.Goal t m ∷ items_now mid tail) one
     ∙ (ap (λ (J : List world.Item). world.Goal (goal_named c.store (nth_arg (args_of (term_at c.bindings.terms g)) 0)) m ∷ J) rest
     ∙ ap (λ (t : Term Text). world.Goal (goal_named c.store (nth_arg (args_of (term_at c.bindings.terms g)) 0)) m ∷ world.Goal t m ∷ items_now c n) two)) in
-    let choices : choices_in new ≡ choices_in c = cn ∙ cm in
+    let choices : choice_points_in new ≡ choice_points_in c = cn ∙ cm in
     let bound : bindings_now new ≡ bindings_now c = ap bindings_now en ∙ ap bindings_now em in
     let same : world_in new ≡ world_in c = ap world_in en ∙ ap world_in em in
     record {

@@ -11,11 +11,11 @@ use Rattle.op_machine.specs.declared.core_state.Step.TheVariants as step
 use Rattle.op_machine.specs.Core.{Frame}
 use Rattle.op_frames.specs.declared.choice.ChoiceKind.{ChoiceKind}
 use Rattle.op_frames.specs.declared.choice.ChoiceKind.TheVariants as kind
-use Rattle.op_store.specs.Snapshots.{rules_in}
+use Rattle.op_store.specs.Snapshots.{snapshot_clauses}
 use Rattle.op_store.specs.Stored.{Stored}
-use Rattle.op_machine.specs.Core.{Level, level_at, level_in, setup_of, world_in, state_of, state_with, items_in, term_in, bindings_in, choices_of, choice_by, IsSound, AreFrames, IsKind}
+use Rattle.op_machine.specs.Core.{Level, level_at, level_in, setup_of, world_in, state_of, state_with, items_in, term_in, bindings_in, choice_points_of, choice_point_by, IsSound, AreFrames, IsKind}
 use Rattle.op_machine.specs.Counted.{Counted, event_bound}
-use Rattle.op_machine.specs.Resume.{State, Going, Back, Over, Moved, owed, move, world_of}
+use Rattle.op_machine.specs.Resume.{State, Forward, Backward, Over, Moved, owed, move, world_of}
 use Rattle.op_machine.specs.Scope.{InStep}
 use Rattle.op_machine.specs.Rows.{Advances, turns_of}
 use Rattle.op_machine.specs.Turned.{turns_in, Follows, Walked, Showed, Ended}
@@ -44,8 +44,8 @@ pub record Fits (c : Core) : Type 0 where
 
 pub counted-numbers : (s : Setup) (t : State) → s.budget ≤ 1000000000 → Counted s t
     → ((world_of t).steps ≤ s.budget) × ((world_of t).events ≤ event_bound (world_of t).steps) × ((world_of t).solutions ≤ suc (world_of t).steps) × ((world_of t).calls ≤ (world_of t).steps) × ((world_of t).conditions ≤ (world_of t).steps)
-counted-numbers s (Going I K σ w) b h = (h.0.steps, omega arith, omega arith, h.0.calls, h.0.conditions)
-counted-numbers s (Back K w) b h = (h.0.steps, omega arith, omega arith, h.0.calls, h.0.conditions)
+counted-numbers s (Forward I K σ w) b h = (h.0.steps, omega arith, omega arith, h.0.calls, h.0.conditions)
+counted-numbers s (Backward K w) b h = (h.0.steps, omega arith, omega arith, h.0.calls, h.0.conditions)
 counted-numbers s (Over r w) b h = (h.0.steps, omega arith, omega arith, h.0.calls, h.0.conditions)
 
 pub bound-top : (n : ℕ) → n ≤ 1000000000 → event_bound n ≤ 2000000004000000000
@@ -143,18 +143,18 @@ walked-self c s = record {
   count = refl;
 }
 
--- choices of clauses have some
-pub frames-clauses : (t : Stored) (floor : ℕ) (v : Level) (F : List Frame) (w : World) → AreFrames t floor v F → HasClauses (Back (choices_of t v F) w)
+-- choice points of clauses have some
+pub frames-clauses : (t : Stored) (floor : ℕ) (v : Level) (F : List Frame) (w : World) → AreFrames t floor v F → HasClauses (Backward (choice_points_of t v F) w)
 frames-clauses t floor v [] w a = tt
 frames-clauses t floor v (f ∷ F) w a = go f.kind a.2.kind
   where
     u : Level
     u = level_at f v
 
-    go : (q : ChoiceKind) → IsKind (length t.names) q f.kept → HasClauses (Back (choice_by t u q f.kept f.rest ∷ choices_of t u F) w)
+    go : (q : ChoiceKind) → IsKind (length t.names) q f.kept → HasClauses (Backward (choice_point_by t u q f.kept f.rest ∷ choice_points_of t u F) w)
     go (kind.Redo c) k = tt
     go (kind.Branch p) k = tt
-    go (kind.More c) k = subst (λ (cs : List Clause). HasClauses (Back (More cs c (term_in t u f.kept.goal) (bindings_in t u) (items_in t u f.rest) ∷ choices_of t u F) w)) (sym (clauses_from-some t (rules_in f.kept.rules) f.kept.next k.0).1.1) tt
+    go (kind.More c) k = subst (λ (cs : List Clause). HasClauses (Backward (More cs c (term_in t u f.kept.goal) (bindings_in t u) (items_in t u f.rest) ∷ choice_points_of t u F) w)) (sym (clauses_from-some t (snapshot_clauses f.kept.snapshot) f.kept.next k.0).1.1) tt
     go (kind.Fail c) k = tt
     go (kind.Condition p) k = tt
     go (kind.Catch c) k = absurd k

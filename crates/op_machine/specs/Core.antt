@@ -11,12 +11,12 @@ use Rattle.op_trace.specs.World as world
 use Rattle.op_trace.specs.World.{Text, World, Setup, Event, Turn, Shown, Solved, loaded}
 use Rattle.op_trace.specs.Visit as visit
 use Rattle.op_trace.specs.Visit.{Verdict}
-use Rattle.op_machine.specs.declared.lists.Item.{Item}
-use Rattle.op_machine.specs.declared.lists.Item.TheVariants as item
+use Rattle.op_machine.specs.declared.continuations.Item.{Item}
+use Rattle.op_machine.specs.declared.continuations.Item.TheVariants as item
 use Rattle.op_frames.specs.declared.choice.Choice.{Choice}
 use Rattle.op_frames.specs.declared.choice.ChoiceKind.{ChoiceKind}
 use Rattle.op_frames.specs.declared.choice.ChoiceKind.TheVariants as kind
-use Rattle.op_store.specs.Snapshots.{rules_in}
+use Rattle.op_store.specs.Snapshots.{snapshot_clauses}
 use Rattle.op_machine.specs.declared.held.Held.{Held}
 use Rattle.op_machine.specs.declared.core_state.Core.{Core}
 use Rattle.op_machine.specs.declared.core_state.Mode.{Mode}
@@ -24,23 +24,23 @@ use Rattle.op_machine.specs.declared.core_state.Mode.TheVariants as mode
 use Rattle.op_machine.specs.declared.core_state.Ending.{Ending}
 use Rattle.op_machine.specs.declared.core_state.Ending.TheVariants as ending
 use Rattle.op_machine.specs.declared.core_state.Seen.{Seen}
-use Rattle.op_machine.specs.Lists.{list_in}
+use Rattle.op_machine.specs.Continuations.{continuation_in}
 use Rattle.op_machine.specs.Boxes.{AreBoxes, AreBoxed}
 use Rattle.op_store.specs.Stored.{Stored}
 use Rattle.op_machine.specs.Program.{clauses, clauses_from, goal_named, AreKnown}
-use Rattle.op_machine.specs.Resume.{State, Going, Back, Over}
+use Rattle.op_machine.specs.Resume.{State, Forward, Backward, Over}
 use Rattle.op_machine.specs.Counted.{Counted}
 use Rattle.op_machine.specs.Scope.{InStep}
 
--- a choice with what the machine keeps with it
+-- a choice point with what the machine keeps with it
 abbrev pub Frame : Type 0
 Frame = Choice Held
 
--- the terms, the bindings and the lists of a moment
+-- the terms, the bindings and the continuations of a moment
 pub record Level : Type 0 where
   pub terms : List (Term ℕ)
   pub bound : List (ℕ × ℕ)
-  pub lists : List (List Item)
+  pub continuations : List (List Item)
 
 -- what the bindings of a moment are over texts, and the term of a Ref
 abbrev pub bindings_in : Stored → Level → Bindings Text
@@ -55,29 +55,29 @@ item_term t v (item.Cut m) = world.Cut m
 item_term t v (item.Exit k r) = world.Exit k (term_in t v r)
 
 abbrev pub items_in : Stored → Level → ℕ → List world.Item
-items_in t v n = map (item_term t v) (list_in v.lists n)
+items_in t v n = map (item_term t v) (continuation_in v.continuations n)
 
--- no choice of a catch or of a findall is made yet (`IsKind`): what stands for them has no meaning
-abbrev pub choice_by : Stored → Level → ChoiceKind → Held → ℕ → visit.Choice
-choice_by t v (kind.Redo k) h n = visit.Redo k (term_in t v h.goal) (bindings_in t v) (items_in t v n)
-choice_by t v (kind.Branch p) h n = visit.Branch (term_in t v h.goal) h.barrier (bindings_in t v) (items_in t v n)
-choice_by t v (kind.More k) h n = visit.More (clauses_from t (rules_in h.rules) h.next) k (term_in t v h.goal) (bindings_in t v) (items_in t v n)
-choice_by t v (kind.Fail k) h n = visit.Fail k (term_in t v h.goal) (bindings_in t v) (items_in t v n)
-choice_by t v (kind.Condition p) h n = visit.Condition h.condition (term_in t v h.goal) h.barrier (bindings_in t v) (items_in t v n)
-choice_by t v (kind.Catch k) h n = visit.Fail k (term_in t v h.goal) (bindings_in t v) (items_in t v n)
-choice_by t v (kind.Findall k) h n = visit.Fail k (term_in t v h.goal) (bindings_in t v) (items_in t v n)
+-- no choice point of a catch or of a findall is made yet (`IsKind`): what stands for them has no meaning
+abbrev pub choice_point_by : Stored → Level → ChoiceKind → Held → ℕ → visit.Choice
+choice_point_by t v (kind.Redo k) h n = visit.Redo k (term_in t v h.goal) (bindings_in t v) (items_in t v n)
+choice_point_by t v (kind.Branch p) h n = visit.Branch (term_in t v h.goal) h.barrier (bindings_in t v) (items_in t v n)
+choice_point_by t v (kind.More k) h n = visit.More (clauses_from t (snapshot_clauses h.snapshot) h.next) k (term_in t v h.goal) (bindings_in t v) (items_in t v n)
+choice_point_by t v (kind.Fail k) h n = visit.Fail k (term_in t v h.goal) (bindings_in t v) (items_in t v n)
+choice_point_by t v (kind.Condition p) h n = visit.Condition h.condition (term_in t v h.goal) h.barrier (bindings_in t v) (items_in t v n)
+choice_point_by t v (kind.Catch k) h n = visit.Fail k (term_in t v h.goal) (bindings_in t v) (items_in t v n)
+choice_point_by t v (kind.Findall k) h n = visit.Fail k (term_in t v h.goal) (bindings_in t v) (items_in t v n)
 
-abbrev pub choice_of : Stored → Level → Frame → visit.Choice
-choice_of t v f = choice_by t v f.kind f.kept f.rest
+abbrev pub choice_point_of : Stored → Level → Frame → visit.Choice
+choice_point_of t v f = choice_point_by t v f.kind f.kept f.rest
 
--- the moment at which a choice was made, which is the beginning of a later one
+-- the moment at which a choice point was made, which is the beginning of a later one
 abbrev pub level_at : Frame → Level → Level
-level_at f v = record { terms = take f.mark.terms v.terms; bound = oldest f.mark.bound v.bound; lists = take f.kept.lists v.lists }
+level_at f v = record { terms = take f.mark.terms v.terms; bound = oldest f.mark.bound v.bound; continuations = take f.kept.continuations v.continuations }
 
 -- the last first
-abbrev pub choices_of : Stored → Level → List Frame → List visit.Choice
-choices_of t v [] = []
-choices_of t v (f ∷ F) = choice_of t (level_at f v) f ∷ choices_of t (level_at f v) F
+abbrev pub choice_points_of : Stored → Level → List Frame → List visit.Choice
+choice_points_of t v [] = []
+choice_points_of t v (f ∷ F) = choice_point_of t (level_at f v) f ∷ choice_points_of t (level_at f v) F
 
 abbrev pub setup_of : Core → Setup
 setup_of c = record { budget = c.budget; wanted = c.wanted }
@@ -86,10 +86,10 @@ abbrev pub world_in : Core → World
 world_in c = record (loaded (clauses c.store)) { variables = c.bindings.count; calls = c.calls; conditions = c.conditions; steps = c.steps; events = c.events; solutions = c.solutions }
 
 abbrev pub level_of : bind.State → List (List Item) → Level
-level_of s L = record { terms = s.terms; bound = s.bound; lists = L }
+level_of s L = record { terms = s.terms; bound = s.bound; continuations = L }
 
 abbrev pub level_in : Core → Level
-level_in c = level_of c.bindings c.lists
+level_in c = level_of c.bindings c.continuations
 
 abbrev pub bindings_now : Core → Bindings Text
 bindings_now c = bindings_in c.store (level_in c)
@@ -100,8 +100,8 @@ items_now c n = items_in c.store (level_in c) n
 abbrev pub goal_now : Core → ℕ → Term Text
 goal_now c g = term_in c.store (level_in c) g
 
-abbrev pub choices_in : Core → List visit.Choice
-choices_in c = choices_of c.store (level_in c) (reverse c.frames.choices)
+abbrev pub choice_points_in : Core → List visit.Choice
+choice_points_in c = choice_points_of c.store (level_in c) (reverse c.frames.choices)
 
 abbrev pub verdict_of : Ending → Verdict
 verdict_of ending.Stopped = visit.Stopped
@@ -109,8 +109,8 @@ verdict_of ending.Failed = visit.Failed
 verdict_of ending.Spent = visit.Spent
 
 abbrev pub state_with : Stored → Level → List Frame → World → Mode → State
-state_with t v F w (mode.Forward n) = Going (items_in t v n) (choices_of t v (reverse F)) (bindings_in t v) w
-state_with t v F w mode.Backward = Back (choices_of t v (reverse F)) w
+state_with t v F w (mode.Forward n) = Forward (items_in t v n) (choice_points_of t v (reverse F)) (bindings_in t v) w
+state_with t v F w mode.Backward = Backward (choice_points_of t v (reverse F)) w
 state_with t v F w (mode.Over e) = Over (verdict_of e) w
 
 abbrev pub state_of : Core → State
@@ -132,35 +132,35 @@ abbrev pub AreItems : ℕ → List (Term ℕ) → List Item → Type 0
 AreItems n ts [] = Unit {0}
 AreItems n ts (i ∷ I) = IsItem n ts i × AreItems n ts I
 
-abbrev pub AreLists : ℕ → List (Term ℕ) → List (List Item) → Type 0
-AreLists n ts L = (m : ℕ) → m < length L → AreItems n ts (list_in L m)
+abbrev pub AreContinuations : ℕ → List (Term ℕ) → List (List Item) → Type 0
+AreContinuations n ts L = (m : ℕ) → m < length L → AreItems n ts (continuation_in L m)
 
--- each list's items and each binding lead to what is there, and the first terms are
+-- each continuation's items and each binding lead to what is there, and the first terms are
 pub record IsLevel (t : Stored) (floor : ℕ) (v : Level) : Type 0 where
-  pub lists : AreLists (length t.names) v.terms v.lists
+  pub continuations : AreContinuations (length t.names) v.terms v.continuations
   pub bound : HaveNames (length t.names) (resolved v.terms v.bound)
   pub floor_there : floor ≤ length v.terms
 
--- a choice was made at an earlier moment
+-- a choice point was made at an earlier moment
 pub record IsEarlier (f : Frame) (v : Level) : Type 0 where
   pub terms_there : f.mark.terms ≤ length v.terms
   pub bound_there : f.mark.bound ≤ length v.bound
   pub bound_below : All (λ p. p.1 < f.mark.terms) (oldest f.mark.bound v.bound)
-  pub lists_there : f.kept.lists ≤ length v.lists
+  pub continuations_there : f.kept.continuations ≤ length v.continuations
 
 -- some clause is left of those that are tried
 abbrev pub IsKind : ℕ → ChoiceKind → Held → Type 0
 IsKind n (kind.Redo k) h = Unit {0}
 IsKind n (kind.Branch p) h = Unit {0}
-IsKind n (kind.More k) h = (h.next < length (rules_in h.rules)) × AreKnown n (rules_in h.rules)
+IsKind n (kind.More k) h = (h.next < length (snapshot_clauses h.snapshot)) × AreKnown n (snapshot_clauses h.snapshot)
 IsKind n (kind.Fail k) h = Unit {0}
 IsKind n (kind.Condition p) h = Unit {0}
 IsKind n (kind.Catch k) h = ⊥
 IsKind n (kind.Findall k) h = ⊥
 
--- a choice leads to what was there when it was made
+-- a choice point leads to what was there when it was made
 pub record IsFrame (t : Stored) (v : Level) (f : Frame) : Type 0 where
-  pub rest : f.rest < length v.lists
+  pub rest : f.rest < length v.continuations
   pub goal : IsGoal (length t.names) v.terms f.kept.goal
   pub kind : IsKind (length t.names) f.kind f.kept
 
@@ -188,11 +188,11 @@ IsFailure ts r = (r < length ts) × (term_at ts r ≡ atom 1)
 pub record IsGood (c : Core) : Type 0 where
   pub level : IsLevel c.store c.floor.terms (level_in c)
   pub frames : AreFrames c.store c.floor.terms (level_in c) (reverse c.frames.choices)
-  pub mode : IsMode (length c.lists) c.mode
+  pub mode : IsMode (length c.continuations) c.mode
   pub values : AreValues (take c.floor.terms c.bindings.terms) c.values.items c.names
   pub failure : IsFailure (take c.floor.terms c.bindings.terms) c.failure
-  pub boxes : AreBoxes c.frames.boxes c.calls c.lists
-  pub boxed : AreBoxed c.frames.boxes c.lists c.calls (length c.lists) (reverse c.frames.choices)
+  pub boxes : AreBoxes c.frames.boxes c.calls c.continuations
+  pub boxed : AreBoxed c.frames.boxes c.continuations c.calls (length c.continuations) (reverse c.frames.choices)
 
 -- the last event's goal is there
 abbrev pub IsSeen : Core → Type 0

@@ -2,9 +2,9 @@
 use Rattle.std.specs.Prelude.{ℕ, suc, ◌+◌, ◌*◌, ◌<◌, ◌≤◌, List, [], ◌∷◌, length}
 use Rattle.op_trace.specs.World.{World, Setup, Item, Goal, Cut, Exit, open_boxes}
 use Rattle.op_trace.specs.Visit.{Choice, Redo, Branch, More, Fail, Condition}
-use Rattle.op_machine.specs.Resume.{State, Going, Back, Over}
+use Rattle.op_machine.specs.Resume.{State, Forward, Backward, Over}
 
--- how many events the choices show by themselves
+-- how many events the choice points show by themselves
 abbrev pub pending : List Choice → ℕ
 pending [] = 0
 pending (Redo k g σ J ∷ K) = suc (pending K)
@@ -43,9 +43,9 @@ pub record Counts (s : Setup) (w : World) : Type 0 where
   pub conditions : w.conditions ≤ w.steps
 
 abbrev pub Counted : Setup → State → Type 0
-Counted s (Going I K σ w) =
+Counted s (Forward I K σ w) =
     Counts s w × (w.events + (2 * length (open_boxes I) + pending K) ≤ event_bound w.steps) × (w.solutions ≤ w.steps)
     × IsNested w.calls I × AreNested w.calls K
-Counted s (Back K w) =
+Counted s (Backward K w) =
     Counts s w × (w.events + pending K ≤ event_bound w.steps) × (w.solutions ≤ suc w.steps) × AreNested w.calls K
 Counted s (Over r w) = Counts s w × (w.events ≤ event_bound w.steps) × (w.solutions ≤ suc w.steps)

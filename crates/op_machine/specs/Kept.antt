@@ -1,7 +1,7 @@
--- What a cut keeps of the choices that a machine has, the last first.
+-- What a cut keeps of the choice points that a machine has, the last first.
 use Rattle.std.specs.Prelude.{Bool, false, List, [], ◌∷◌, if◌then◌else◌}
 use Rattle.op_trace.specs.declared.barrier.Barrier.{Barrier}
-use Rattle.op_trace.specs.declared.barrier.Barrier.TheVariants.{Call, Within, Past}
+use Rattle.op_trace.specs.declared.barrier.Barrier.TheVariants.{Call, InCondition, AtSuccess}
 use Rattle.op_trace.specs.World.{same_barrier}
 use Rattle.op_frames.specs.declared.choice.ChoiceKind.{ChoiceKind}
 use Rattle.op_frames.specs.declared.choice.ChoiceKind.TheVariants as kind
@@ -13,12 +13,12 @@ kind_stays (kind.Redo k) h m = false
 kind_stays (kind.Branch p) h m = false
 kind_stays (kind.More k) h m = false
 kind_stays (kind.Fail k) h m = same_barrier m (Call k)
-kind_stays (kind.Condition p) h m = same_barrier m (Within h.condition)
+kind_stays (kind.Condition p) h m = same_barrier m (InCondition h.condition)
 kind_stays (kind.Catch k) h m = same_barrier m (Call k)
 kind_stays (kind.Findall k) h m = same_barrier m (Call k)
 
 abbrev pub kind_goes : ChoiceKind → Held → Barrier → Bool
-kind_goes (kind.Condition p) h m = same_barrier m (Past h.condition)
+kind_goes (kind.Condition p) h m = same_barrier m (AtSuccess h.condition)
 kind_goes _ h m = false
 
 abbrev pub frame_stays : Frame → Barrier → Bool

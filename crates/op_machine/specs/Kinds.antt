@@ -2,24 +2,24 @@
 use Rattle.std.specs.Prelude.{ℕ, codes}
 use Rattle.op_logic.specs.Term.{Term, args_of, nth_arg, atom}
 use Rattle.op_store.specs.Stored.{Stored}
-use Rattle.op_trace.specs.Visit.{Control, Succeed, Give_up, Commit, If, Invoke, disjunction}
+use Rattle.op_trace.specs.Visit.{Control, TrueGoal, FailGoal, CutGoal, IfThenElse, BoxedGoal, control_of_disjunction}
 use Rattle.op_trace.specs.Visit as visit
 use Rattle.op_machine.specs.Program.{goal_named}
 use Rattle.op_machine.specs.declared.kind.Kind.{Kind}
-use Rattle.op_machine.specs.declared.kind.Kind.TheVariants.{Truth, Failure, Cut, Both, Either, Then, Boxed}
+use Rattle.op_machine.specs.declared.kind.Kind.TheVariants.{True, Fail, Cut, Conjunction, Disjunction, IfThen, Boxed}
 
 abbrev pub control_of_kind : Stored → Term ℕ → Kind → Control
-control_of_kind t g Truth = Succeed
-control_of_kind t g Failure = Give_up
-control_of_kind t g Cut = Commit
-control_of_kind t g Both = visit.Both (goal_named t (nth_arg (args_of g) 0)) (goal_named t (nth_arg (args_of g) 1))
-control_of_kind t g Either = disjunction (goal_named t (nth_arg (args_of g) 0)) (goal_named t (nth_arg (args_of g) 1))
-control_of_kind t g Then = If (goal_named t (nth_arg (args_of g) 0)) (goal_named t (nth_arg (args_of g) 1)) (atom (codes "fail"))
-control_of_kind t g Boxed = Invoke
+control_of_kind t g True = TrueGoal
+control_of_kind t g Fail = FailGoal
+control_of_kind t g Cut = CutGoal
+control_of_kind t g Conjunction = visit.Conjunction (goal_named t (nth_arg (args_of g) 0)) (goal_named t (nth_arg (args_of g) 1))
+control_of_kind t g Disjunction = control_of_disjunction (goal_named t (nth_arg (args_of g) 0)) (goal_named t (nth_arg (args_of g) 1))
+control_of_kind t g IfThen = IfThenElse (goal_named t (nth_arg (args_of g) 0)) (goal_named t (nth_arg (args_of g) 1)) (atom (codes "fail"))
+control_of_kind t g Boxed = BoxedGoal
 
 -- it has two parts
 abbrev pub IsPair : Kind → Type 0
-IsPair Both = Unit {0}
-IsPair Either = Unit {0}
-IsPair Then = Unit {0}
+IsPair Conjunction = Unit {0}
+IsPair Disjunction = Unit {0}
+IsPair IfThen = Unit {0}
 IsPair k = ⊥

@@ -3,7 +3,7 @@ pub mod Core
 pub mod Counted
 pub mod Kept
 pub mod Kinds
-pub mod Lists
+pub mod Continuations
 pub mod Machine
 pub mod Made
 pub mod Program

@@ -3,7 +3,7 @@ use Rattle.std.specs.Prelude.{◌≡◌, ℕ, ◌+◌, ◌&&◌, not, Bool, true
 use Rattle.op_trace.specs.World.{World, Setup, Event, Turn, Shown, Solved, loaded}
 use Rattle.op_trace.specs.Run.{Run, ran}
 use Rattle.op_trace.specs.Ending as ending
-use Rattle.op_machine.specs.declared.lists.Item.{Item}
+use Rattle.op_machine.specs.declared.continuations.Item.{Item}
 use Rattle.op_frames.specs.Frames.{Framed}
 use Rattle.op_machine.specs.declared.held.Held.{Held}
 use Rattle.op_machine.specs.declared.core_state.Core.{Core}
@@ -25,7 +25,7 @@ use Rattle.op_machine.specs.Resume.{State, owed}
 pub record Kept : Type 0 where
   pub tables : Stored
   pub bindings : bind.State
-  pub lists : List (List Item)
+  pub continuations : List (List Item)
   pub frames : Framed Held
   pub mode : Mode
   pub seen : Seen
@@ -45,7 +45,7 @@ abbrev pub kept_of : Core → Last → Bool → Kept
 kept_of c l f = record {
   tables = c.store;
   bindings = c.bindings;
-  lists = c.lists;
+  continuations = c.continuations;
   frames = c.frames;
   mode = c.mode;
   seen = c.seen;
@@ -69,7 +69,7 @@ abbrev pub world_now : Kept → World
 world_now k = record (loaded (clauses k.tables)) { variables = k.bindings.count; calls = k.calls; conditions = k.conditions; steps = k.steps; events = k.events; solutions = k.solutions }
 
 abbrev pub level_now : Kept → Level
-level_now k = level_of k.bindings k.lists
+level_now k = level_of k.bindings k.continuations
 
 abbrev pub state_now : Kept → State
 state_now k = state_with k.tables (level_now k) k.frames.choices (world_now k) k.mode

@@ -3,18 +3,18 @@ use Rattle.std.specs.Prelude.{◌≡◌, ℕ, ◌<◌, ◌≤◌, List, [], ◌�
 use Rattle.op_term.specs.Places.{term_at}
 use Rattle.op_trace.specs.declared.barrier.Barrier.TheVariants.{Call}
 use Rattle.op_store.specs.declared.goal.Goal.{Goal}
-use Rattle.op_machine.specs.declared.lists.Item.{Item}
-use Rattle.op_machine.specs.declared.lists.Item.TheVariants as item
+use Rattle.op_machine.specs.declared.continuations.Item.{Item}
+use Rattle.op_machine.specs.declared.continuations.Item.TheVariants as item
 use Rattle.op_machine.specs.declared.parts.Parts.{Parts}
 use Rattle.op_machine.specs.Core.{AreValues, IsFailure}
 
 -- no item, and the goal alone
-abbrev pub first_lists : ℕ → List (List Item)
-first_lists body = [] ∷ (item.Goal body (Call 0) ∷ []) ∷ []
+abbrev pub first_continuations : ℕ → List (List Item)
+first_continuations body = [] ∷ (item.Goal body (Call 0) ∷ []) ∷ []
 
 -- the goal's variables are unbound, and those that have names and the atom `fail` were made before its body
 pub record IsMade (q : Goal) (p : Parts) : Type 0 where
-  pub lists : p.lists ≡ first_lists p.body
+  pub continuations : p.continuations ≡ first_continuations p.body
   pub items : p.items ≡ 1
   pub bound : p.bindings.bound ≡ []
   pub there : p.body < length p.bindings.terms

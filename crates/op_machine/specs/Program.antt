@@ -2,12 +2,12 @@
 use Rattle.std.specs.Prelude.{ℕ, List, map, drop, All}
 use Rattle.op_logic.specs.Term.{Term}
 use Rattle.op_logic.specs.Names.{named}
-use Rattle.op_bind.specs.declared.places.Clause.{Clause as Rule}
+use Rattle.op_bind.specs.declared.places.Clause.{Clause as NumberedClause}
 use Rattle.op_trace.specs.World.{Text, Clause}
 use Rattle.op_store.specs.declared.pi.Pi.{Pi}
 use Rattle.op_store.specs.World.{clauses_of_world}
 use Rattle.op_store.specs.Stored.{Stored, world_of}
-use Rattle.op_store.specs.Rows.{clause_named, IsRule}
+use Rattle.op_store.specs.Rows.{clause_named, IsNumberedClause}
 
 -- all clauses of a store
 abbrev pub clauses : Stored → List Clause
@@ -16,16 +16,16 @@ clauses t = clauses_of_world (world_of t)
 abbrev pub goal_named : Stored → Term ℕ → Term Text
 goal_named t g = named t.names g
 
-abbrev pub clause_in : Stored → Rule → Clause
+abbrev pub clause_in : Stored → NumberedClause → Clause
 clause_in t r = clause_named t.names r
 
 -- those of some clauses from one on
-abbrev pub clauses_from : Stored → List Rule → ℕ → List Clause
-clauses_from t rules i = map (clause_named t.names) (drop i rules)
+abbrev pub clauses_from : Stored → List NumberedClause → ℕ → List Clause
+clauses_from t snapshot i = map (clause_named t.names) (drop i snapshot)
 
 -- a clause of some procedure, with its names in a table of so many
-abbrev pub IsKnown : ℕ → Rule → Type 0
-IsKnown n r = (k : Pi) × IsRule n k r
+abbrev pub IsKnown : ℕ → NumberedClause → Type 0
+IsKnown n r = (k : Pi) × IsNumberedClause n k r
 
-abbrev pub AreKnown : ℕ → List Rule → Type 0
-AreKnown n rules = All (λ r. IsKnown n r) rules
+abbrev pub AreKnown : ℕ → List NumberedClause → Type 0
+AreKnown n snapshot = All (λ r. IsKnown n r) snapshot

@@ -1,34 +1,34 @@
--- What a machine in the middle of a walk still owes: its items and the choices that it keeps say which turns are to come.
+-- What a machine in the middle of a walk still owes: its items and the choice points that it keeps say which turns are to come.
 use Rattle.std.specs.Prelude.{ℕ, ◌+◌, ◌-◌, ◌==◌, nat_le, Bool, true, false, List, [], ◌∷◌, if◌then◌else◌, Option, Some, None}
 use Rattle.op_logic.specs.Term.{Term, shift}
 use Rattle.op_logic.specs.Bind.{Bindings, unify, Solved as Result}
 use Rattle.op_trace.specs.declared.port.Port.{Port}
 use Rattle.op_trace.specs.declared.port.Port.TheVariants as port
 use Rattle.op_trace.specs.declared.barrier.Barrier.{Barrier}
-use Rattle.op_trace.specs.declared.barrier.Barrier.TheVariants.{Call, Within, Past}
+use Rattle.op_trace.specs.declared.barrier.Barrier.TheVariants.{Call, InCondition, AtSuccess}
 use Rattle.op_trace.specs.World.{Text, text_eq, Clause, World, Setup, same_barrier, Item, Goal, Cut, Exit, Turn, Shown, Solved, procedure}
-use Rattle.op_trace.specs.Visit.{Verdict, Failed, CutTo, Stopped, Spent, Visited, gives, and_then, event_of, with_event, Control, Succeed, Give_up, Commit, Both, Either, If, Invoke, control, entered, Choice, Redo, Branch, More, Fail, Condition, after, visit}
+use Rattle.op_trace.specs.Visit.{Verdict, Failed, CutTo, Stopped, Spent, Visited, gives, and_then, event_of, with_event, Control, TrueGoal, FailGoal, CutGoal, Conjunction, Disjunction, IfThenElse, BoxedGoal, control, entered, Choice, Redo, Branch, More, Fail, Condition, after, visit}
 
--- where no choice is left, a cut leaves nothing more to fail
+-- where no choice point is left, a cut leaves nothing more to fail
 abbrev pub at_top : Verdict → World → Visited
 at_top Failed w = gives Failed w
 at_top (CutTo m) w = gives Failed w
 at_top Stopped w = gives Stopped w
 at_top Spent w = gives Spent w
 
--- what is left to do after a result: what the last choice does, then what is left by the others
+-- what is left to do after a result: what the last choice point does, then what is left by the others
 unfoldable pub resume : Setup → List Choice → Verdict → World → Visited
 resume s [] r w = at_top r w
 resume s (c ∷ K) r w = and_then (after (visit s) s c r w) (resume s K)
 
--- a choice to which a cut to a barrier comes, and which it keeps: a box's own, which makes its fail event, and a condition's for a cut
+-- a choice point to which a cut to a barrier comes, and which it keeps: a box's own, which makes its fail event, and a condition's for a cut
 -- inside the condition
 abbrev pub stays : Choice → Barrier → Bool
 stays (Redo k g σ J) m = false
 stays (Branch t b σ J) m = false
 stays (More cs k g σ J) m = false
 stays (Fail k g σ J) m = same_barrier m (Call k)
-stays (Condition n t b σ J) m = same_barrier m (Within n)
+stays (Condition n t b σ J) m = same_barrier m (InCondition n)
 
 -- one to which it comes, and which it drops as the last: a condition's, where the condition has succeeded
 abbrev pub goes : Choice → Barrier → Bool
@@ -36,23 +36,23 @@ goes (Redo k g σ J) m = false
 goes (Branch t b σ J) m = false
 goes (More cs k g σ J) m = false
 goes (Fail k g σ J) m = false
-goes (Condition n t b σ J) m = same_barrier m (Past n)
+goes (Condition n t b σ J) m = same_barrier m (AtSuccess n)
 
 -- what a cut to a barrier keeps
 abbrev pub keep : Barrier → List Choice → List Choice
 keep m [] = []
 keep m (c ∷ K) = if stays c m then c ∷ K else (if goes c m then K else keep m K)
 
--- a machine goes on with its items, or goes back to its last choice, or is at the end
+-- a machine goes on with its items, or goes back to its last choice point, or is at the end
 pub data State : Type 0 where
-  Going : List Item → List Choice → Bindings Text → World → State
-  Back : List Choice → World → State
+  Forward : List Item → List Choice → Bindings Text → World → State
+  Backward : List Choice → World → State
   Over : Verdict → World → State
 
 -- the turns to come, the verdict and the world at the end
 unfoldable pub owed : Setup → State → Visited
-owed s (Going I K σ w) = and_then (visit s I σ w) (resume s K)
-owed s (Back K w) = resume s K Failed w
+owed s (Forward I K σ w) = and_then (visit s I σ w) (resume s K)
+owed s (Backward K w) = resume s K Failed w
 owed s (Over r w) = gives r w
 
 -- One small move, with the turn that it shows, if it shows one.
@@ -73,7 +73,7 @@ paid false s n w h = silent (Over Spent (record w { steps = s.budget }))
 abbrev pub pay : Setup → ℕ → World → (World → Moved) → Moved
 pay s n w h = paid (nat_le (w.steps + n) s.budget) s n w h
 
--- a choice of further clauses, where there are any
+-- a choice point of further clauses, where there are any
 abbrev pub with_more : List Clause → ℕ → Term Text → Bindings Text → List Item → List Choice → List Choice
 with_more [] k g σ J K = K
 with_more (c ∷ cs) k g σ J K = More (c ∷ cs) k g σ J ∷ K
@@ -82,30 +82,30 @@ abbrev pub invoked : Term Text → List Item → List Choice → Bindings Text �
 invoked g J K σ w =
     let k : ℕ = w.calls + 1 in
     let u : World = record w { calls = k } in
-    showing port.Call k g σ J u (Back (with_more (procedure w.clauses g) k g σ J (Fail k g σ J ∷ K)) (with_event u))
+    showing port.Call k g σ J u (Backward (with_more (procedure w.clauses g) k g σ J (Fail k g σ J ∷ K)) (with_event u))
 
--- a condition comes next, and the else branch is kept as a choice
-abbrev pub asked : Term Text → Term Text → Term Text → Barrier → List Item → List Choice → Bindings Text → World → Moved
-asked c t e m J K σ w =
+-- a condition comes next, and the else branch is kept as a choice point
+abbrev pub if_then_else_chosen : Term Text → Term Text → Term Text → Barrier → List Item → List Choice → Bindings Text → World → Moved
+if_then_else_chosen c t e m J K σ w =
     let n : ℕ = w.conditions + 1 in
-    silent (Going (Goal c (Within n) ∷ Cut (Past n) ∷ Goal t m ∷ J) (Condition n e m σ J ∷ K) σ (record w { conditions = n }))
+    silent (Forward (Goal c (InCondition n) ∷ Cut (AtSuccess n) ∷ Goal t m ∷ J) (Condition n e m σ J ∷ K) σ (record w { conditions = n }))
 
 abbrev pub chosen : Control → Term Text → Barrier → List Item → List Choice → Bindings Text → World → Moved
-chosen Succeed t m J K σ w = silent (Going J K σ w)
-chosen Give_up t m J K σ w = silent (Back K w)
-chosen Commit t m J K σ w = silent (Going J (keep m K) σ w)
-chosen (Both a b) t m J K σ w = silent (Going (Goal a m ∷ Goal b m ∷ J) K σ w)
-chosen (Either a b) t m J K σ w = silent (Going (Goal a m ∷ J) (Branch b m σ J ∷ K) σ w)
-chosen (If c a b) t m J K σ w = asked c a b m J K σ w
-chosen Invoke t m J K σ w = invoked t J K σ w
+chosen TrueGoal t m J K σ w = silent (Forward J K σ w)
+chosen FailGoal t m J K σ w = silent (Backward K w)
+chosen CutGoal t m J K σ w = silent (Forward J (keep m K) σ w)
+chosen (Conjunction a b) t m J K σ w = silent (Forward (Goal a m ∷ Goal b m ∷ J) K σ w)
+chosen (Disjunction a b) t m J K σ w = silent (Forward (Goal a m ∷ J) (Branch b m σ J ∷ K) σ w)
+chosen (IfThenElse c a b) t m J K σ w = if_then_else_chosen c a b m J K σ w
+chosen BoxedGoal t m J K σ w = invoked t J K σ w
 
 abbrev pub met : Setup → Clause → ℕ → Term Text → List Item → List Choice → World → Option (Result Text) → Moved
 met s c k g J K w None = silent (Over Spent (record w { steps = s.budget }))
-met s c k g J K w (Some (None, left)) = silent (Back K (record w { steps = s.budget - left }))
+met s c k g J K w (Some (None, left)) = silent (Backward K (record w { steps = s.budget - left }))
 met s c k g J K w (Some (Some τ, left)) =
-    pay s c.variables (record w { steps = s.budget - left }) (λ u. silent (Going (entered w.variables c k g J) K τ (record u { variables = u.variables + c.variables })))
+    pay s c.variables (record w { steps = s.budget - left }) (λ u. silent (Forward (entered w.variables c k g J) K τ (record u { variables = u.variables + c.variables })))
 
--- a clause is tried, with these choices below it
+-- a clause is tried, with these choice points below it
 abbrev pub tried : Setup → Clause → ℕ → Term Text → Bindings Text → List Item → List Choice → World → Moved
 tried s c k g σ J K w =
     pay s 1 w (λ u. met s c k g J K u (unify text_eq (s.budget - u.steps) σ ((g, shift u.variables c.head) ∷ [])))
@@ -113,27 +113,27 @@ tried s c k g σ J K w =
 abbrev pub at_solution : Setup → List Choice → Bindings Text → World → Moved
 at_solution s K σ w =
     let u : World = record w { solutions = w.solutions + 1 } in
-    record { turns = Solved σ u ∷ []; state = if u.solutions == s.wanted then Over Stopped u else Back K u }
+    record { turns = Solved σ u ∷ []; state = if u.solutions == s.wanted then Over Stopped u else Backward K u }
 
 -- another branch: one step, and its goal
 abbrev pub branched : Setup → Term Text → Barrier → Bindings Text → List Item → List Choice → World → Moved
-branched s t m σ J K w = pay s 1 w (λ u. silent (Going (Goal t m ∷ J) K σ u))
+branched s t m σ J K w = pay s 1 w (λ u. silent (Forward (Goal t m ∷ J) K σ u))
 
 abbrev pub move : Setup → State → Moved
-move s (Going [] K σ w) = at_solution s K σ w
-move s (Going (Exit k g ∷ J) K σ w) = showing port.Exit k g σ J w (Going J (Redo k g σ J ∷ K) σ (with_event w))
-move s (Going (Cut m ∷ J) K σ w) = silent (Going J (keep m K) σ w)
-move s (Going (Goal t m ∷ J) K σ w) = pay s 1 w (chosen (control t) t m J K σ)
-move s (Back [] w) = silent (Over Failed w)
-move s (Back (Redo k g σ J ∷ K) w) = showing port.Redo k g σ J w (Back K (with_event w))
-move s (Back (Branch t m σ J ∷ K) w) = branched s t m σ J K w
-move s (Back (Condition n t m σ J ∷ K) w) = branched s t m σ J K w
-move s (Back (Fail k g σ J ∷ K) w) = showing port.Fail k g σ J w (Back K (with_event w))
-move s (Back (More [] k g σ J ∷ K) w) = silent (Back K w)
-move s (Back (More (c ∷ cs) k g σ J ∷ K) w) = tried s c k g σ J (with_more cs k g σ J K) w
+move s (Forward [] K σ w) = at_solution s K σ w
+move s (Forward (Exit k g ∷ J) K σ w) = showing port.Exit k g σ J w (Forward J (Redo k g σ J ∷ K) σ (with_event w))
+move s (Forward (Cut m ∷ J) K σ w) = silent (Forward J (keep m K) σ w)
+move s (Forward (Goal t m ∷ J) K σ w) = pay s 1 w (chosen (control t) t m J K σ)
+move s (Backward [] w) = silent (Over Failed w)
+move s (Backward (Redo k g σ J ∷ K) w) = showing port.Redo k g σ J w (Backward K (with_event w))
+move s (Backward (Branch t m σ J ∷ K) w) = branched s t m σ J K w
+move s (Backward (Condition n t m σ J ∷ K) w) = branched s t m σ J K w
+move s (Backward (Fail k g σ J ∷ K) w) = showing port.Fail k g σ J w (Backward K (with_event w))
+move s (Backward (More [] k g σ J ∷ K) w) = silent (Backward K w)
+move s (Backward (More (c ∷ cs) k g σ J ∷ K) w) = tried s c k g σ J (with_more cs k g σ J K) w
 move s (Over r w) = silent (Over r w)
 
 abbrev pub world_of : State → World
-world_of (Going I K σ w) = w
-world_of (Back K w) = w
+world_of (Forward I K σ w) = w
+world_of (Backward K w) = w
 world_of (Over r w) = w

@@ -10,7 +10,7 @@ use Rattle.op_machine.specs.declared.turn.Turn as declared
 use Rattle.op_machine.specs.declared.turn.Turn.TheVariants as turn
 use Rattle.op_logic.specs.Term.{Term}
 use Rattle.op_machine.specs.Core.{setup_of, world_in, state_of, event_seen, bindings_now, verdict_of, IsSound, IsSeen}
-use Rattle.op_machine.specs.Resume.{owed, Going}
+use Rattle.op_machine.specs.Resume.{owed, Forward}
 use Rattle.op_store.specs.Stored.{Stored}
 use Rattle.op_machine.specs.Program.{clauses, goal_named}
 
@@ -51,7 +51,7 @@ Turned old new (turn.Ended e) = Ended old new e
 
 -- nothing was done yet
 pub record IsBegun (t : Stored) (g : Term ℕ) (n : ℕ) (query_names : List (List ℕ × ℕ)) (budget wanted : ℕ) (c : Core) : Type 0 where
-  pub state : state_of c ≡ Going (Goal (goal_named t g) (Call 0) ∷ []) [] [] (started n (loaded (clauses t)))
+  pub state : state_of c ≡ Forward (Goal (goal_named t g) (Call 0) ∷ []) [] [] (started n (loaded (clauses t)))
   pub names : c.names ≡ query_names
   pub setup : setup_of c ≡ record { budget = budget; wanted = wanted }
   pub steps : c.steps ≡ 0

@@ -1,71 +1,81 @@
 ghost use Rattle.std.specs.Prelude.{◌≡◌, ◌+◌, ◌<◌, ◌≤◌, ◌^◌, ◌∷◌, length, codes, IfOk, OnOk};
 ghost use Rattle.op_logic.specs.Term.{args_of, arity, nth_arg, atom};
 ghost use Rattle.op_term.specs.Places.{term_at};
-ghost use Rattle.op_trace.specs.declared.barrier.Barrier.TheVariants.{Within, Past};
+ghost use Rattle.op_trace.specs.declared.barrier.Barrier.TheVariants.{InCondition, AtSuccess};
 ghost use Rattle.op_trace.specs.World.{Goal, Cut};
-ghost use Rattle.op_trace.specs.Visit.{If, disjunction};
+ghost use Rattle.op_trace.specs.Visit.{IfThenElse, control_of_disjunction};
 ghost use Rattle.op_machine.specs.declared.core_state.Step.TheVariants as step;
-ghost use Rattle.op_machine.specs.Core.{world_in, level_in, items_now, goal_now, bindings_now, choices_in, IsGood, IsGoal};
+ghost use Rattle.op_machine.specs.Core.{world_in, level_in, items_now, goal_now, bindings_now, choice_points_in, IsGood, IsGoal};
 ghost use Rattle.op_machine.specs.Program.{goal_named};
 ghost use Rattle.op_machine.specs.Resume.{chosen};
-ghost use Rattle.op_machine.specs.Rows.{Keeps, Advances, branch_tried, either_before, condition_before};
+ghost use Rattle.op_machine.specs.Rows.{Keeps, Advances, branch_tried, disjunction_before, if_then_else_before};
 
+use crate::continuations::Item;
 use crate::core_state::{Core, Mode, Step};
-use crate::kind::is_then;
-use crate::lists::Item;
+use crate::kind::is_if_then;
 use op_base::Memory;
 use op_bind::Ref;
 use op_trace::Barrier;
 
 impl Core {
-    // A disjunction: a condition with an else branch, or two branches.
-    pub(crate) fn fork(&mut self, goal: Ref, barrier: Barrier, rest: u64) -> Result<(), Memory>
+    // A disjunction: an if-then-else, or two branches.
+    pub(crate) fn select_disjunction(
+        &mut self,
+        goal: Ref,
+        barrier: Barrier,
+        rest: u64,
+    ) -> Result<(), Memory>
         requires good { IsGood self.old }
-        requires there { rest < length self.old.lists }
+        requires there { rest < length self.old.continuations }
         requires goal { IsGoal (length self.old.store.names) self.old.bindings.terms goal }
         requires two { arity (args_of (term_at self.old.bindings.terms goal)) ≡ 2 }
         requires conditions { self.old.conditions < 2 ^ 63 }
         ensures advances { OnOk result (Advances self.old self.new (chosen
-            (disjunction (goal_named self.old.store (nth_arg (args_of (term_at self.old.bindings.terms goal)) 0)) (goal_named self.old.store (nth_arg (args_of (term_at self.old.bindings.terms goal)) 1)))
-            (goal_now self.old goal) barrier (items_now self.old rest) (choices_in self.old) (bindings_now self.old) (world_in self.old)) step.Silent) }
+            (control_of_disjunction (goal_named self.old.store (nth_arg (args_of (term_at self.old.bindings.terms goal)) 0)) (goal_named self.old.store (nth_arg (args_of (term_at self.old.bindings.terms goal)) 1)))
+            (goal_now self.old goal) barrier (items_now self.old rest) (choice_points_in self.old) (bindings_now self.old) (world_in self.old)) step.Silent) }
         ensures keeps { Keeps self.old self.new }
     {
         let first = self.bindings.argument(&goal, 0);
         let second = self.bindings.argument(&goal, 1);
-        if is_then(&self.store, self.bindings.outline(&first)) {
+        if is_if_then(&self.store, self.bindings.outline(&first)) {
             let condition = self.bindings.argument(&first, 0);
             let then = self.bindings.argument(&first, 1);
-            self.ask(condition, then, second, barrier, rest)
+            self.select_if_then_else(condition, then, second, barrier, rest)
         } else {
             self.branch(first, second, barrier, rest)
         }
     }
 
-    // A condition without an else branch, which fails where it has no solution.
-    pub(crate) fn ask_alone(&mut self, goal: Ref, barrier: Barrier, rest: u64) -> Result<(), Memory>
+    // An if-then, which fails where its condition has no solution.
+    pub(crate) fn select_if_then(
+        &mut self,
+        goal: Ref,
+        barrier: Barrier,
+        rest: u64,
+    ) -> Result<(), Memory>
         requires good { IsGood self.old }
-        requires there { rest < length self.old.lists }
+        requires there { rest < length self.old.continuations }
         requires goal { IsGoal (length self.old.store.names) self.old.bindings.terms goal }
         requires two { arity (args_of (term_at self.old.bindings.terms goal)) ≡ 2 }
         requires conditions { self.old.conditions < 2 ^ 63 }
         ensures advances { OnOk result (Advances self.old self.new (chosen
-            (If (goal_named self.old.store (nth_arg (args_of (term_at self.old.bindings.terms goal)) 0)) (goal_named self.old.store (nth_arg (args_of (term_at self.old.bindings.terms goal)) 1)) (atom (codes "fail")))
-            (goal_now self.old goal) barrier (items_now self.old rest) (choices_in self.old) (bindings_now self.old) (world_in self.old)) step.Silent) }
+            (IfThenElse (goal_named self.old.store (nth_arg (args_of (term_at self.old.bindings.terms goal)) 0)) (goal_named self.old.store (nth_arg (args_of (term_at self.old.bindings.terms goal)) 1)) (atom (codes "fail")))
+            (goal_now self.old goal) barrier (items_now self.old rest) (choice_points_in self.old) (bindings_now self.old) (world_in self.old)) step.Silent) }
         ensures keeps { Keeps self.old self.new }
     {
         let _names = self.store.symbols().count();
         let condition = self.bindings.argument(&goal, 0);
         let then = self.bindings.argument(&goal, 1);
-        self.ask(condition, then, self.failure, barrier, rest)
+        self.select_if_then_else(condition, then, self.failure, barrier, rest)
     }
 
-    // Two branches: the first comes next, and the second is kept as a choice.
+    // Two branches: the first comes next, and the second is kept as a choice point.
     fn branch(&mut self, first: Ref, second: Ref, barrier: Barrier, rest: u64) -> Result<(), Memory>
         requires good { IsGood self.old }
-        requires there { rest < length self.old.lists }
+        requires there { rest < length self.old.continuations }
         requires first { IsGoal (length self.old.store.names) self.old.bindings.terms first }
         requires second { IsGoal (length self.old.store.names) self.old.bindings.terms second }
-        ensures advances { OnOk result (Advances self.old self.new (either_before self.old first second barrier rest) step.Silent) }
+        ensures advances { OnOk result (Advances self.old self.new (disjunction_before self.old first second barrier rest) step.Silent) }
         ensures keeps { Keeps self.old self.new }
     {
         self.push_branch(second, barrier, rest)?;
@@ -80,8 +90,8 @@ impl Core {
         Ok(())
     }
 
-    // A condition comes next, and the cut of its success behind it; the else branch is kept as a choice.
-    fn ask(
+    // A condition comes next, and the cut of its success behind it; the else branch is kept as a choice point.
+    fn select_if_then_else(
         &mut self,
         condition: Ref,
         then: Ref,
@@ -90,12 +100,12 @@ impl Core {
         rest: u64,
     ) -> Result<(), Memory>
         requires good { IsGood self.old }
-        requires there { rest < length self.old.lists }
+        requires there { rest < length self.old.continuations }
         requires condition { IsGoal (length self.old.store.names) self.old.bindings.terms condition }
         requires then { IsGoal (length self.old.store.names) self.old.bindings.terms then }
         requires otherwise { IsGoal (length self.old.store.names) self.old.bindings.terms otherwise }
         requires conditions { self.old.conditions < 2 ^ 63 }
-        ensures advances { OnOk result (Advances self.old self.new (condition_before self.old condition then otherwise barrier rest) step.Silent) }
+        ensures advances { OnOk result (Advances self.old self.new (if_then_else_before self.old condition then otherwise barrier rest) step.Silent) }
         ensures keeps { Keeps self.old self.new }
     {
         self.conditions += 1;
@@ -106,7 +116,7 @@ impl Core {
         Ok(())
     }
 
-    // A condition with its number, the cut of its success and what follows it, before a list.
+    // A condition with its number, the cut of its success and what follows it, before a continuation.
     fn add_condition(
         &mut self,
         number: u64,
@@ -116,15 +126,15 @@ impl Core {
         rest: u64,
     ) -> Result<u64, Memory>
         requires good { IsGood self.old }
-        requires there { rest < length self.old.lists }
+        requires there { rest < length self.old.continuations }
         requires condition { IsGoal (length self.old.store.names) self.old.bindings.terms condition }
         requires then { IsGoal (length self.old.store.names) self.old.bindings.terms then }
-        ensures within { IfOk result (λ n. n < length self.new.lists) }
+        ensures within { IfOk result (λ n. n < length self.new.continuations) }
         ensures items { IfOk result (λ n. items_now self.new n
-            ≡ Goal (goal_now self.old condition) (Within number) ∷ Cut (Past number) ∷ Goal (goal_now self.old then) barrier ∷ items_now self.old rest) }
-        ensures choices { OnOk result (choices_in self.new ≡ choices_in self.old) }
+            ≡ Goal (goal_now self.old condition) (InCondition number) ∷ Cut (AtSuccess number) ∷ Goal (goal_now self.old then) barrier ∷ items_now self.old rest) }
+        ensures choices { OnOk result (choice_points_in self.new ≡ choice_points_in self.old) }
         ensures good { OnOk result (IsGood self.new) }
-        ensures rest { self.new ≡ record self.old { lists = self.new.lists } }
+        ensures rest { self.new ≡ record self.old { continuations = self.new.continuations } }
     {
         let tail = self.add(
             Item::Goal {
@@ -135,14 +145,14 @@ impl Core {
         )?;
         let cut = self.add(
             Item::Cut {
-                barrier: Barrier::Past(number),
+                barrier: Barrier::AtSuccess(number),
             },
             tail,
         )?;
         self.add(
             Item::Goal {
                 goal: condition,
-                barrier: Barrier::Within(number),
+                barrier: Barrier::InCondition(number),
             },
             cut,
         )
@@ -156,7 +166,7 @@ impl Core {
         rest: u64,
     ) -> Result<Step, Memory>
         requires good { IsGood self.old }
-        requires there { rest < length self.old.lists }
+        requires there { rest < length self.old.continuations }
         requires goal { IsGoal (length self.old.store.names) self.old.bindings.terms goal }
         requires steps { self.old.steps ≤ self.old.budget }
         ensures advances { IfOk result (Advances self.old self.new (branch_tried self.old goal barrier rest)) }

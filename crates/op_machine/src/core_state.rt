@@ -1,5 +1,5 @@
+use crate::continuations::Continuations;
 use crate::held::Held;
-use crate::lists::Lists;
 use op_bind::{Bindings, Mark, Ref};
 use op_frames::Frames;
 use op_reader::Names;
@@ -20,9 +20,9 @@ pub enum Ending {
 /// What is done next.
 #[derive(Clone, Copy, Debug)]
 pub enum Mode {
-    /// The items of a list, from its number.
+    /// The items of a continuation, from its number.
     Forward { items: u64 },
-    /// The last choice.
+    /// The last choice point.
     Backward,
     /// Nothing.
     Over { ending: Ending },
@@ -52,7 +52,7 @@ pub struct Seen {
 pub struct Core {
     pub store: Store,
     pub bindings: Bindings,
-    pub lists: Lists,
+    pub continuations: Continuations,
     pub frames: Frames<Held>,
     pub mode: Mode,
     pub seen: Seen,

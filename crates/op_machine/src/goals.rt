@@ -1,19 +1,19 @@
 ghost use Rattle.std.specs.Prelude.{◌≡◌, ◌+◌, ◌<◌, ◌≤◌, ◌^◌, ◌∷◌, length, IfOk, OnOk};
 ghost use Rattle.op_trace.specs.declared.barrier.Barrier.{Barrier};
 ghost use Rattle.op_trace.specs.World.{Goal};
-ghost use Rattle.op_trace.specs.Visit.{control, Both};
+ghost use Rattle.op_trace.specs.Visit.{control, Conjunction};
 ghost use Rattle.op_machine.specs.declared.core_state.Step.TheVariants as step;
-ghost use Rattle.op_machine.specs.Core.{world_in, level_in, items_now, goal_now, bindings_now, choices_in, IsGood, IsGoal};
-ghost use Rattle.op_machine.specs.Resume.{silent, Going};
-ghost use Rattle.op_machine.specs.Rows.{Keeps, Advances, chosen_now, goal_moved, rule_met, rule_tried, rules_tried, both_before};
+ghost use Rattle.op_machine.specs.Core.{world_in, level_in, items_now, goal_now, bindings_now, choice_points_in, IsGood, IsGoal};
+ghost use Rattle.op_machine.specs.Resume.{silent, Forward};
+ghost use Rattle.op_machine.specs.Rows.{Keeps, Advances, chosen_now, goal_moved, clause_met, clause_tried, clauses_tried, conjunction_before};
 ghost use Rattle.op_machine.specs.Boxes.{IsCalled};
 ghost use Rattle.op_machine.specs.Program.{IsKnown, AreKnown};
 ghost use Rattle.op_term.specs.Places.{term_at};
 ghost use Rattle.op_logic.specs.Term.{args_of, arity};
 
+use crate::continuations::Item;
 use crate::core_state::{Core, Mode, Step};
 use crate::kind::{Kind, kind_of};
-use crate::lists::Item;
 use op_base::Memory;
 use op_bind::{Clause, Ref};
 use op_store::Snapshot;
@@ -24,7 +24,7 @@ impl Core {
     // A goal is selected.
     pub(crate) fn select(&mut self, goal: Ref, barrier: Barrier, rest: u64) -> Result<Step, Memory>
         requires good { IsGood self.old }
-        requires there { rest < length self.old.lists }
+        requires there { rest < length self.old.continuations }
         requires goal { IsGoal (length self.old.store.names) self.old.bindings.terms goal }
         requires fits { self.old.events < 2 ^ 63 }
         requires calls { self.old.calls < 2 ^ 63 }
@@ -42,7 +42,7 @@ impl Core {
     // A goal of which the step was paid.
     fn choose(&mut self, goal: Ref, barrier: Barrier, rest: u64) -> Result<Step, Memory>
         requires good { IsGood self.old }
-        requires there { rest < length self.old.lists }
+        requires there { rest < length self.old.continuations }
         requires goal { IsGoal (length self.old.store.names) self.old.bindings.terms goal }
         requires fits { self.old.events < 2 ^ 63 }
         requires calls { self.old.calls < 2 ^ 63 }
@@ -51,29 +51,29 @@ impl Core {
         ensures keeps { Keeps self.old self.new }
     {
         match kind_of(&self.store, self.bindings.outline(&goal)) {
-            Kind::Truth => {
+            Kind::True => {
                 self.mode = Mode::Forward { items: rest };
                 Ok(Step::Silent)
             }
-            Kind::Failure => {
+            Kind::Fail => {
                 self.mode = Mode::Backward;
                 Ok(Step::Silent)
             }
             Kind::Cut => {
-                self.prune(barrier);
+                self.make_cut(barrier);
                 self.mode = Mode::Forward { items: rest };
                 Ok(Step::Silent)
             }
-            Kind::Both => {
-                self.split(goal, barrier, rest)?;
+            Kind::Conjunction => {
+                self.select_conjunction(goal, barrier, rest)?;
                 Ok(Step::Silent)
             }
-            Kind::Either => {
-                self.fork(goal, barrier, rest)?;
+            Kind::Disjunction => {
+                self.select_disjunction(goal, barrier, rest)?;
                 Ok(Step::Silent)
             }
-            Kind::Then => {
-                self.ask_alone(goal, barrier, rest)?;
+            Kind::IfThen => {
+                self.select_if_then(goal, barrier, rest)?;
                 Ok(Step::Silent)
             }
             Kind::Boxed => self.invoke(goal, rest),
@@ -81,12 +81,12 @@ impl Core {
     }
 
     // Both goals of a conjunction come next.
-    fn split(&mut self, goal: Ref, barrier: Barrier, rest: u64) -> Result<(), Memory>
+    fn select_conjunction(&mut self, goal: Ref, barrier: Barrier, rest: u64) -> Result<(), Memory>
         requires good { IsGood self.old }
-        requires there { rest < length self.old.lists }
+        requires there { rest < length self.old.continuations }
         requires goal { IsGoal (length self.old.store.names) self.old.bindings.terms goal }
-        requires both { arity (args_of (term_at self.old.bindings.terms goal)) ≡ 2 }
-        ensures advances { OnOk result (Advances self.old self.new (silent (Going (both_before self.old goal barrier rest) (choices_in self.old) (bindings_now self.old) (world_in self.old))) step.Silent) }
+        requires two { arity (args_of (term_at self.old.bindings.terms goal)) ≡ 2 }
+        ensures advances { OnOk result (Advances self.old self.new (silent (Forward (conjunction_before self.old goal barrier rest) (choice_points_in self.old) (bindings_now self.old) (world_in self.old))) step.Silent) }
         ensures keeps { Keeps self.old self.new }
     {
         let first = self.bindings.argument(&goal, 0);
@@ -109,61 +109,61 @@ impl Core {
         Ok(())
     }
 
-    // One of some clauses is tried, and those behind it are kept as a choice.
+    // One of some clauses is tried, and those behind it are kept as a choice point.
     pub(crate) fn retry(
         &mut self,
-        rules: &Snapshot,
+        snapshot: &Snapshot,
         next: u64,
         call: u64,
         goal: Ref,
         rest: u64,
     ) -> Result<Step, Memory>
         requires good { IsGood self.old }
-        requires there { rest < length self.old.lists }
+        requires there { rest < length self.old.continuations }
         requires goal { IsGoal (length self.old.store.names) self.old.bindings.terms goal }
-        requires here { next < length rules.now }
-        requires known { AreKnown (length self.old.store.names) rules.now }
-        requires called { IsCalled self.old.frames.boxes self.old.calls self.old.lists call goal rest }
+        requires here { next < length snapshot.now }
+        requires known { AreKnown (length self.old.store.names) snapshot.now }
+        requires called { IsCalled self.old.frames.boxes self.old.calls self.old.continuations call goal rest }
         requires steps { self.old.steps ≤ self.old.budget }
-        ensures advances { IfOk result (Advances self.old self.new (rules_tried self.old rules.now next call goal rest)) }
+        ensures advances { IfOk result (Advances self.old self.new (clauses_tried self.old snapshot.now next call goal rest)) }
         ensures keeps { Keeps self.old self.new }
     {
-        let _count = rules.len();
-        self.push_more(rules, next + 1, call, goal, rest)?;
-        self.attempt(rules.clause(next), call, goal, rest)
+        let _count = snapshot.len();
+        self.push_more(snapshot, next + 1, call, goal, rest)?;
+        self.attempt(snapshot.clause(next), call, goal, rest)
     }
 
     // A clause for the goal of a box is tried: a step, and those of the head.
-    fn attempt(&mut self, rule: &Clause, call: u64, goal: Ref, rest: u64) -> Result<Step, Memory>
+    fn attempt(&mut self, clause: &Clause, call: u64, goal: Ref, rest: u64) -> Result<Step, Memory>
         requires good { IsGood self.old }
-        requires there { rest < length self.old.lists }
+        requires there { rest < length self.old.continuations }
         requires goal { IsGoal (length self.old.store.names) self.old.bindings.terms goal }
-        requires known { IsKnown (length self.old.store.names) rule.now }
-        requires called { IsCalled self.old.frames.boxes self.old.calls self.old.lists call goal rest }
+        requires known { IsKnown (length self.old.store.names) clause.now }
+        requires called { IsCalled self.old.frames.boxes self.old.calls self.old.continuations call goal rest }
         requires steps { self.old.steps ≤ self.old.budget }
-        ensures advances { IfOk result (Advances self.old self.new (rule_tried self.old rule.now call goal rest)) }
+        ensures advances { IfOk result (Advances self.old self.new (clause_tried self.old clause.now call goal rest)) }
         ensures keeps { Keeps self.old self.new }
     {
         if !self.spend() {
             return Ok(Step::Silent);
         }
-        self.meet(rule, call, goal, rest)
+        self.meet(clause, call, goal, rest)
     }
 
     // A clause's head is unified with the goal; where they match, its body comes next.
-    fn meet(&mut self, rule: &Clause, call: u64, goal: Ref, rest: u64) -> Result<Step, Memory>
+    fn meet(&mut self, clause: &Clause, call: u64, goal: Ref, rest: u64) -> Result<Step, Memory>
         requires good { IsGood self.old }
-        requires there { rest < length self.old.lists }
+        requires there { rest < length self.old.continuations }
         requires goal { IsGoal (length self.old.store.names) self.old.bindings.terms goal }
-        requires known { IsKnown (length self.old.store.names) rule.now }
-        requires called { IsCalled self.old.frames.boxes self.old.calls self.old.lists call goal rest }
+        requires known { IsKnown (length self.old.store.names) clause.now }
+        requires called { IsCalled self.old.frames.boxes self.old.calls self.old.continuations call goal rest }
         requires steps { self.old.steps ≤ self.old.budget }
-        ensures advances { IfOk result (Advances self.old self.new (rule_met self.old rule.now call goal rest)) }
+        ensures advances { IfOk result (Advances self.old self.new (clause_met self.old clause.now call goal rest)) }
         ensures keeps { Keeps self.old self.new }
     {
         let _names = self.store.symbols().count();
         let mut fuel = Fuel::new(self.budget - self.steps);
-        match self.bindings.rename(rule, &goal, &mut fuel) {
+        match self.bindings.rename(clause, &goal, &mut fuel) {
             Ok(Some(body)) => {
                 self.steps = self.budget - fuel.left();
                 self.enter(body, call, goal, rest)?;

@@ -2,7 +2,7 @@ ghost use Rattle.std.specs.Prelude.{◌≡◌, ◌≢◌, ◌<◌};
 ghost use Rattle.std.specs.Bool.{OnTrue, OnFalse};
 ghost use Rattle.op_logic.specs.Term.{Term, args_of, arity, nth_arg};
 ghost use Rattle.op_term.specs.Head.{head};
-ghost use Rattle.op_trace.specs.Visit.{control, is_true, disjunction, If, Either};
+ghost use Rattle.op_trace.specs.Visit.{control, is_true, control_of_disjunction, IfThenElse, Disjunction};
 ghost use Rattle.op_trace.specs.World.{Text};
 ghost use Rattle.op_machine.specs.Program.{goal_named};
 ghost use Rattle.op_machine.specs.Kinds.{control_of_kind, IsPair};
@@ -15,17 +15,17 @@ use op_term::{Node, Sym};
 #[derive(Clone, Copy, Debug, PartialEq, Eq)]
 pub enum Kind {
     /// `true`.
-    Truth,
+    True,
     /// `fail` or `false`.
-    Failure,
+    Fail,
     /// A cut.
     Cut,
     /// A conjunction.
-    Both,
-    /// A disjunction, perhaps with a condition as its first part.
-    Either,
-    /// A condition without an else branch.
-    Then,
+    Conjunction,
+    /// A disjunction, or an if-then-else.
+    Disjunction,
+    /// An if-then.
+    IfThen,
     /// A goal that has a box.
     Boxed,
 }
@@ -45,7 +45,7 @@ pub(crate) fn kind_of(store: &Store, node: Node) -> Kind
 }
 
 /// Whether a term with this outermost node is the atom `true`, over the names of a store.
-pub(crate) fn is_truth(store: &Store, node: Node) -> bool
+pub(crate) fn is_true_atom(store: &Store, node: Node) -> bool
     ensures { (g : Term _) → head g ≡ node → result ≡ is_true (goal_named store.now g) }
 {
     let _names = store.symbols().count();
@@ -59,16 +59,16 @@ pub(crate) fn is_truth(store: &Store, node: Node) -> bool
 
 // the kinds of atoms, by the numbers that a store gives the control constructs
 fn atom_kind(name: Sym) -> Kind
-    ensures truth { name.0 ≡ 0 → result ≡ kinds.Truth }
-    ensures failure { name.0 ≡ 1 → result ≡ kinds.Failure }
-    ensures falsity { name.0 ≡ 2 → result ≡ kinds.Failure }
-    ensures cut { name.0 ≡ 6 → result ≡ kinds.Cut }
+    ensures true_name { name.0 ≡ 0 → result ≡ kinds.True }
+    ensures fail_name { name.0 ≡ 1 → result ≡ kinds.Fail }
+    ensures false_name { name.0 ≡ 2 → result ≡ kinds.Fail }
+    ensures cut_name { name.0 ≡ 6 → result ≡ kinds.Cut }
     ensures other { 2 < name.0 → name.0 ≢ 6 → result ≡ kinds.Boxed }
 {
     match name.0 {
-        0 => Kind::Truth,
-        1 => Kind::Failure,
-        2 => Kind::Failure,
+        0 => Kind::True,
+        1 => Kind::Fail,
+        2 => Kind::Fail,
         6 => Kind::Cut,
         _ => Kind::Boxed,
     }
@@ -76,9 +76,9 @@ fn atom_kind(name: Sym) -> Kind
 
 // the kinds of compounds, likewise
 fn struct_kind(name: Sym, arity: u64) -> Kind
-    ensures both { name.0 ≡ 3 → arity ≡ 2 → result ≡ kinds.Both }
-    ensures either { name.0 ≡ 4 → arity ≡ 2 → result ≡ kinds.Either }
-    ensures then { name.0 ≡ 5 → arity ≡ 2 → result ≡ kinds.Then }
+    ensures conjunction { name.0 ≡ 3 → arity ≡ 2 → result ≡ kinds.Conjunction }
+    ensures disjunction { name.0 ≡ 4 → arity ≡ 2 → result ≡ kinds.Disjunction }
+    ensures if_then { name.0 ≡ 5 → arity ≡ 2 → result ≡ kinds.IfThen }
     ensures other { name.0 ≢ 3 → name.0 ≢ 4 → name.0 ≢ 5 → result ≡ kinds.Boxed }
     ensures long { arity ≢ 2 → result ≡ kinds.Boxed }
     ensures two { IsPair result → arity ≡ 2 }
@@ -87,19 +87,19 @@ fn struct_kind(name: Sym, arity: u64) -> Kind
         return Kind::Boxed;
     }
     match name.0 {
-        3 => Kind::Both,
-        4 => Kind::Either,
-        5 => Kind::Then,
+        3 => Kind::Conjunction,
+        4 => Kind::Disjunction,
+        5 => Kind::IfThen,
         _ => Kind::Boxed,
     }
 }
 
-/// Whether a term with this outermost node is a condition with what follows it, over the names of a store.
-pub(crate) fn is_then(store: &Store, node: Node) -> bool
+/// Whether a term with this outermost node is an if-then, over the names of a store.
+pub(crate) fn is_if_then(store: &Store, node: Node) -> bool
     ensures yes { OnTrue result ((g : Term _) → head g ≡ node → arity (args_of g) ≡ 2) }
     ensures condition { OnTrue result ((g : Term _) → head g ≡ node → (e : Term Text)
-        → disjunction (goal_named store.now g) e ≡ If (goal_named store.now (nth_arg (args_of g) 0)) (goal_named store.now (nth_arg (args_of g) 1)) e) }
-    ensures no { OnFalse result ((g : Term _) → head g ≡ node → (e : Term Text) → disjunction (goal_named store.now g) e ≡ Either (goal_named store.now g) e) }
+        → control_of_disjunction (goal_named store.now g) e ≡ IfThenElse (goal_named store.now (nth_arg (args_of g) 0)) (goal_named store.now (nth_arg (args_of g) 1)) e) }
+    ensures no { OnFalse result ((g : Term _) → head g ≡ node → (e : Term Text) → control_of_disjunction (goal_named store.now g) e ≡ Disjunction (goal_named store.now g) e) }
 {
     let _names = store.symbols().count();
     match node {

@@ -8,7 +8,7 @@ ghost use Rattle.op_machine.specs.Resume.{keep, resume};
 
 pub use op_readback::laws::read_back;
 
-/// What choices owe after a cut to a barrier is what the choices that the cut keeps owe after a failure.
+/// What choice points owe after a cut to a barrier is what the choice points that the cut keeps owe after a failure.
 pub fn cut_owes()
     ensures { (s : Setup) (K : List Choice) (m : Barrier) (w : World) → resume s K (CutTo m) w ≡ resume s (keep m K) Failed w }
 {}

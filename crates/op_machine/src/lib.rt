@@ -2,13 +2,13 @@
 #![tactic(auto)]
 
 mod branches;
-mod choices;
+mod choice_points;
+mod continuations;
 mod core_state;
 mod goals;
 mod held;
 mod kind;
 pub mod laws;
-mod lists;
 mod machine;
 mod moves;
 mod parts;

@@ -1,15 +1,15 @@
 ghost use Rattle.std.specs.Prelude.{◌≡◌, ◌+◌, ◌<◌, ◌≤◌, ◌^◌, [], ◌∷◌, length, IfOk};
 ghost use Rattle.op_machine.specs.declared.core_state.Mode.TheVariants as mode;
-ghost use Rattle.op_machine.specs.Core.{setup_of, state_of, world_in, level_in, items_now, bindings_now, choices_in, choice_of, item_term, IsGood, IsGoal, IsItem, IsFrame};
+ghost use Rattle.op_machine.specs.Core.{setup_of, state_of, world_in, level_in, items_now, bindings_now, choice_points_in, choice_point_of, item_term, IsGood, IsGoal, IsItem, IsFrame};
 ghost use Rattle.op_machine.specs.Program.{AreKnown};
-ghost use Rattle.op_store.specs.Snapshots.{rules_in};
-ghost use Rattle.op_machine.specs.Resume.{move, Going, Back};
+ghost use Rattle.op_store.specs.Snapshots.{snapshot_clauses};
+ghost use Rattle.op_machine.specs.Resume.{move, Forward, Backward};
 ghost use Rattle.op_machine.specs.Boxes.{IsCalled, IsTried};
-ghost use Rattle.op_machine.specs.Rows.{Keeps, Advances, rules_tried};
+ghost use Rattle.op_machine.specs.Rows.{Keeps, Advances, clauses_tried};
 
+use crate::continuations::Item;
 use crate::core_state::{Core, Ending, Mode, Step};
 use crate::held::Held;
-use crate::lists::Item;
 use op_base::Memory;
 use op_frames::{Choice, ChoiceKind};
 use op_trace::Port;
@@ -33,20 +33,20 @@ impl Core {
         }
     }
 
-    // The first item of a list is done, or there is none.
+    // The first item of a continuation is done, or there is none.
     fn forward(&mut self, items: u64) -> Result<Step, Memory>
         requires good { IsGood self.old }
-        requires there { items < length self.old.lists }
+        requires there { items < length self.old.continuations }
         requires events { self.old.events < 2 ^ 63 }
         requires solutions { self.old.solutions < 2 ^ 63 }
         requires calls { self.old.calls < 2 ^ 63 }
         requires conditions { self.old.conditions < 2 ^ 63 }
         requires steps { self.old.steps ≤ self.old.budget }
         ensures advances { IfOk result (Advances self.old self.new (move (setup_of self.old)
-            (Going (items_now self.old items) (choices_in self.old) (bindings_now self.old) (world_in self.old)))) }
+            (Forward (items_now self.old items) (choice_points_in self.old) (bindings_now self.old) (world_in self.old)))) }
         ensures keeps { Keeps self.old self.new }
     {
-        match self.lists.first(items) {
+        match self.continuations.first(items) {
             Some((item, rest)) => self.perform(item, rest),
             None => Ok(self.solve()),
         }
@@ -56,19 +56,19 @@ impl Core {
     fn perform(&mut self, item: Item, rest: u64) -> Result<Step, Memory>
         requires good { IsGood self.old }
         requires item { IsItem (length self.old.store.names) self.old.bindings.terms item }
-        requires there { rest < length self.old.lists }
+        requires there { rest < length self.old.continuations }
         requires events { self.old.events < 2 ^ 63 }
         requires calls { self.old.calls < 2 ^ 63 }
         requires conditions { self.old.conditions < 2 ^ 63 }
         requires steps { self.old.steps ≤ self.old.budget }
         ensures advances { IfOk result (Advances self.old self.new (move (setup_of self.old)
-            (Going (item_term self.old.store (level_in self.old) item ∷ items_now self.old rest) (choices_in self.old) (bindings_now self.old) (world_in self.old)))) }
+            (Forward (item_term self.old.store (level_in self.old) item ∷ items_now self.old rest) (choice_points_in self.old) (bindings_now self.old) (world_in self.old)))) }
         ensures keeps { Keeps self.old self.new }
     {
         match item {
             Item::Goal { goal, barrier } => self.select(goal, barrier, rest),
             Item::Cut { barrier } => {
-                self.prune(barrier);
+                self.make_cut(barrier);
                 self.mode = Mode::Forward { items: rest };
                 Ok(Step::Silent)
             }
@@ -76,14 +76,14 @@ impl Core {
         }
     }
 
-    // The last choice is taken, or there is none.
+    // The last choice point is taken, or there is none.
     fn backward(&mut self) -> Result<Step, Memory>
         requires good { IsGood self.old }
         requires mode { self.old.mode ≡ mode.Backward }
         requires events { self.old.events < 2 ^ 63 }
         requires calls { self.old.calls < 2 ^ 63 }
         requires steps { self.old.steps ≤ self.old.budget }
-        ensures advances { IfOk result (Advances self.old self.new (move (setup_of self.old) (Back (choices_in self.old) (world_in self.old)))) }
+        ensures advances { IfOk result (Advances self.old self.new (move (setup_of self.old) (Backward (choice_points_in self.old) (world_in self.old)))) }
         ensures keeps { Keeps self.old self.new }
     {
         match self.pop() {
@@ -100,16 +100,16 @@ impl Core {
         }
     }
 
-    // What a choice, made at the present moment, does after a failure.
+    // What a choice point, made at the present moment, does after a failure.
     fn resume(&mut self, choice: &Choice<Held>) -> Result<Step, Memory>
         requires good { IsGood self.old }
         requires frame { IsFrame self.old.store (level_in self.old) choice.now }
         requires calls { choice.now.kept.calls ≤ self.old.calls }
-        requires tried { IsTried self.old.frames.boxes self.old.lists choice.now.kind choice.now.kept choice.now.rest }
+        requires tried { IsTried self.old.frames.boxes self.old.continuations choice.now.kind choice.now.kept choice.now.rest }
         requires events { self.old.events < 2 ^ 63 }
         requires steps { self.old.steps ≤ self.old.budget }
         ensures advances { IfOk result (Advances self.old self.new (move (setup_of self.old)
-            (Back (choice_of self.old.store (level_in self.old) choice.now ∷ choices_in self.old) (world_in self.old)))) }
+            (Backward (choice_point_of self.old.store (level_in self.old) choice.now ∷ choice_points_in self.old) (world_in self.old)))) }
         ensures keeps { Keeps self.old self.new }
     {
         let kept = &choice.kept;
@@ -124,20 +124,20 @@ impl Core {
         }
     }
 
-    // The next of the clauses that a choice keeps is tried.
+    // The next of the clauses that a choice point keeps is tried.
     fn go_on(&mut self, kept: &Held, call: u64, rest: u64) -> Result<Step, Memory>
         requires good { IsGood self.old }
-        requires there { rest < length self.old.lists }
+        requires there { rest < length self.old.continuations }
         requires goal { IsGoal (length self.old.store.names) self.old.bindings.terms kept.now.goal }
-        requires here { kept.now.next < length (rules_in kept.now.rules) }
-        requires known { AreKnown (length self.old.store.names) (rules_in kept.now.rules) }
-        requires called { IsCalled self.old.frames.boxes self.old.calls self.old.lists call kept.now.goal rest }
+        requires here { kept.now.next < length (snapshot_clauses kept.now.snapshot) }
+        requires known { AreKnown (length self.old.store.names) (snapshot_clauses kept.now.snapshot) }
+        requires called { IsCalled self.old.frames.boxes self.old.calls self.old.continuations call kept.now.goal rest }
         requires steps { self.old.steps ≤ self.old.budget }
-        ensures advances { IfOk result (Advances self.old self.new (rules_tried self.old (rules_in kept.now.rules) kept.now.next call kept.now.goal rest)) }
+        ensures advances { IfOk result (Advances self.old self.new (clauses_tried self.old (snapshot_clauses kept.now.snapshot) kept.now.next call kept.now.goal rest)) }
         ensures keeps { Keeps self.old self.new }
     {
-        match &kept.rules {
-            Some(rules) => self.retry(rules, kept.next, call, kept.goal, rest),
+        match &kept.snapshot {
+            Some(snapshot) => self.retry(snapshot, kept.next, call, kept.goal, rest),
             None => Ok(Step::Silent),
         }
     }

@@ -6,7 +6,7 @@ ghost use Rattle.op_bind.specs.Grown.{Grows};
 ghost use Rattle.op_machine.specs.Core.{AreValues};
 ghost use Rattle.op_machine.specs.Made.{IsMade};
 
-use crate::lists::{Item, Lists};
+use crate::continuations::{Continuations, Item};
 use op_base::Memory;
 use op_bind::{Bindings, Mark, Ref};
 use op_reader::Names;
@@ -27,8 +27,8 @@ pub struct Parts {
     // what was made before the body
     pub floor: Mark,
     pub body: Ref,
-    pub lists: Lists,
-    // the list of the goal alone
+    pub continuations: Continuations,
+    // the continuation of the goal alone
     pub items: u64,
 }
 
@@ -86,8 +86,8 @@ pub(crate) fn make(alloc: Global, goal: &Goal) -> Result<Parts, Memory>
     let failure = load_failure(alloc, &mut bindings)?;
     let floor = bindings.mark();
     let body = bindings.load(&goal.body, first)?;
-    let mut lists = Lists::new(alloc);
-    let items = lists.add(
+    let mut continuations = Continuations::new(alloc);
+    let items = continuations.add(
         Item::Goal {
             goal: body,
             barrier: Barrier::Call(0),
@@ -101,7 +101,7 @@ pub(crate) fn make(alloc: Global, goal: &Goal) -> Result<Parts, Memory>
         failure,
         floor,
         body,
-        lists,
+        continuations,
         items,
     })
 }

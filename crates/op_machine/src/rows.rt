@@ -8,19 +8,19 @@ ghost use Rattle.op_bind.specs.State.{undone};
 ghost use Rattle.op_machine.specs.declared.core_state.Mode.TheVariants as mode;
 ghost use Rattle.op_machine.specs.declared.core_state.Ending.TheVariants as ending;
 ghost use Rattle.op_machine.specs.declared.core_state.Step.TheVariants as step;
-ghost use Rattle.op_machine.specs.Core.{setup_of, world_in, level_in, items_now, goal_now, bindings_now, choices_in, item_term, items_in, event_seen, IsGood, IsItem, IsGoal, IsEarlier};
+ghost use Rattle.op_machine.specs.Core.{setup_of, world_in, level_in, items_now, goal_now, bindings_now, choice_points_in, item_term, items_in, event_seen, IsGood, IsItem, IsGoal, IsEarlier};
 ghost use Rattle.op_frames.specs.Frames.{open_from};
 ghost use Rattle.op_machine.specs.Boxes.{boxes_before, IsCalled, IsEntered};
 ghost use Rattle.op_machine.specs.Program.{clauses, clauses_from, AreKnown};
-ghost use Rattle.op_machine.specs.Resume.{at_solution, showing, with_more, silent, Going, Back};
+ghost use Rattle.op_machine.specs.Resume.{at_solution, showing, with_more, silent, Forward, Backward};
 ghost use Rattle.op_machine.specs.Rows.{Keeps, Advances, IsLooked, exit_moved, box_invoked, body_entered, body_before};
 ghost use Rattle.op_trace.specs.World.{procedure};
-ghost use Rattle.op_store.specs.Snapshots.{rules_in};
+ghost use Rattle.op_store.specs.Snapshots.{snapshot_clauses};
 
+use crate::continuations::Item;
 use crate::core_state::{Core, Ending, Mode, Seen, Step};
 use crate::held::Held;
-use crate::kind::is_truth;
-use crate::lists::Item;
+use crate::kind::is_true_atom;
 use crate::procedure::pi_of;
 use op_base::Memory;
 use op_bind::Ref;
@@ -58,7 +58,7 @@ impl Core {
 
     // Shows an event of a box with these items behind it.
     pub(crate) fn show(&mut self, port: Port, call: u64, goal: Ref, rest: u64)
-        requires there { rest < length self.old.lists }
+        requires there { rest < length self.old.continuations }
         requires fits { self.old.events < 2 ^ 63 }
         ensures seen { event_seen self.old.store self.old.bindings self.new.seen
             ≡ event_of port call (goal_now self.old goal) (bindings_now self.old) (items_now self.old rest) (world_in self.old) }
@@ -69,51 +69,51 @@ impl Core {
         self.seen = Seen {
             chrono: self.events,
             call,
-            parent: self.lists.parent(rest),
-            depth: self.lists.depth(rest) + 1,
+            parent: self.continuations.parent(rest),
+            depth: self.continuations.depth(rest) + 1,
             port,
             goal,
         };
     }
 
-    // Back to the bindings, the lists and the boxes that were there when a choice was made.
+    // Back to the bindings, the continuations and the boxes that were there when a choice point was made.
     pub(crate) fn restore(&mut self, choice: &Choice<Held>)
         requires earlier { IsEarlier choice.now (level_in self.old) }
-        requires some { 0 < choice.now.kept.lists }
+        requires some { 0 < choice.now.kept.continuations }
         requires calls { choice.now.kept.calls < 2 ^ 63 }
         ensures back { self.new ≡ record self.old {
           bindings = undone self.old.bindings choice.now.mark;
-          lists = take choice.now.kept.lists self.old.lists;
+          continuations = take choice.now.kept.continuations self.old.continuations;
           frames = record self.old.frames { boxes = boxes_before (choice.now.kept.calls + 1) self.old.frames.boxes };
         } }
         ensures stays { (n : ℕ) → n < choice.now.kept.calls + 1
             → open_from (boxes_before (choice.now.kept.calls + 1) self.old.frames.boxes) n ≡ open_from self.old.frames.boxes n }
     {
         self.bindings.undo_to(choice.mark);
-        self.lists.cut(choice.kept.lists);
+        self.continuations.cut(choice.kept.continuations);
         self.frames.drop_boxes(choice.kept.calls + 1);
     }
 
-    // A list that begins with an item.
+    // A continuation that begins with an item.
     pub(crate) fn add(&mut self, item: Item, rest: u64) -> Result<u64, Memory>
         requires good { IsGood self.old }
         requires item { IsItem (length self.old.store.names) self.old.bindings.terms item }
-        requires there { rest < length self.old.lists }
-        requires entered { IsEntered self.old.frames.boxes self.old.calls self.old.lists item rest }
-        ensures within { IfOk result (λ n. n < length self.new.lists) }
+        requires there { rest < length self.old.continuations }
+        requires entered { IsEntered self.old.frames.boxes self.old.calls self.old.continuations item rest }
+        ensures within { IfOk result (λ n. n < length self.new.continuations) }
         ensures items { IfOk result (λ n. items_now self.new n ≡ item_term self.old.store (level_in self.old) item ∷ items_now self.old rest) }
-        ensures choices { OnOk result (choices_in self.new ≡ choices_in self.old) }
+        ensures choices { OnOk result (choice_points_in self.new ≡ choice_points_in self.old) }
         ensures good { OnOk result (IsGood self.new) }
-        ensures rest { self.new ≡ record self.old { lists = self.new.lists } }
+        ensures rest { self.new ≡ record self.old { continuations = self.new.continuations } }
     {
-        Ok(self.lists.add(item, rest)?)
+        Ok(self.continuations.add(item, rest)?)
     }
 
     // No item is left: a solution, which is the last if it is the wanted one.
     pub(crate) fn solve(&mut self) -> Step
         requires good { IsGood self.old }
         requires fits { self.old.solutions < 2 ^ 63 }
-        ensures advances { Advances self.old self.new (at_solution (setup_of self.old) (choices_in self.old) (bindings_now self.old) (world_in self.old)) result }
+        ensures advances { Advances self.old self.new (at_solution (setup_of self.old) (choice_points_in self.old) (bindings_now self.old) (world_in self.old)) result }
         ensures keeps { Keeps self.old self.new }
     {
         self.solutions += 1;
@@ -130,7 +130,7 @@ impl Core {
     // The exit of a box, which is redone when the machine comes back to it.
     pub(crate) fn exit_box(&mut self, call: u64, goal: Ref, rest: u64) -> Result<Step, Memory>
         requires good { IsGood self.old }
-        requires there { rest < length self.old.lists }
+        requires there { rest < length self.old.continuations }
         requires goal { IsGoal (length self.old.store.names) self.old.bindings.terms goal }
         requires fits { self.old.events < 2 ^ 63 }
         ensures advances { IfOk result (Advances self.old self.new (exit_moved self.old call goal rest)) }
@@ -145,12 +145,12 @@ impl Core {
     // A box is entered again, or has failed: an event, and the machine goes on back.
     pub(crate) fn go_back(&mut self, port: Port, call: u64, goal: Ref, rest: u64) -> Step
         requires good { IsGood self.old }
-        requires there { rest < length self.old.lists }
+        requires there { rest < length self.old.continuations }
         requires goal { IsGoal (length self.old.store.names) self.old.bindings.terms goal }
         requires fits { self.old.events < 2 ^ 63 }
         ensures advances { Advances self.old self.new (showing port call (goal_now self.old goal) (bindings_now self.old)
             (items_now self.old rest) (world_in self.old)
-            (Back (choices_in self.old) (with_event (world_in self.old)))) result }
+            (Backward (choice_points_in self.old) (with_event (world_in self.old)))) result }
         ensures keeps { Keeps self.old self.new }
     {
         self.show(port, call, goal, rest);
@@ -161,7 +161,7 @@ impl Core {
     // A goal with a box is invoked: its clauses are tried by going back to them.
     pub(crate) fn invoke(&mut self, goal: Ref, rest: u64) -> Result<Step, Memory>
         requires good { IsGood self.old }
-        requires there { rest < length self.old.lists }
+        requires there { rest < length self.old.continuations }
         requires goal { IsGoal (length self.old.store.names) self.old.bindings.terms goal }
         requires fits { self.old.events < 2 ^ 63 }
         requires calls { self.old.calls < 2 ^ 63 }
@@ -176,13 +176,13 @@ impl Core {
         Ok(Step::Event)
     }
 
-    // A box is called before a list, and gets the next number.
+    // A box is called before a continuation, and gets the next number.
     fn call_box(&mut self, goal: Ref, rest: u64) -> Result<u64, Memory>
         requires good { IsGood self.old }
-        requires there { rest < length self.old.lists }
+        requires there { rest < length self.old.continuations }
         requires calls { self.old.calls < 2 ^ 63 }
         ensures number { IfOk result (λ k. k ≡ self.old.calls + 1) }
-        ensures called { IfOk result (λ k. IsCalled self.new.frames.boxes self.new.calls self.new.lists k goal rest) }
+        ensures called { IfOk result (λ k. IsCalled self.new.frames.boxes self.new.calls self.new.continuations k goal rest) }
         ensures choices { self.new.frames.choices ≡ self.old.frames.choices }
         ensures good { OnOk result (IsGood self.new) }
         ensures calls { OnOk result (self.new.calls ≡ self.old.calls + 1) }
@@ -190,7 +190,7 @@ impl Core {
     {
         self.calls += 1;
         let number = self.calls;
-        let parent = self.lists.parent(rest);
+        let parent = self.continuations.parent(rest);
         let mark = self.bindings.mark();
         self.frames.push_box(number, parent, goal, mark)?;
         Ok(number)
@@ -199,8 +199,8 @@ impl Core {
     // The clauses of a goal's procedure at this moment, or None where there is no such procedure.
     fn clauses_of(&self, goal: Ref) -> Result<Option<Snapshot>, Memory>
         requires { goal < length self.now.bindings.terms }
-        ensures clauses { IfOk result (λ o. procedure (clauses self.now.store) (goal_now self.now goal) ≡ clauses_from self.now.store (rules_in o) 0) }
-        ensures known { IfOk result (λ o. AreKnown (length self.now.store.names) (rules_in o)) }
+        ensures clauses { IfOk result (λ o. procedure (clauses self.now.store) (goal_now self.now goal) ≡ clauses_from self.now.store (snapshot_clauses o) 0) }
+        ensures known { IfOk result (λ o. AreKnown (length self.now.store.names) (snapshot_clauses o)) }
     {
         match pi_of(self.bindings.outline(&goal)) {
             Some(pi) => Ok(self.store.snapshot(pi)?),
@@ -208,19 +208,19 @@ impl Core {
         }
     }
 
-    // A choice of the clauses of a goal's procedure, where it has any.
+    // A choice point of the clauses of a goal's procedure, where it has any.
     fn push_clauses(&mut self, call: u64, goal: Ref, rest: u64) -> Result<(), Memory>
         requires good { IsGood self.old }
-        requires there { rest < length self.old.lists }
+        requires there { rest < length self.old.continuations }
         requires goal { IsGoal (length self.old.store.names) self.old.bindings.terms goal }
-        requires called { IsCalled self.old.frames.boxes self.old.calls self.old.lists call goal rest }
-        ensures choices { OnOk result (choices_in self.new ≡ with_more (procedure (clauses self.old.store) (goal_now self.old goal)) call (goal_now self.old goal)
-            (bindings_now self.old) (items_now self.old rest) (choices_in self.old)) }
+        requires called { IsCalled self.old.frames.boxes self.old.calls self.old.continuations call goal rest }
+        ensures choices { OnOk result (choice_points_in self.new ≡ with_more (procedure (clauses self.old.store) (goal_now self.old goal)) call (goal_now self.old goal)
+            (bindings_now self.old) (items_now self.old rest) (choice_points_in self.old)) }
         ensures good { OnOk result (IsGood self.new) }
         ensures rest { self.new ≡ record self.old { frames = self.new.frames } }
     {
         match self.clauses_of(goal)? {
-            Some(rules) => self.push_more(&rules, 0, call, goal, rest),
+            Some(snapshot) => self.push_more(&snapshot, 0, call, goal, rest),
             None => Ok(()),
         }
     }
@@ -228,10 +228,10 @@ impl Core {
     // A clause was matched: its body comes next, and then the exit of the box.
     pub(crate) fn enter(&mut self, body: Ref, call: u64, goal: Ref, rest: u64) -> Result<(), Memory>
         requires good { IsGood self.old }
-        requires there { rest < length self.old.lists }
+        requires there { rest < length self.old.continuations }
         requires goal { IsGoal (length self.old.store.names) self.old.bindings.terms goal }
         requires body { IsGoal (length self.old.store.names) self.old.bindings.terms body }
-        requires called { IsCalled self.old.frames.boxes self.old.calls self.old.lists call goal rest }
+        requires called { IsCalled self.old.frames.boxes self.old.calls self.old.continuations call goal rest }
         ensures advances { OnOk result (Advances self.old self.new (body_entered self.old body call goal rest) step.Silent) }
         ensures keeps { Keeps self.old self.new }
     {
@@ -241,16 +241,16 @@ impl Core {
         Ok(())
     }
 
-    // The body of a clause before a list: nothing for a fact.
+    // The body of a clause before a continuation: nothing for a fact.
     pub(crate) fn add_body(&mut self, body: Ref, call: u64, rest: u64) -> Result<u64, Memory>
         requires good { IsGood self.old }
-        requires there { rest < length self.old.lists }
+        requires there { rest < length self.old.continuations }
         requires body { IsGoal (length self.old.store.names) self.old.bindings.terms body }
-        ensures within { IfOk result (λ n. n < length self.new.lists) }
+        ensures within { IfOk result (λ n. n < length self.new.continuations) }
         ensures items { IfOk result (λ n. items_now self.new n ≡ body_before self.old body call (items_now self.old rest)) }
-        ensures choices { OnOk result (choices_in self.new ≡ choices_in self.old) }
+        ensures choices { OnOk result (choice_points_in self.new ≡ choice_points_in self.old) }
         ensures good { OnOk result (IsGood self.new) }
-        ensures rest { self.new ≡ record self.old { lists = self.new.lists } }
+        ensures rest { self.new ≡ record self.old { continuations = self.new.continuations } }
     {
         if self.is_fact(body) {
             return Ok(rest);
@@ -269,6 +269,6 @@ impl Core {
         requires { body < length self.now.bindings.terms }
         ensures { result ≡ is_true (goal_now self.now body) }
     {
-        is_truth(&self.store, self.bindings.outline(&body))
+        is_true_atom(&self.store, self.bindings.outline(&body))
     }
 }

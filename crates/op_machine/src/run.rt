@@ -36,13 +36,13 @@ impl Core {
             failure,
             floor,
             body,
-            lists,
+            continuations,
             items,
         } = parts;
         Ok(Core {
             store,
             bindings,
-            lists,
+            continuations,
             frames: Frames::new(alloc),
             mode: Mode::Forward { items },
             seen: Seen {

@@ -13,56 +13,56 @@ use Rattle.op_term.specs.Head.{head, sym as name}
 use Rattle.op_term.specs.declared.symbols.Sym.{Sym}
 use Rattle.op_term.specs.declared.node.Node.TheVariants as nodes
 use Rattle.op_trace.specs.World.{Text}
-use Rattle.op_bind.specs.declared.places.Clause.{Clause as Rule}
+use Rattle.op_bind.specs.declared.places.Clause.{Clause as NumberedClause}
 use Rattle.op_store.specs.declared.pi.Pi.{Pi}
-use Rattle.op_store.specs.Rows.{Rows, all_rules, IsRule, AreRows}
-use Rattle.op_store.specs.World.{key, key_of, World, procedure_in}
-use Rattle.op_session.specs.Runnable.{is_goal, is_connective_name, is_connective, is_runnable, all_runnable}
+use Rattle.op_store.specs.Rows.{Rows, all_numbered_clauses, IsNumberedClause, AreRows}
+use Rattle.op_store.specs.World.{name_arity, indicator_of_term, World, procedure_in}
+use Rattle.op_session.specs.Runnable.{is_goal, is_control_pair_name, is_control_pair, is_runnable, all_runnable}
 
 -- a compound's procedure, and what is asked of a goal of it
 pub goal-struct : (w : World) (names : List Text) (t : Term ℕ) (f : Sym) (n : ℕ) → nodes.Struct f n ≡ head t
-    → is_some (procedure_in w.procedures (key (name_at names f.0) n)) ≡ is_goal w (key_of (named names t))
+    → is_some (procedure_in w.procedures (name_arity (name_at names f.0) n)) ≡ is_goal w (indicator_of_term (named names t))
 goal-struct w names (var v) f n e = absurd cc
 goal-struct w names (int i) f n e = absurd cc
 goal-struct w names (node g no_args) f n e = absurd cc
 goal-struct w names (node g (arg a ts)) f n e =
     let s : f ≡ name g = cc in
     let k : n ≡ suc (arity ts) = cc in
-    ap (λ (x : Sym). is_some (procedure_in w.procedures (key (name_at names x.0) n))) s
-    ∙ ap (λ (m : ℕ). is_some (procedure_in w.procedures (key (name_at names g) m))) k
-    ∙ ap (λ (m : ℕ). is_some (procedure_in w.procedures (key (name_at names g) (suc m)))) (sym (arity-rename (name_at names) ts))
-    ∙ unsilent (arity (args_of (named names (node g ts))))
+    ap (λ (x : Sym). is_some (procedure_in w.procedures (name_arity (name_at names x.0) n))) s
+    ∙ ap (λ (m : ℕ). is_some (procedure_in w.procedures (name_arity (name_at names g) m))) k
+    ∙ ap (λ (m : ℕ). is_some (procedure_in w.procedures (name_arity (name_at names g) (suc m)))) (sym (arity-rename (name_at names) ts))
+    ∙ no_control_atom (arity (args_of (named names (node g ts))))
   where
     never : (m : ℕ) → (suc m == 0) ≡ false
     never m = grind (arith, nat_tests)
 
-    unsilent : (m : ℕ) → is_some (procedure_in w.procedures (key (name_at names g) (suc m))) ≡ is_goal w (Some (key (name_at names g) (suc m)))
-    unsilent m = rw (never m) refl
+    no_control_atom : (m : ℕ) → is_some (procedure_in w.procedures (name_arity (name_at names g) (suc m))) ≡ is_goal w (Some (name_arity (name_at names g) (suc m)))
+    no_control_atom m = rw (never m) refl
 
--- a connective is a compound of two arguments with the name `,`, `;` or `->`
-pub connective-pair : (names : List Text) (t : Term ℕ) (f : Sym) (n : ℕ) → nodes.Struct f n ≡ head t → n ≡ 2 → is_connective_name (name_at names f.0) ≡ is_connective (named names t)
-connective-pair names (var v) f n e two = absurd cc
-connective-pair names (int i) f n e two = absurd cc
-connective-pair names (node g no_args) f n e two = absurd cc
-connective-pair names (node g (arg a no_args)) f n e two = let k : n ≡ 1 = cc in absurd (omega arith)
-connective-pair names (node g (arg a (arg b no_args))) f n e two = let s : f ≡ name g = cc in ap (λ (x : Sym). is_connective_name (name_at names x.0)) s
-connective-pair names (node g (arg a (arg b (arg c ts)))) f n e two = let k : n ≡ suc (suc (suc (arity ts))) = cc in absurd (omega arith)
+-- a control construct of two parts is a compound of two arguments with the name `,`, `;` or `->`
+pub control_pair-two : (names : List Text) (t : Term ℕ) (f : Sym) (n : ℕ) → nodes.Struct f n ≡ head t → n ≡ 2 → is_control_pair_name (name_at names f.0) ≡ is_control_pair (named names t)
+control_pair-two names (var v) f n e two = absurd cc
+control_pair-two names (int i) f n e two = absurd cc
+control_pair-two names (node g no_args) f n e two = absurd cc
+control_pair-two names (node g (arg a no_args)) f n e two = let k : n ≡ 1 = cc in absurd (omega arith)
+control_pair-two names (node g (arg a (arg b no_args))) f n e two = let s : f ≡ name g = cc in ap (λ (x : Sym). is_control_pair_name (name_at names x.0)) s
+control_pair-two names (node g (arg a (arg b (arg c ts)))) f n e two = let k : n ≡ suc (suc (suc (arity ts))) = cc in absurd (omega arith)
 
-pub connective-other : (names : List Text) (t : Term ℕ) (f : Sym) (n : ℕ) → nodes.Struct f n ≡ head t → n ≢ 2 → is_connective (named names t) ≡ false
-connective-other names (var v) f n e two = absurd cc
-connective-other names (int i) f n e two = absurd cc
-connective-other names (node g no_args) f n e two = absurd cc
-connective-other names (node g (arg a no_args)) f n e two = refl
-connective-other names (node g (arg a (arg b no_args))) f n e two = let k : n ≡ 2 = cc in absurd (two k)
-connective-other names (node g (arg a (arg b (arg c ts)))) f n e two = refl
+pub control_pair-other : (names : List Text) (t : Term ℕ) (f : Sym) (n : ℕ) → nodes.Struct f n ≡ head t → n ≢ 2 → is_control_pair (named names t) ≡ false
+control_pair-other names (var v) f n e two = absurd cc
+control_pair-other names (int i) f n e two = absurd cc
+control_pair-other names (node g no_args) f n e two = absurd cc
+control_pair-other names (node g (arg a no_args)) f n e two = refl
+control_pair-other names (node g (arg a (arg b no_args))) f n e two = let k : n ≡ 2 = cc in absurd (two k)
+control_pair-other names (node g (arg a (arg b (arg c ts)))) f n e two = refl
 
--- a connective's two parts
+-- the two parts of a control construct
 pub record Parts (w : World) (names : List Text) (t : Term ℕ) : Type 0 where
   pub two : arity (args_of t) ≡ 2
   pub run : is_runnable w (named names t) ≡ (is_runnable w (named names (nth_arg (args_of t) 0)) && is_runnable w (named names (nth_arg (args_of t) 1)))
   pub less : size (nth_arg (args_of t) 0) + size (nth_arg (args_of t) 1) < size t
 
-pub parts-of : (w : World) (names : List Text) (t : Term ℕ) → is_connective (named names t) ≡ true → Parts w names t
+pub parts-of : (w : World) (names : List Text) (t : Term ℕ) → is_control_pair (named names t) ≡ true → Parts w names t
 parts-of w names (var v) e = absurd cc
 parts-of w names (int i) e = absurd cc
 parts-of w names (node f no_args) e = absurd cc
@@ -74,7 +74,7 @@ parts-of w names (node f (arg a (arg b no_args))) e = record {
 }
 parts-of w names (node f (arg a (arg b (arg c ts)))) e = absurd cc
 
-pub part-names : (w : World) (names : List Text) (t : Term ℕ) (n : ℕ) → is_connective (named names t) ≡ true → HasNames n t
+pub part-names : (w : World) (names : List Text) (t : Term ℕ) (n : ℕ) → is_control_pair (named names t) ≡ true → HasNames n t
     → HasNames n (nth_arg (args_of t) 0) × HasNames n (nth_arg (args_of t) 1)
 part-names w names (var v) n e h = absurd cc
 part-names w names (int i) n e h = absurd cc
@@ -83,7 +83,7 @@ part-names w names (node f (arg a no_args)) n e h = absurd cc
 part-names w names (node f (arg a (arg b no_args))) n e h = (h.1.0, h.1.1.0)
 part-names w names (node f (arg a (arg b (arg c ts)))) n e h = absurd cc
 
-pub other-part : (w : World) (names : List Text) (t : Term ℕ) → is_connective (named names t) ≡ false → is_goal w (key_of (named names t)) ≡ is_runnable w (named names t)
+pub other-part : (w : World) (names : List Text) (t : Term ℕ) → is_control_pair (named names t) ≡ false → is_goal w (indicator_of_term (named names t)) ≡ is_runnable w (named names t)
 other-part w names (var v) e = refl
 other-part w names (int i) e = refl
 other-part w names (node f no_args) e = refl
@@ -101,13 +101,13 @@ list_all-map p f [] = refl
 list_all-map p f (x ∷ xs) = ap (λ (b : Bool). p (f x) && b) (list_all-map p f xs)
 
 -- the names of the clauses' bodies are those of the store
-bodies-named : (n : ℕ) (k : Pi) (rs : List Rule) → All (λ (r : Rule). IsRule n k r) rs → All (λ (r : Rule). HasNames n r.body) rs
+bodies-named : (n : ℕ) (k : Pi) (rs : List NumberedClause) → All (λ (r : NumberedClause). IsNumberedClause n k r) rs → All (λ (r : NumberedClause). HasNames n r.body) rs
 bodies-named n k rs all i d h = (all i d h).body_names
 
-pub rows-bodies : (n : ℕ) (rows : Rows) → AreRows n rows → All (λ (r : Rule). HasNames n r.body) (all_rules rows)
+pub rows-bodies : (n : ℕ) (rows : Rows) → AreRows n rows → All (λ (r : NumberedClause). HasNames n r.body) (all_numbered_clauses rows)
 rows-bodies n [] h = λ i d l. absurd (omega (arith, l))
 rows-bodies n (e ∷ es) h =
-    All-append (λ (r : Rule). HasNames n r.body) e.1.clauses (all_rules es) (bodies-named n e.0 e.1.clauses h.0.rules) (rows-bodies n es h.1)
+    All-append (λ (r : NumberedClause). HasNames n r.body) e.1.clauses (all_numbered_clauses es) (bodies-named n e.0 e.1.clauses h.0.clauses) (rows-bodies n es h.1)
 
 and-turned : (a b : Bool) → (a && (b && true)) ≡ (b && a)
 and-turned true true = refl
@@ -120,8 +120,8 @@ module _ {A : Type 0} (w : World) (names : List Text) (term : A → Term ℕ) wh
   abbrev pub shown : A → Term Text
   shown p = named names (term p)
 
-  -- a part that is no connective is met
-  pub met-one : (ps : List A) (p : A) (b : Bool) → is_connective (shown p) ≡ false → b ≡ is_goal w (key_of (shown p))
+  -- a part that is no control construct of two parts is met
+  pub met-one : (ps : List A) (p : A) (b : Bool) → is_control_pair (shown p) ≡ false → b ≡ is_goal w (indicator_of_term (shown p))
       → all_runnable w (map shown (ps ++ p ∷ [])) ≡ (b && all_runnable w (map shown ps))
   met-one ps p b other e =
       ap (all_runnable w) (map-append shown ps (p ∷ []))
@@ -129,8 +129,8 @@ module _ {A : Type 0} (w : World) (names : List Text) (term : A → Term ℕ) wh
       ∙ and-turned (all_runnable w (map shown ps)) (is_runnable w (shown p))
       ∙ ap (λ (x : Bool). x && all_runnable w (map shown ps)) (sym (e ∙ other-part w names (term p) other))
 
-  -- a connective leaves its two parts
-  pub met-two : (ps qs rs : List A) (p a b : A) → is_connective (shown p) ≡ true → qs ≡ ps ++ b ∷ [] → rs ≡ qs ++ a ∷ []
+  -- a control construct of two parts leaves its two parts
+  pub met-two : (ps qs rs : List A) (p a b : A) → is_control_pair (shown p) ≡ true → qs ≡ ps ++ b ∷ [] → rs ≡ qs ++ a ∷ []
       → term a ≡ nth_arg (args_of (term p)) 0 → term b ≡ nth_arg (args_of (term p)) 1
       → all_runnable w (map shown (ps ++ p ∷ [])) ≡ all_runnable w (map shown rs)
   met-two ps qs rs p a b pair eq er ea eb =
@@ -167,7 +167,7 @@ module _ {A : Type 0} (w : World) (names : List Text) (term : A → Term ℕ) wh
       let s = size-some (term p) in
       rw e (omega arith)
 
-  pub less-two : (ps qs rs : List A) (p a b : A) → is_connective (shown p) ≡ true → qs ≡ ps ++ b ∷ [] → rs ≡ qs ++ a ∷ []
+  pub less-two : (ps qs rs : List A) (p a b : A) → is_control_pair (shown p) ≡ true → qs ≡ ps ++ b ∷ [] → rs ≡ qs ++ a ∷ []
       → term a ≡ nth_arg (args_of (term p)) 0 → term b ≡ nth_arg (args_of (term p)) 1 → weight rs < weight (ps ++ p ∷ [])
   less-two ps qs rs p a b pair eq er ea eb =
       let parts = parts-of w names (term p) pair in

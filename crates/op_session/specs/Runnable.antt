@@ -4,32 +4,32 @@ use Rattle.std.specs.Prelude.{◌==◌, ◌||◌, ◌&&◌, Bool, false, List, [
 use Rattle.std.specs.List.{list_all}
 use Rattle.op_logic.specs.Term.{Term, var, int, node, Args, no_args, arg}
 use Rattle.op_trace.specs.World.{Text, text_eq, Clause}
-use Rattle.op_store.specs.World.{Key, key_of, World, procedure_in, clauses_of_world}
+use Rattle.op_store.specs.World.{Indicator, indicator_of_term, World, procedure_in, clauses_of_world}
 
 -- the control constructs without parts that are run
-abbrev pub is_silent_name : Text → Bool
-is_silent_name f = text_eq f (codes "true") || (text_eq f (codes "fail") || (text_eq f (codes "false") || text_eq f (codes "!")))
+abbrev pub is_control_atom_name : Text → Bool
+is_control_atom_name f = text_eq f (codes "true") || (text_eq f (codes "fail") || (text_eq f (codes "false") || text_eq f (codes "!")))
 
-abbrev pub is_silent : Key → Bool
-is_silent k = (k.arity == 0) && is_silent_name k.name
+abbrev pub is_control_atom : Indicator → Bool
+is_control_atom k = (k.arity == 0) && is_control_atom_name k.name
 
 -- the control constructs of two parts
-abbrev pub is_connective_name : Text → Bool
-is_connective_name f = text_eq f (codes ",") || (text_eq f (codes ";") || text_eq f (codes "->"))
+abbrev pub is_control_pair_name : Text → Bool
+is_control_pair_name f = text_eq f (codes ",") || (text_eq f (codes ";") || text_eq f (codes "->"))
 
 -- a part that has no parts of its own
-abbrev pub is_goal : World → Option Key → Bool
+abbrev pub is_goal : World → Option Indicator → Bool
 is_goal w None = false
-is_goal w (Some k) = is_silent k || is_some (procedure_in w.procedures k)
+is_goal w (Some k) = is_control_atom k || is_some (procedure_in w.procedures k)
 
-abbrev pub is_connective : Term Text → Bool
-is_connective (node f (arg a (arg b no_args))) = is_connective_name f
-is_connective t = false
+abbrev pub is_control_pair : Term Text → Bool
+is_control_pair (node f (arg a (arg b no_args))) = is_control_pair_name f
+is_control_pair t = false
 
 -- a compound, by what holds of its arguments
 abbrev pub is_compound : World → Text → Args Text → List Bool → Bool
-is_compound w f ts (a ∷ b ∷ []) = if is_connective_name f then a && b else is_goal w (key_of (node f ts))
-is_compound w f ts bs = is_goal w (key_of (node f ts))
+is_compound w f ts (a ∷ b ∷ []) = if is_control_pair_name f then a && b else is_goal w (indicator_of_term (node f ts))
+is_compound w f ts bs = is_goal w (indicator_of_term (node f ts))
 
 abbrev mutual
   pub is_runnable : World → Term Text → Bool

@@ -6,7 +6,7 @@ use Rattle.op_reader.specs.declared.fault.ReadFaultKind.{ReadFaultKind}
 use Rattle.op_reader.specs.declared.fault.ReadFaultKind.TheVariants.{Token, NoEnd, Unbalanced, NoOperand, Priority}
 use Rattle.op_writer.specs.declared.style.Style.TheVariants.{Quoted}
 use Rattle.op_writer.specs.Text.{text_of}
-use Rattle.op_store.specs.World.{Key}
+use Rattle.op_store.specs.World.{Indicator}
 use Rattle.op_store.specs.Fault.{Fault, syntax, trailing, head, body, locked, directive}
 
 -- why a text can't be read
@@ -18,8 +18,8 @@ kind_word NoOperand = codes "no_operand"
 kind_word Priority = codes "priority"
 
 -- a procedure's name, quoted, and how many arguments it has
-abbrev pub key_text : Key → List ℕ
-key_text k = text_of iso_table Quoted (atom k.name) 1200 ++ codes "/" ++ decimal k.arity
+abbrev pub indicator_text : Indicator → List ℕ
+indicator_text k = text_of iso_table Quoted (atom k.name) 1200 ++ codes "/" ++ decimal k.arity
 
 -- why a term of a program or a goal is refused
 abbrev pub fault_words : Fault → List ℕ
@@ -27,7 +27,7 @@ fault_words (syntax kind) = kind_word kind
 fault_words trailing = codes "trailing"
 fault_words head = codes "head"
 fault_words body = codes "body"
-fault_words (locked k) = codes "locked " ++ key_text k
+fault_words (locked k) = codes "locked " ++ indicator_text k
 fault_words directive = codes "directive"
 
 -- the line of a refusal, by the name of the text and the line of the fault

@@ -1,26 +1,26 @@
 ghost use Rattle.std.specs.Prelude.{◌≡◌, ◌<◌, ◌++◌, ◌∷◌, [], ◌&&◌, ℕ, List, length, map, All, sum_by, IfOk, OnOk};
 ghost use Rattle.std.specs.List.{list_all};
-ghost use Rattle.op_bind.specs.declared.places.Clause.{Clause as Rule};
+ghost use Rattle.op_bind.specs.declared.places.Clause.{Clause as NumberedClause};
 ghost use Rattle.op_logic.specs.Term.{size};
 ghost use Rattle.op_logic.specs.Names.{HasNames, named};
-ghost use Rattle.op_store.specs.World.{key_of};
+ghost use Rattle.op_store.specs.World.{indicator_of_term};
 ghost use Rattle.op_store.specs.Stored.{world_of};
 ghost use Rattle.op_store.specs.Queries.{IsSoundGoal};
-ghost use Rattle.op_session.specs.Runnable.{is_silent_name as the_silent, is_goal as the_goal, is_connective_name as the_connective_name, is_connective as the_connective, is_runnable, all_runnable, are_runnable as the_runnable};
+ghost use Rattle.op_session.specs.Runnable.{is_control_atom_name as the_control_atom_name, is_goal as the_goal, is_control_pair_name as the_control_pair_name, is_control_pair as the_control_pair, is_runnable, all_runnable, are_runnable as the_runnable};
 
 use op_base::Memory;
 use op_store::{Goal, Pi, Snapshot, Store};
 use op_term::{Node, Term, Tree, Whole};
 use std::alloc::Global;
 
-fn is_silent_name(name: &str) -> bool
-    ensures { result ≡ the_silent name.now }
+fn is_control_atom_name(name: &str) -> bool
+    ensures { result ≡ the_control_atom_name name.now }
 {
     name == "true" || name == "fail" || name == "false" || name == "!"
 }
 
-fn is_connective_name(name: &str) -> bool
-    ensures { result ≡ the_connective_name name.now }
+fn is_control_pair_name(name: &str) -> bool
+    ensures { result ≡ the_control_pair_name name.now }
 {
     name == "," || name == ";" || name == "->"
 }
@@ -29,27 +29,27 @@ fn is_connective_name(name: &str) -> bool
 fn is_goal<T: Tree>(store: &Store, tree: &T, at: &T::At) -> bool
     requires place { T.IsPlace tree.now at.now }
     requires names { HasNames (length store.now.names) (T.term tree.now at.now) }
-    ensures { result ≡ the_goal (world_of store.now) (key_of (named store.now.names (T.term tree.now at.now))) }
+    ensures { result ≡ the_goal (world_of store.now) (indicator_of_term (named store.now.names (T.term tree.now at.now))) }
 {
     match tree.node(at) {
         Node::Var(_) => false,
         Node::Int(_) => false,
         Node::Atom(name) => {
-            is_silent_name(store.symbols().name_of(name))
+            is_control_atom_name(store.symbols().name_of(name))
                 || store.has_procedure(Pi { name, arity: 0 })
         }
         Node::Struct(name, arity) => store.has_procedure(Pi { name, arity }),
     }
 }
 
-fn is_connective<T: Tree>(store: &Store, tree: &T, at: &T::At) -> bool
+fn is_control_pair<T: Tree>(store: &Store, tree: &T, at: &T::At) -> bool
     requires place { T.IsPlace tree.now at.now }
     requires names { HasNames (length store.now.names) (T.term tree.now at.now) }
-    ensures { result ≡ the_connective (named store.now.names (T.term tree.now at.now)) }
+    ensures { result ≡ the_control_pair (named store.now.names (T.term tree.now at.now)) }
 {
     match tree.node(at) {
         Node::Struct(name, arity) => arity == 2
-            && is_connective_name(store.symbols().name_of(name)),
+            && is_control_pair_name(store.symbols().name_of(name)),
         _ => false,
     }
 }
@@ -64,7 +64,7 @@ fn meet<T: Tree>(store: &Store, tree: &T, at: T::At, todo: &mut Vec<T::At>) -> R
     ensures todo { OnOk result (All (λ p. T.IsPlace tree.now p × HasNames (length store.now.names) (T.term tree.now p)) todo.new.items) }
     ensures less { OnOk result (sum_by (λ p. size (T.term tree.now p)) todo.new.items < sum_by (λ p. size (T.term tree.now p)) (todo.old.items ++ at ∷ [])) }
 {
-    let pair = is_connective(store, tree, &at);
+    let pair = is_control_pair(store, tree, &at);
     if pair {
         todo.push(tree.part(&at, 1))?;
         todo.push(tree.part(&at, 0))?;
@@ -91,8 +91,8 @@ fn is_runnable_term(alloc: Global, store: &Store, term: &Term) -> Result<bool, M
 
 // Whether the bodies of these clauses can be run.
 fn are_runnable_clauses(alloc: Global, store: &Store, clauses: &Snapshot) -> Result<bool, Memory>
-    requires { All (λ (r : Rule). HasNames (length store.now.names) r.body) clauses.now }
-    ensures { IfOk result (λ b. b ≡ list_all (λ (r : Rule). is_runnable (world_of store.now) (named store.now.names r.body)) clauses.now) }
+    requires { All (λ (r : NumberedClause). HasNames (length store.now.names) r.body) clauses.now }
+    ensures { IfOk result (λ b. b ≡ list_all (λ (r : NumberedClause). is_runnable (world_of store.now) (named store.now.names r.body)) clauses.now) }
 {
     'clauses: for i in 0..clauses.len() {
         if !is_runnable_term(alloc, store, &clauses.clause(i).body)? {

@@ -1,7 +1,7 @@
 ghost use Rattle.std.specs.Prelude.{◌≡◌, ◌++◌, ◌<◌, length, codes, IfOk, OnOk};
-ghost use Rattle.op_store.specs.Rows.{key_named};
+ghost use Rattle.op_store.specs.Rows.{indicator_named};
 ghost use Rattle.op_store.specs.Queries.{fault_named, IsKnownFault};
-ghost use Rattle.op_session.specs.Words.{kind_word as the_kind, key_text as the_key, fault_words as the_words, load_line as the_line};
+ghost use Rattle.op_session.specs.Words.{kind_word as the_kind, indicator_text as the_indicator, fault_words as the_words, load_line as the_line};
 
 use crate::line::add_decimal;
 use op_base::Memory;
@@ -26,9 +26,9 @@ pub fn kind_word(kind: ReadFaultKind) -> &'static [u8]
 }
 
 // Adds a procedure's name, quoted, and how many arguments it has.
-fn add_key(alloc: Global, store: &Store, pi: Pi, words: &mut Bytes) -> Result<(), Memory>
+fn add_indicator(alloc: Global, store: &Store, pi: Pi, words: &mut Bytes) -> Result<(), Memory>
     requires { pi.name.0 < length store.now.names }
-    ensures { OnOk result (words.new ≡ words.old ++ the_key (key_named store.now.names pi)) }
+    ensures { OnOk result (words.new ≡ words.old ++ the_indicator (indicator_named store.now.names pi)) }
 {
     let mut builder = Builder::new(alloc);
     let root = builder.atom(pi.name)?;
@@ -65,7 +65,7 @@ pub fn fault_words(alloc: Global, store: &Store, kind: LoadFaultKind) -> Result<
         LoadFaultKind::Body => words.append(b"body")?,
         LoadFaultKind::Locked(pi) => {
             words.append(b"locked ")?;
-            add_key(alloc, store, pi, &mut words)?;
+            add_indicator(alloc, store, pi, &mut words)?;
         }
         LoadFaultKind::Directive => words.append(b"directive")?,
     }

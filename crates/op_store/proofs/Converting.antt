@@ -9,7 +9,7 @@ use Rattle.op_logic.proofs.Naming.{name_at-below, name_at-past}
 use Rattle.op_trace.specs.World.{Text}
 use Rattle.op_store.specs.declared.body_part.Part.{Part}
 use Rattle.op_store.specs.declared.body_part.Part.TheVariants as parts
-use Rattle.op_store.specs.Body.{Body, goal, Division, one_step, connective, joined, of_part, compound, divided, divisions, term_of, converted}
+use Rattle.op_store.specs.Body.{Body, goal, Division, one_step, part_of_pair, joined, of_part, compound, divided, divisions, term_of, converted}
 
 abbrev AreBytes : List ℕ → Type 0
 AreBytes [] = Unit {0}
@@ -90,9 +90,9 @@ joined-fits-on n f (Some t) None i j h ha hb = tt
 joined-fits-on n f (Some t) (Some u) i j h ha hb = (h, (ha, (hb, tt)))
 
 part-fits : (n : ℕ) (p : Part) (whole control : Division) → BodyFits n whole → BodyFits n control → BodyFits n (of_part p whole control)
-part-fits n parts.And whole control w c = c
-part-fits n parts.Or whole control w c = c
-part-fits n parts.Then whole control w c = c
+part-fits n parts.Conjunction whole control w c = c
+part-fits n parts.Disjunction whole control w c = c
+part-fits n parts.IfThen whole control w c = c
 part-fits n parts.Variable whole control w c = c
 part-fits n parts.Goal whole control w c = w
 part-fits n parts.Number whole control w c = c
@@ -101,7 +101,7 @@ compound-fits : (n : ℕ) (f : Text) (ts : Args Text) (ds : List Division) → F
 compound-fits n f ts [] h g = h
 compound-fits n f ts (a ∷ []) h g = h
 compound-fits n f ts (a ∷ b ∷ []) h g =
-    part-fits n (connective f) (one_step (Some (goal (node f ts)))) (joined f a b) h (joined-fits-on n f a.tree b.tree a.steps b.steps h.0 g.0 g.1.0)
+    part-fits n (part_of_pair f) (one_step (Some (goal (node f ts)))) (joined f a b) h (joined-fits-on n f a.tree b.tree a.steps b.steps h.0 g.0 g.1.0)
 compound-fits n f ts (a ∷ b ∷ c ∷ ds) h g = h
 
 mutual

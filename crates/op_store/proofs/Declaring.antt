@@ -15,11 +15,11 @@ use Rattle.op_store.specs.declared.directive.Word.TheVariants as words
 use Rattle.op_store.specs.declared.locked.Locked.{Locked}
 use Rattle.op_store.specs.declared.pi.Pi.{Pi}
 use Rattle.op_store.specs.declared.procedure.Procedure.{Procedure as Row}
-use Rattle.op_store.specs.World.{Key, World, Procedure, set_procedure, no_clauses}
+use Rattle.op_store.specs.World.{Indicator, World, Procedure, set_procedure, no_clauses}
 use Rattle.op_store.specs.Fault.{Fault, directive, and_then}
 use Rattle.op_store.specs.Locked.{is_locked}
 use Rattle.op_store.specs.Directives.{elements, operator_names, atom_name, atom_names, indicator, or_directive, made_dynamic, may_change, all_dynamic, all_indicate, entries, of_one, ops_set}
-use Rattle.op_store.specs.Rows.{Rows, row_in, with_row, no_rules, pi_eq, key_named, row_named, rows_named, AreRows}
+use Rattle.op_store.specs.Rows.{Rows, row_in, with_row, no_numbered_clauses, pi_eq, indicator_named, row_named, rows_named, AreRows}
 use Rattle.op_store.specs.Shapes.{names_of, word}
 use Rattle.op_store.specs.Stored.{Stored, world_of}
 use Rattle.op_store.proofs.Naming.{found-named, put-named}
@@ -60,11 +60,11 @@ module _ {P : Type 0} (text : P → Term Text) where
 
   -- entries
 
-  indicate-on : (w : World) (ts : List (Term Text)) (o : Option Key) → is_some o ≡ true → and_then (or_directive o) (λ k. all_indicate w ts) ≡ all_indicate w ts
+  indicate-on : (w : World) (ts : List (Term Text)) (o : Option Indicator) → is_some o ≡ true → and_then (or_directive o) (λ k. all_indicate w ts) ≡ all_indicate w ts
   indicate-on w ts None e = absurd cc
   indicate-on w ts (Some k) e = refl
 
-  indicate-off : (w : World) (ts : List (Term Text)) (o : Option Key) → is_some o ≡ false → and_then (or_directive o) (λ k. all_indicate w ts) ≡ Err directive
+  indicate-off : (w : World) (ts : List (Term Text)) (o : Option Indicator) → is_some o ≡ false → and_then (or_directive o) (λ k. all_indicate w ts) ≡ Err directive
   indicate-off w ts None e = refl
   indicate-off w ts (Some k) e = absurd cc
 
@@ -72,33 +72,33 @@ module _ {P : Type 0} (text : P → Term Text) where
   mapped-some f None = refl
   mapped-some f (Some a) = refl
 
-  pub indicate-goes : (names : List Text) (w : World) (xs : List P) (i : ℕ) (x : P) (r : Option Pi) → i < length xs → x ≡ get_or xs i x → option_map (key_named names) r ≡ indicator (text x) → is_some r ≡ true
+  pub indicate-goes : (names : List Text) (w : World) (xs : List P) (i : ℕ) (x : P) (r : Option Pi) → i < length xs → x ≡ get_or xs i x → option_map (indicator_named names) r ≡ indicator (text x) → is_some r ≡ true
       → all_indicate w (map text (drop i xs)) ≡ all_indicate w (map text (drop (i + 1) xs))
   indicate-goes names w xs i x r l e k s =
-      ap (all_indicate w) (rest-next xs i x l e) ∙ indicate-on w (rest xs (i + 1)) (indicator (text x)) (ap is_some (sym k) ∙ (mapped-some (key_named names) r ∙ s))
+      ap (all_indicate w) (rest-next xs i x l e) ∙ indicate-on w (rest xs (i + 1)) (indicator (text x)) (ap is_some (sym k) ∙ (mapped-some (indicator_named names) r ∙ s))
 
-  pub indicate-refused : (names : List Text) (w : World) (xs : List P) (i : ℕ) (x : P) (r : Option Pi) → i < length xs → x ≡ get_or xs i x → option_map (key_named names) r ≡ indicator (text x) → is_some r ≡ false
+  pub indicate-refused : (names : List Text) (w : World) (xs : List P) (i : ℕ) (x : P) (r : Option Pi) → i < length xs → x ≡ get_or xs i x → option_map (indicator_named names) r ≡ indicator (text x) → is_some r ≡ false
       → all_indicate w (map text (drop i xs)) ≡ Err directive
   indicate-refused names w xs i x r l e k s =
-      ap (all_indicate w) (rest-next xs i x l e) ∙ indicate-off w (rest xs (i + 1)) (indicator (text x)) (ap is_some (sym k) ∙ (mapped-some (key_named names) r ∙ s))
+      ap (all_indicate w) (rest-next xs i x l e) ∙ indicate-off w (rest xs (i + 1)) (indicator (text x)) (ap is_some (sym k) ∙ (mapped-some (indicator_named names) r ∙ s))
 
   pub dynamic-refused : (l : Locked) (w : World) (xs : List P) (i : ℕ) (x : P) → i < length xs → x ≡ get_or xs i x → None ≡ indicator (text x) → all_dynamic l w (map text (drop i xs)) ≡ Err directive
   dynamic-refused l w xs i x h e k =
       ap (all_dynamic l w) (rest-next xs i x h e)
-      ∙ ap (λ (o : Option Key). and_then (or_directive o) (λ k. and_then (made_dynamic l w k) (λ u. all_dynamic l u (rest xs (i + 1))))) (sym k)
+      ∙ ap (λ (o : Option Indicator). and_then (or_directive o) (λ k. and_then (made_dynamic l w k) (λ u. all_dynamic l u (rest xs (i + 1))))) (sym k)
 
-  pub dynamic-met : (l : Locked) (w : World) (xs : List P) (i : ℕ) (x : P) (k : Key) → i < length xs → x ≡ get_or xs i x → Some k ≡ indicator (text x)
+  pub dynamic-met : (l : Locked) (w : World) (xs : List P) (i : ℕ) (x : P) (k : Indicator) → i < length xs → x ≡ get_or xs i x → Some k ≡ indicator (text x)
       → all_dynamic l w (map text (drop i xs)) ≡ and_then (made_dynamic l w k) (λ u. all_dynamic l u (map text (drop (i + 1) xs)))
   dynamic-met l w xs i x k h e f =
       ap (all_dynamic l w) (rest-next xs i x h e)
-      ∙ ap (λ (o : Option Key). and_then (or_directive o) (λ k. and_then (made_dynamic l w k) (λ u. all_dynamic l u (rest xs (i + 1))))) (sym f)
+      ∙ ap (λ (o : Option Indicator). and_then (or_directive o) (λ k. and_then (made_dynamic l w k) (λ u. all_dynamic l u (rest xs (i + 1))))) (sym f)
 
-  pub dynamic-goes : (l : Locked) (w u : World) (xs : List P) (i : ℕ) (x : P) (k : Key) → i < length xs → x ≡ get_or xs i x → Some k ≡ indicator (text x) → made_dynamic l w k ≡ Ok u
+  pub dynamic-goes : (l : Locked) (w u : World) (xs : List P) (i : ℕ) (x : P) (k : Indicator) → i < length xs → x ≡ get_or xs i x → Some k ≡ indicator (text x) → made_dynamic l w k ≡ Ok u
       → all_dynamic l w (map text (drop i xs)) ≡ all_dynamic l u (map text (drop (i + 1) xs))
   dynamic-goes l w u xs i x k h e f m =
       dynamic-met l w xs i x k h e f ∙ ap (λ (r : Result World Fault). and_then r (λ u. all_dynamic l u (rest xs (i + 1)))) m
 
-  pub dynamic-stops : (l : Locked) (w : World) (xs : List P) (i : ℕ) (x : P) (k : Key) (f : Fault) → i < length xs → x ≡ get_or xs i x → Some k ≡ indicator (text x) → made_dynamic l w k ≡ Err f
+  pub dynamic-stops : (l : Locked) (w : World) (xs : List P) (i : ℕ) (x : P) (k : Indicator) (f : Fault) → i < length xs → x ≡ get_or xs i x → Some k ≡ indicator (text x) → made_dynamic l w k ≡ Err f
       → all_dynamic l w (map text (drop i xs)) ≡ Err f
   dynamic-stops l w xs i x k f h e g m =
       dynamic-met l w xs i x k h e g ∙ ap (λ (r : Result World Fault). and_then r (λ u. all_dynamic l u (rest xs (i + 1)))) m
@@ -127,34 +127,34 @@ atoms-end text xs i ts l = ap (λ (ys : List _). before ts (atom_names (map text
 
 -- one procedure
 
-abbrev changed_by : World → Key → Option Bool → Result World Fault
+abbrev changed_by : World → Indicator → Option Bool → Result World Fault
 changed_by w k o = elim o [ None ↦ Ok (set_procedure w k no_clauses) | Some d ↦ cond d (Ok w) (Err directive) ]
 
-change-on : (names : List Text) (w : World) (k : Key) (o : Option Row) → may_change w k (option_map (row_named names) o) ≡ changed_by w k (option_map (λ p. p.dynamic) o)
+change-on : (names : List Text) (w : World) (k : Indicator) (o : Option Row) → may_change w k (option_map (row_named names) o) ≡ changed_by w k (option_map (λ p. p.dynamic) o)
 change-on names w k None = refl
 change-on names w k (Some p) = refl
 
-made-by : (s : Stored) (k : Pi) (is : Bool) (o : Option Bool) → IsTable s.names → is ≡ is_locked s.locked (key_named s.names k) → is ≡ false → o ≡ option_map (λ p. p.dynamic) (row_in s.rows k)
-    → made_dynamic s.locked (world_of s) (key_named s.names k) ≡ changed_by (world_of s) (key_named s.names k) o
+made-by : (s : Stored) (k : Pi) (is : Bool) (o : Option Bool) → IsTable s.names → is ≡ is_locked s.locked (indicator_named s.names k) → is ≡ false → o ≡ option_map (λ p. p.dynamic) (row_in s.rows k)
+    → made_dynamic s.locked (world_of s) (indicator_named s.names k) ≡ changed_by (world_of s) (indicator_named s.names k) o
 made-by s k is o t e n f =
-    if_false (is_locked s.locked (key_named s.names k)) _ _ (sym e ∙ n)
-    ∙ (ap (may_change (world_of s) (key_named s.names k)) (found-named s.names t s.rows k)
-    ∙ (change-on s.names (world_of s) (key_named s.names k) (row_in s.rows k) ∙ ap (changed_by (world_of s) (key_named s.names k)) (sym f)))
+    if_false (is_locked s.locked (indicator_named s.names k)) _ _ (sym e ∙ n)
+    ∙ (ap (may_change (world_of s) (indicator_named s.names k)) (found-named s.names t s.rows k)
+    ∙ (change-on s.names (world_of s) (indicator_named s.names k) (row_in s.rows k) ∙ ap (changed_by (world_of s) (indicator_named s.names k)) (sym f)))
 
-pub made-kept : (s : Stored) (k : Pi) (is : Bool) → IsTable s.names → is ≡ is_locked s.locked (key_named s.names k) → is ≡ false → Some true ≡ option_map (λ p. p.dynamic) (row_in s.rows k)
-    → made_dynamic s.locked (world_of s) (key_named s.names k) ≡ Ok (world_of s)
+pub made-kept : (s : Stored) (k : Pi) (is : Bool) → IsTable s.names → is ≡ is_locked s.locked (indicator_named s.names k) → is ≡ false → Some true ≡ option_map (λ p. p.dynamic) (row_in s.rows k)
+    → made_dynamic s.locked (world_of s) (indicator_named s.names k) ≡ Ok (world_of s)
 made-kept s k is t e n f = made-by s k is (Some true) t e n f
 
-pub made-static : (s : Stored) (k : Pi) (is : Bool) → IsTable s.names → is ≡ is_locked s.locked (key_named s.names k) → is ≡ false → Some false ≡ option_map (λ p. p.dynamic) (row_in s.rows k)
-    → made_dynamic s.locked (world_of s) (key_named s.names k) ≡ Err directive
+pub made-static : (s : Stored) (k : Pi) (is : Bool) → IsTable s.names → is ≡ is_locked s.locked (indicator_named s.names k) → is ≡ false → Some false ≡ option_map (λ p. p.dynamic) (row_in s.rows k)
+    → made_dynamic s.locked (world_of s) (indicator_named s.names k) ≡ Err directive
 made-static s k is t e n f = made-by s k is (Some false) t e n f
 
-pub made-new : (s : Stored) (k : Pi) (rows : Rows) (is : Bool) → IsTable s.names → is ≡ is_locked s.locked (key_named s.names k) → is ≡ false → None ≡ option_map (λ p. p.dynamic) (row_in s.rows k) → rows ≡ with_row s.rows k no_rules
-    → made_dynamic s.locked (world_of s) (key_named s.names k) ≡ Ok (world_of (record s { rows = rows }))
+pub made-new : (s : Stored) (k : Pi) (rows : Rows) (is : Bool) → IsTable s.names → is ≡ is_locked s.locked (indicator_named s.names k) → is ≡ false → None ≡ option_map (λ p. p.dynamic) (row_in s.rows k) → rows ≡ with_row s.rows k no_numbered_clauses
+    → made_dynamic s.locked (world_of s) (indicator_named s.names k) ≡ Ok (world_of (record s { rows = rows }))
 made-new s k rows is t e n f w =
     made-by s k is None t e n f
-    ∙ ap (λ (ps : List (Key × Procedure)). let x : World = record { procedures = ps; next = s.next; table = s.table; flags = s.flags } in Ok x)
-    (put-named s.names t s.rows k no_rules ∙ ap (rows_named s.names) (sym w))
+    ∙ ap (λ (ps : List (Indicator × Procedure)). let x : World = record { procedures = ps; next = s.next; table = s.table; flags = s.flags } in Ok x)
+    (put-named s.names t s.rows k no_numbered_clauses ∙ ap (rows_named s.names) (sym w))
 
 pub none-there : (rows : Rows) (k : Pi) → None ≡ option_map (λ p. p.dynamic) (row_in rows k) → row_in rows k ≡ None
 none-there rows k e = by (row_in rows k) e
@@ -171,8 +171,8 @@ new-behind (x ∷ xs) k p e =
     (λ y. ap (take (suc (length xs))) (if_false (pi_eq k x.0) ((x.0, p) ∷ xs) (x ∷ with_row xs k p) y)
     ∙ ap (λ (rows : Rows). x ∷ rows) (new-behind xs k p (sym (if_false (pi_eq k x.0) (Some x.1) (row_in xs k) y) ∙ e)))
 
-pub rows-dynamic : (n : ℕ) (k : Pi) (rows : Rows) → k.name.0 < n → AreRows n rows → AreRows n (with_row rows k no_rules)
-rows-dynamic n k rows l h = row-put n k no_rules rows h (record { name = l; rules = λ i d b. absurd (omega arith) })
+pub rows-dynamic : (n : ℕ) (k : Pi) (rows : Rows) → k.name.0 < n → AreRows n rows → AreRows n (with_row rows k no_numbered_clauses)
+rows-dynamic n k rows l h = row-put n k no_numbered_clauses rows h (record { name = l; clauses = λ i d b. absurd (omega arith) })
 
 pub rows-front : (n m : ℕ) (rows : Rows) → AreRows n rows → AreRows n (take m rows)
 rows-front n zero rows h = tt

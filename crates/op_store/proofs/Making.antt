@@ -12,8 +12,8 @@ use Rattle.std.proofs.Math.Seq.{get_or-append_seam}
 use Rattle.op_store.specs.Body.{Body, control, term_of}
 use Rattle.op_store.specs.Nodes.{leaves}
 use Rattle.op_store.specs.Walk.{needs, took, read}
-use Rattle.op_store.specs.Converted.{AreConnectives, texts_at, paired, called}
-use Rattle.op_store.specs.declared.connectives.Connectives.{Connectives}
+use Rattle.op_store.specs.Converted.{AreControlNames, texts_at, paired, called}
+use Rattle.op_store.specs.declared.control_names.ControlNames.{ControlNames}
 use Rattle.op_store.specs.declared.body_node.BodyNode.{BodyNode}
 use Rattle.op_store.proofs.Meeting.{T, read-push, leaves-append}
 use Rattle.op_store.proofs.Linking.{none-read, short}
@@ -120,7 +120,7 @@ module _ {P : Type 0} where
   pub places-rest : (Q : P → Type 0) (rest : List (BodyNode P)) (x : BodyNode P) → All Q (leaves (rest ++ x ∷ [])) → All Q (leaves rest)
   places-rest Q rest x h = all-front Q (leaves rest) (leaves (x ∷ [])) (subst (λ (ps : List P). All Q ps) (leaves-append rest (x ∷ [])) h)
 
-  module _ (term : P → Term ℕ) (known : Connectives) where
+  module _ (term : P → Term ℕ) (known : ControlNames) where
     abbrev text : List (List ℕ) → P → T
     text names p = named names (term p)
 
@@ -132,13 +132,13 @@ module _ {P : Type 0} where
 
     -- between two nodes: what is left to be read gives the same
     pub record IsMaking (all rest : List (BodyNode P)) (made : List (Term ℕ)) (stack : List ℕ) : Type 0 where
-      pub made_are : (names : List (List ℕ)) → AreConnectives names known → AreMade names all rest made stack
+      pub made_are : (names : List (List ℕ)) → AreControlNames names known → AreMade names all rest made stack
       pub there : AllBelow (length made) (reverse stack)
 
     pub making-starts : (all : List (BodyNode P)) (made : List (Term ℕ)) → IsMaking all all made []
     making-starts all made = record { made_are = λ names k. record { bodies = []; terms = refl; same = refl }; there = tt }
 
-    pub making-needs : (names : List (List ℕ)) (b : Body) (all rest : List (BodyNode P)) (x : BodyNode P) (made : List (Term ℕ)) (stack : List ℕ) → AreConnectives names known → read (text names) all (Some []) ≡ Some (b ∷ [])
+    pub making-needs : (names : List (List ℕ)) (b : Body) (all rest : List (BodyNode P)) (x : BodyNode P) (made : List (Term ℕ)) (stack : List ℕ) → AreControlNames names known → read (text names) all (Some []) ≡ Some (b ∷ [])
         → IsMaking all (rest ++ x ∷ []) made stack → needs x ≤ length stack
     making-needs names b all rest x made stack k e m =
         by_order (length stack) (needs x)
@@ -162,7 +162,7 @@ module _ {P : Type 0} where
         }
 
     pub making-goes : (all rest : List (BodyNode P)) (x : BodyNode P) (made more : List (Term ℕ)) (stack new : List ℕ)
-        → ((names : List (List ℕ)) (bs : List Body) → AreConnectives names known → terms_of bs ≡ texts_at names made (reverse stack) → option_map terms_of (took (text names) x bs) ≡ Some (texts_at names more (reverse new)))
+        → ((names : List (List ℕ)) (bs : List Body) → AreControlNames names known → terms_of bs ≡ texts_at names made (reverse stack) → option_map terms_of (took (text names) x bs) ≡ Some (texts_at names more (reverse new)))
         → AllBelow (length more) (reverse new) → IsMaking all (rest ++ x ∷ []) made stack → IsMaking all rest more new
     making-goes all rest x made more stack new took_is there m = record {
       made_are = λ names k. let w = m.made_are names k in made-goes names all rest x made more stack new w (took_is names w.bodies k w.terms);
@@ -177,7 +177,7 @@ module _ {P : Type 0} where
     one-text names made (k ∷ []) t e = (k, (refl, cc))
     one-text names made (k ∷ j ∷ ks) t e = absurd cc
 
-    pub making-one : (names : List (List ℕ)) (b : Body) (all : List (BodyNode P)) (made : List (Term ℕ)) (stack : List ℕ) → AreConnectives names known → read (text names) all (Some []) ≡ Some (b ∷ []) → IsMaking all [] made stack
+    pub making-one : (names : List (List ℕ)) (b : Body) (all : List (BodyNode P)) (made : List (Term ℕ)) (stack : List ℕ) → AreControlNames names known → read (text names) all (Some []) ≡ Some (b ∷ []) → IsMaking all [] made stack
         → (k : ℕ) × ((stack ≡ k ∷ []) × (k < length made) × (named names (term_at made k) ≡ term_of b))
     making-one names b all made stack c e m =
         let w = m.made_are names c in
@@ -187,14 +187,14 @@ module _ {P : Type 0} where
         let below : AllBelow (length made) (one.0 ∷ []) = subst (λ (ks : List ℕ). AllBelow (length made) ks) one.1.0 m.there in
         (one.0, (single-reverse stack one.0 one.1.0, below.0, one.1.1))
 
-    pub root-is : (names : List (List ℕ)) (b : Body) (all : List (BodyNode P)) (made : List (Term ℕ)) (stack : List ℕ) (root : ℕ) → root ≡ get_or stack 0 root → AreConnectives names known → read (text names) all (Some []) ≡ Some (b ∷ []) → IsMaking all [] made stack
+    pub root-is : (names : List (List ℕ)) (b : Body) (all : List (BodyNode P)) (made : List (Term ℕ)) (stack : List ℕ) (root : ℕ) → root ≡ get_or stack 0 root → AreControlNames names known → read (text names) all (Some []) ≡ Some (b ∷ []) → IsMaking all [] made stack
         → (root < length made) × (named names (term_at made root) ≡ term_of b)
     root-is names b all made stack root r c e m =
         let one = making-one names b all made stack c e m in
         let same : root ≡ one.0 = r ∙ ap (λ (ks : List ℕ). get_or ks 0 root) one.1.0 in
         (subst (λ (k : ℕ). k < length made) (sym same) one.1.1, ap (λ (k : ℕ). named names (term_at made k)) same ∙ one.1.2)
 
-    pub stack-one : (names : List (List ℕ)) (b : Body) (all : List (BodyNode P)) (made : List (Term ℕ)) (stack : List ℕ) → AreConnectives names known → read (text names) all (Some []) ≡ Some (b ∷ []) → IsMaking all [] made stack → length stack ≡ 1
+    pub stack-one : (names : List (List ℕ)) (b : Body) (all : List (BodyNode P)) (made : List (Term ℕ)) (stack : List ℕ) → AreControlNames names known → read (text names) all (Some []) ≡ Some (b ∷ []) → IsMaking all [] made stack → length stack ≡ 1
     stack-one names b all made stack c e m = ap length (making-one names b all made stack c e m).1.0
 
 pub none-left : {A : Type 0} (xs : List A) → length xs ≡ 0 → xs ≡ []

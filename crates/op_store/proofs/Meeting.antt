@@ -6,7 +6,7 @@ use Rattle.std.proofs.lemmas.List.Elements.{All-append, All-push}
 use Rattle.std.proofs.lemmas.Slice.Eq.{bytes_eq-Decides}
 use Rattle.op_logic.specs.Term.{Term, var, int, node, Args, no_args, arg, args_of, nth_arg, arity, rename, rename_args}
 use Rattle.op_logic.specs.Names.{name_at, named, HasNames, ArgsHaveNames}
-use Rattle.op_store.specs.Body.{part_of_term, connective, Body, goal, call, control, Division, one_step, joined, of_part, divided}
+use Rattle.op_store.specs.Body.{part_of_term, part_of_pair, Body, goal, call, control, Division, one_step, joined, of_part, divided}
 use Rattle.op_store.specs.Nodes.{leaves}
 use Rattle.op_store.specs.Walk.{Bodies, with_first, bodies_of, took, read, Left, left_of, step_before, refused}
 use Rattle.op_store.specs.declared.body_part.Part.{Part}
@@ -19,51 +19,51 @@ T = Term (List ℕ)
 
 -- the name of a control construct
 abbrev pub control_name : Part → List ℕ → List ℕ
-control_name parts.And f = codes ","
-control_name parts.Or f = codes ";"
-control_name parts.Then f = codes "->"
+control_name parts.Conjunction f = codes ","
+control_name parts.Disjunction f = codes ";"
+control_name parts.IfThen f = codes "->"
 control_name p f = f
 
-named-by : (f : List ℕ) (a b c : Bool) → (a ≡ true → f ≡ codes ",") → (b ≡ true → f ≡ codes ";") → (c ≡ true → f ≡ codes "->") → f ≡ control_name (cond a parts.And (cond b parts.Or (cond c parts.Then parts.Goal))) f
+named-by : (f : List ℕ) (a b c : Bool) → (a ≡ true → f ≡ codes ",") → (b ≡ true → f ≡ codes ";") → (c ≡ true → f ≡ codes "->") → f ≡ control_name (cond a parts.Conjunction (cond b parts.Disjunction (cond c parts.IfThen parts.Goal))) f
 named-by f true b c p q r = p refl
 named-by f false true c p q r = q refl
 named-by f false false true p q r = r refl
 named-by f false false false p q r = refl
 
-connective-named : (f : List ℕ) → f ≡ control_name (connective f) f
-connective-named f =
+part_of_pair-named : (f : List ℕ) → f ≡ control_name (part_of_pair f) f
+part_of_pair-named f =
     named-by f (bytes_eq f (codes ",")) (bytes_eq f (codes ";")) (bytes_eq f (codes "->"))
     (bytes_eq-Decides f (codes ",")).0 (bytes_eq-Decides f (codes ";")).0 (bytes_eq-Decides f (codes "->")).0
 
--- `connective` is no variable and no number
-connective-cond : (a b c : Bool) (x : Part) → cond a parts.And (cond b parts.Or (cond c parts.Then parts.Goal)) ≡ x → (x ≡ parts.Variable → ⊥) × (x ≡ parts.Number → ⊥)
-connective-cond true b c x e = (λ h. cc, λ h. cc)
-connective-cond false true c x e = (λ h. cc, λ h. cc)
-connective-cond false false true x e = (λ h. cc, λ h. cc)
-connective-cond false false false x e = (λ h. cc, λ h. cc)
+-- `part_of_pair` is no variable and no number
+part_of_pair-cond : (a b c : Bool) (x : Part) → cond a parts.Conjunction (cond b parts.Disjunction (cond c parts.IfThen parts.Goal)) ≡ x → (x ≡ parts.Variable → ⊥) × (x ≡ parts.Number → ⊥)
+part_of_pair-cond true b c x e = (λ h. cc, λ h. cc)
+part_of_pair-cond false true c x e = (λ h. cc, λ h. cc)
+part_of_pair-cond false false true x e = (λ h. cc, λ h. cc)
+part_of_pair-cond false false false x e = (λ h. cc, λ h. cc)
 
-connective-none : (f : List ℕ) → (connective f ≡ parts.Variable → ⊥) × (connective f ≡ parts.Number → ⊥)
-connective-none f = connective-cond (bytes_eq f (codes ",")) (bytes_eq f (codes ";")) (bytes_eq f (codes "->")) (connective f) refl
+part_of_pair-none : (f : List ℕ) → (part_of_pair f ≡ parts.Variable → ⊥) × (part_of_pair f ≡ parts.Number → ⊥)
+part_of_pair-none f = part_of_pair-cond (bytes_eq f (codes ",")) (bytes_eq f (codes ";")) (bytes_eq f (codes "->")) (part_of_pair f) refl
 
 -- one of the three
 abbrev pub IsControl : Part → Type 0
-IsControl parts.And = Unit {0}
-IsControl parts.Or = Unit {0}
-IsControl parts.Then = Unit {0}
+IsControl parts.Conjunction = Unit {0}
+IsControl parts.Disjunction = Unit {0}
+IsControl parts.IfThen = Unit {0}
 IsControl p = ⊥
 
 control-of_part : (p : Part) (c d : Division) → IsControl p → of_part p c d ≡ d
-control-of_part parts.And c d h = refl
-control-of_part parts.Or c d h = refl
-control-of_part parts.Then c d h = refl
+control-of_part parts.Conjunction c d h = refl
+control-of_part parts.Disjunction c d h = refl
+control-of_part parts.IfThen c d h = refl
 control-of_part parts.Variable c d h = absurd h
 control-of_part parts.Goal c d h = absurd h
 control-of_part parts.Number c d h = absurd h
 
 not-goal : (t : T) (p : Part) → part_of_term t ≡ p → IsControl p → part_of_term t ≢ parts.Goal
-not-goal t parts.And e h g = cc
-not-goal t parts.Or e h g = cc
-not-goal t parts.Then e h g = cc
+not-goal t parts.Conjunction e h g = cc
+not-goal t parts.Disjunction e h g = cc
+not-goal t parts.IfThen e h g = cc
 not-goal t parts.Variable e h g = h
 not-goal t parts.Goal e h g = h
 not-goal t parts.Number e h g = h
@@ -94,13 +94,13 @@ control-divided (node f (arg x (arg y no_args))) a b p e h ea eb =
     let g : Division = one_step (Some (goal (node f (arg x (arg y no_args))))) in
     let j : Division = joined f (divided x) (divided y) in
     let one : divided (node f (arg x (arg y no_args))) ≡ j = ap (λ (q : Part). of_part q g j) e ∙ control-of_part p g j h in
-    let n : f ≡ control_name p [] = connective-named f ∙ (ap (λ (q : Part). control_name q f) e ∙ same p f h) in
+    let n : f ≡ control_name p [] = part_of_pair-named f ∙ (ap (λ (q : Part). control_name q f) e ∙ same p f h) in
     one ∙ (ap (λ (k : List ℕ). joined k (divided x) (divided y)) n ∙ (ap (λ (u : T). joined (control_name p []) (divided u) (divided y)) (sym ea) ∙ ap (λ (u : T). joined (control_name p []) (divided a) (divided u)) (sym eb)))
   where
     same : (p : Part) (f : List ℕ) → IsControl p → control_name p f ≡ control_name p []
-    same parts.And f h = refl
-    same parts.Or f h = refl
-    same parts.Then f h = refl
+    same parts.Conjunction f h = refl
+    same parts.Disjunction f h = refl
+    same parts.IfThen f h = refl
     same parts.Variable f h = absurd h
     same parts.Goal f h = absurd h
     same parts.Number f h = absurd h
@@ -121,7 +121,7 @@ variable-divided (var v) e = refl
 variable-divided (int i) e = absurd cc
 variable-divided (node f no_args) e = absurd cc
 variable-divided (node f (arg a no_args)) e = absurd cc
-variable-divided (node f (arg a (arg b no_args))) e = absurd ((connective-none f).0 e)
+variable-divided (node f (arg a (arg b no_args))) e = absurd ((part_of_pair-none f).0 e)
 variable-divided (node f (arg a (arg b (arg c ts)))) e = absurd cc
 
 pub number-divided : (t : T) → part_of_term t ≡ parts.Number → divided t ≡ one_step None
@@ -129,7 +129,7 @@ number-divided (var v) e = absurd cc
 number-divided (int i) e = refl
 number-divided (node f no_args) e = absurd cc
 number-divided (node f (arg a no_args)) e = absurd cc
-number-divided (node f (arg a (arg b no_args))) e = absurd ((connective-none f).1 e)
+number-divided (node f (arg a (arg b no_args))) e = absurd ((part_of_pair-none f).1 e)
 number-divided (node f (arg a (arg b (arg c ts)))) e = absurd cc
 
 -- each conversion costs something
@@ -138,9 +138,9 @@ joined-some f None m b = omega arith
 joined-some f (Some t) m b = omega arith
 
 of_part-some : (p : Part) (c d : Division) → 0 < c.steps → 0 < d.steps → 0 < (of_part p c d).steps
-of_part-some parts.And c d h k = k
-of_part-some parts.Or c d h k = k
-of_part-some parts.Then c d h k = k
+of_part-some parts.Conjunction c d h k = k
+of_part-some parts.Disjunction c d h k = k
+of_part-some parts.IfThen c d h k = k
 of_part-some parts.Variable c d h k = k
 of_part-some parts.Goal c d h k = h
 of_part-some parts.Number c d h k = k
@@ -151,7 +151,7 @@ divided-some (int i) = omega arith
 divided-some (node f no_args) = omega arith
 divided-some (node f (arg a no_args)) = omega arith
 divided-some (node f (arg a (arg b no_args))) =
-    of_part-some (connective f) (one_step (Some (goal (node f (arg a (arg b no_args)))))) (joined f (divided a) (divided b)) (omega arith) (joined-some f (divided a).tree (divided a).steps (divided b))
+    of_part-some (part_of_pair f) (one_step (Some (goal (node f (arg a (arg b no_args)))))) (joined f (divided a) (divided b)) (omega arith) (joined-some f (divided a).tree (divided a).steps (divided b))
 divided-some (node f (arg a (arg b (arg c ts)))) = omega arith
 
 left-same : (b c : Option (Option (List Body))) (m n : ℕ) → b ≡ c → m ≡ n → (let x : Left = record { bodies = b; steps = m } in x) ≡ record { bodies = c; steps = n }

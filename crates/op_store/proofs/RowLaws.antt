@@ -5,10 +5,10 @@ use Rattle.std.proofs.lemmas.List.{append-nil}
 use Rattle.std.specs.Prelude.{is_some, option_copied}
 use Rattle.std.specs.Map.{lookup, set_value}
 use Rattle.indexmap.specs.IndexMap.{insert_entry}
-use Rattle.op_bind.specs.declared.places.Clause.{Clause as Rule}
+use Rattle.op_bind.specs.declared.places.Clause.{Clause as NumberedClause}
 use Rattle.op_store.specs.declared.pi.Pi.{Pi}
 use Rattle.op_store.specs.declared.procedure.Procedure.{Procedure as Row}
-use Rattle.op_store.specs.Rows.{Rows, pi_eq, all_rules}
+use Rattle.op_store.specs.Rows.{Rows, pi_eq, all_numbered_clauses}
 
 set-inserts-on : (b : Bool) (e : Pi × Row) (es more same : Rows) (w : Row) (o : Option Row) (p : Row) → cond b (Some e.1) o ≡ Some p → (o ≡ Some p → same ≡ more) → cond b ((e.0, w) ∷ es) (e ∷ same) ≡ cond b ((e.0, w) ∷ es) (e ∷ more)
 set-inserts-on true e es more same w o p h f = refl
@@ -36,17 +36,17 @@ on-err-map (Ok a) f p = tt
 on-err-map (Err e) f p = f p
 
 -- the clauses of one procedure more
-all-next : (rows : Rows) (i : ℕ) (e : Pi × Row) → slice_get rows i ≡ Some e → all_rules (take (suc i) rows) ≡ all_rules (take i rows) ++ e.1.clauses
+all-next : (rows : Rows) (i : ℕ) (e : Pi × Row) → slice_get rows i ≡ Some e → all_numbered_clauses (take (suc i) rows) ≡ all_numbered_clauses (take i rows) ++ e.1.clauses
 all-next [] i e h = absurd cc
 all-next (d ∷ ds) zero e h =
     let same : d ≡ e = cc in ap (λ (x : Pi × Row). x.1.clauses ++ []) same ∙ append-nil e.1.clauses
 all-next (d ∷ ds) (suc i) e h =
-    ap (λ (rs : List Rule). d.1.clauses ++ rs) (all-next ds i e h) ∙ sym (append_assoc d.1.clauses (all_rules (take i ds)) e.1.clauses)
+    ap (λ (rs : List NumberedClause). d.1.clauses ++ rs) (all-next ds i e h) ∙ sym (append_assoc d.1.clauses (all_numbered_clauses (take i ds)) e.1.clauses)
 
-pub all-more : (rows : Rows) (i : ℕ) (e : Pi × Row) (old new : List Rule) → Some e ≡ slice_get rows i → old ≡ all_rules (take i rows) → new ≡ old ++ e.1.clauses → new ≡ all_rules (take (i + 1) rows)
+pub all-more : (rows : Rows) (i : ℕ) (e : Pi × Row) (old new : List NumberedClause) → Some e ≡ slice_get rows i → old ≡ all_numbered_clauses (take i rows) → new ≡ old ++ e.1.clauses → new ≡ all_numbered_clauses (take (i + 1) rows)
 all-more rows i e old new h o n =
     let one : suc i ≡ i + 1 = omega arith in
-    n ∙ (ap (λ (rs : List Rule). rs ++ e.1.clauses) o ∙ (sym (all-next rows i e (sym h)) ∙ ap (λ (k : ℕ). all_rules (take k rows)) one))
+    n ∙ (ap (λ (rs : List NumberedClause). rs ++ e.1.clauses) o ∙ (sym (all-next rows i e (sym h)) ∙ ap (λ (k : ℕ). all_numbered_clauses (take k rows)) one))
 
 pub if-ok : {A E : Type 0} {P Q : A → Type 0} (r : Result A E) → ((a : A) → P a → Q a) → IfOk r P → IfOk r Q
 if-ok (Ok a) f p = f a p

@@ -10,19 +10,19 @@ use Rattle.op_store.specs.Counted.{variable_count}
 use Rattle.op_logic.specs.Names.{IsTable, HasNames, named, name_at}
 use Rattle.op_logic.proofs.Naming.{named-more}
 use Rattle.op_trace.specs.World.{Text, Clause}
-use Rattle.op_bind.specs.declared.places.Clause.{Clause as Rule}
+use Rattle.op_bind.specs.declared.places.Clause.{Clause as NumberedClause}
 use Rattle.op_store.specs.declared.pi.Pi.{Pi}
 use Rattle.op_store.specs.declared.procedure.Procedure.{Procedure as Row}
-use Rattle.op_store.specs.Rows.{clause_named, row_named, key_named, rows_named, Rows, pi_eq, row_in, with_row, extended_row, pi_of, IsRule, IsRow, AreRows}
-use Rattle.op_store.specs.Stored.{Stored, IsSound, world_of, with_rule, first_names}
-use Rattle.op_store.specs.World.{World, Key, key, Procedure}
+use Rattle.op_store.specs.Rows.{clause_named, row_named, indicator_named, rows_named, Rows, pi_eq, row_in, with_row, extended_row, pi_of, IsNumberedClause, IsRow, AreRows}
+use Rattle.op_store.specs.Stored.{Stored, IsSound, world_of, with_numbered_clause, first_names}
+use Rattle.op_store.specs.World.{World, Indicator, name_arity, Procedure}
 use Rattle.op_store.specs.Parts.{body_variables}
 use Rattle.op_store.specs.Told.{with_names}
 use Rattle.op_store.proofs.Bodies.{has-more, kept-has, names-more}
 use Rattle.op_store.proofs.Converting.{within-count}
 
-rule-more : (m n : ℕ) (k : Pi) (r : Rule) → m ≤ n → IsRule m k r → IsRule n k r
-rule-more m n k r l s = record {
+numbered-more : (m n : ℕ) (k : Pi) (r : NumberedClause) → m ≤ n → IsNumberedClause m k r → IsNumberedClause n k r
+numbered-more m n k r l s = record {
   for = s.for;
   head_names = has-more m n r.head l s.head_names;
   body_names = has-more m n r.body l s.body_names;
@@ -33,7 +33,7 @@ rule-more m n k r l s = record {
 -- the rows over more names
 pub rows-more : (m n : ℕ) (rows : Rows) → m ≤ n → AreRows m rows → AreRows n rows
 rows-more m n [] l h = tt
-rows-more m n (e ∷ es) l h = (record { name = omega (arith, h.0.name); rules = λ i d k. rule-more m n e.0 _ l (h.0.rules i d k) }, rows-more m n es l h.1)
+rows-more m n (e ∷ es) l h = (record { name = omega (arith, h.0.name); clauses = λ i d k. numbered-more m n e.0 _ l (h.0.clauses i d k) }, rows-more m n es l h.1)
 
 take-front : {A : Type 0} (k n : ℕ) (xs : List A) → k ≤ n → take k (take n xs) ≡ take k xs
 take-front zero n xs l = refl
@@ -67,24 +67,24 @@ same-pi a b h =
     rw name (rw arity refl)
 
 -- the name of a procedure with a clause is in the table
-pub key-below : (n : ℕ) (t : Term ℕ) (k : Pi) → pi_of t ≡ Some k → HasNames n t → k.name.0 < n
-key-below n (var v) k e h = absurd cc
-key-below n (int i) k e h = absurd cc
-key-below n (node f ts) k e h = subst (λ (o : Option Pi). IfSome o (λ k. k.name.0 < n)) e h.0
+pub indicator-below : (n : ℕ) (t : Term ℕ) (k : Pi) → pi_of t ≡ Some k → HasNames n t → k.name.0 < n
+indicator-below n (var v) k e h = absurd cc
+indicator-below n (int i) k e h = absurd cc
+indicator-below n (node f ts) k e h = subst (λ (o : Option Pi). IfSome o (λ k. k.name.0 < n)) e h.0
 
-rules-push : (n : ℕ) (k : Pi) (rs : List Rule) (r : Rule) → All (λ r. IsRule n k r) rs → IsRule n k r → All (λ r. IsRule n k r) (rs ++ r ∷ [])
-rules-push n k rs r h s = All-push (λ (q : Rule). IsRule n k q) rs r h s
+numbered-push : (n : ℕ) (k : Pi) (rs : List NumberedClause) (r : NumberedClause) → All (λ r. IsNumberedClause n k r) rs → IsNumberedClause n k r → All (λ r. IsNumberedClause n k r) (rs ++ r ∷ [])
+numbered-push n k rs r h s = All-push (λ (q : NumberedClause). IsNumberedClause n k q) rs r h s
 
-no-rules : (n : ℕ) (k : Pi) → All (λ r. IsRule n k r) []
-no-rules n k = λ i d l. absurd (omega arith)
+numbered-none : (n : ℕ) (k : Pi) → All (λ r. IsNumberedClause n k r) []
+numbered-none n k = λ i d l. absurd (omega arith)
 
-new-row : (n : ℕ) (k : Pi) (r : Rule) → IsRule n k r → IsRow n k (extended_row None r)
-new-row n k r s = record { name = key-below n r.head k s.for s.head_names; rules = rules-push n k [] r (no-rules n k) s }
+new-row : (n : ℕ) (k : Pi) (r : NumberedClause) → IsNumberedClause n k r → IsRow n k (extended_row None r)
+new-row n k r s = record { name = indicator-below n r.head k s.for s.head_names; clauses = numbered-push n k [] r (numbered-none n k) s }
 
-more-row : (n : ℕ) (k : Pi) (p : Row) (r : Rule) → IsRow n k p → IsRule n k r → IsRow n k (extended_row (Some p) r)
-more-row n k p r h s = record { name = h.name; rules = rules-push n k p.clauses r h.rules s }
+more-row : (n : ℕ) (k : Pi) (p : Row) (r : NumberedClause) → IsRow n k p → IsNumberedClause n k r → IsRow n k (extended_row (Some p) r)
+more-row n k p r h s = record { name = h.name; clauses = numbered-push n k p.clauses r h.clauses s }
 
-row-found : (n : ℕ) (k : Pi) (rows : Rows) (r : Rule) → AreRows n rows → IsRule n k r → IsRow n k (extended_row (row_in rows k) r)
+row-found : (n : ℕ) (k : Pi) (rows : Rows) (r : NumberedClause) → AreRows n rows → IsNumberedClause n k r → IsRow n k (extended_row (row_in rows k) r)
 row-found n k [] r h s = new-row n k r s
 row-found n k (e ∷ es) r h s =
     by_test (pi_eq k e.0)
@@ -100,7 +100,7 @@ row-put n k p (e ∷ es) h s =
     (λ y. subst (λ (rs : Rows). AreRows n rs) (sym (if_false (pi_eq k e.0) ((e.0, p) ∷ es) (e ∷ with_row es k p) y)) (h.0, row-put n k p es h.1 s))
 
 -- a clause that joins
-pub sound-joins : (s : Stored) (k : Pi) (r : Rule) → IsSound s → IsRule (length s.names) k r → IsSound (with_rule s k r)
+pub sound-joins : (s : Stored) (k : Pi) (r : NumberedClause) → IsSound s → IsNumberedClause (length s.names) k r → IsSound (with_numbered_clause s k r)
 sound-joins s k r h i = record {
   names = h.names;
   begins = h.begins;
@@ -118,9 +118,9 @@ module _ {P : Type 0} (term : P → Term ℕ) where
   body-counted h None = tt
   body-counted h (Some p) = within-count (term p) (max (variable_count (term h)) (variable_count (term p))) (omega arith)
 
-pub rule-made : (old new : List Text) (k : Pi) (r : Rule) (head : Term ℕ) (n : ℕ) → take (length old) new ≡ old → Some k ≡ pi_of head → r.head ≡ head → HasNames (length old) head → HasNames (length new) r.body
-    → r.vars ≡ n → IsWithin n head → IsWithin n r.body → IsRule (length new) k r
-rule-made old new k r head n e f own h b v wh wb = record {
+pub numbered-made : (old new : List Text) (k : Pi) (r : NumberedClause) (head : Term ℕ) (n : ℕ) → take (length old) new ≡ old → Some k ≡ pi_of head → r.head ≡ head → HasNames (length old) head → HasNames (length new) r.body
+    → r.vars ≡ n → IsWithin n head → IsWithin n r.body → IsNumberedClause (length new) k r
+numbered-made old new k r head n e f own h b v wh wb = record {
   for = ap pi_of own ∙ sym f;
   head_names = subst (λ (t : Term ℕ). HasNames (length new) t) (sym own) (kept-has old new head e h);
   body_names = b;
@@ -143,27 +143,27 @@ module _ (old new : List Text) (kept : take (length old) new ≡ old) where
   name-kept : (f : ℕ) → f < length old → name_at new f ≡ name_at old f
   name-kept f l = let e : named new (node f no_args) ≡ named old (node f no_args) = named-more old new kept (node f no_args) (l, tt) in cc
 
-  clause-kept : (k : Pi) (r : Rule) → IsRule (length old) k r → clause_named new r ≡ clause_named old r
+  clause-kept : (k : Pi) (r : NumberedClause) → IsNumberedClause (length old) k r → clause_named new r ≡ clause_named old r
   clause-kept k r h =
       ap (λ (t : Term Text). let c : Clause = record { id = r.id; head = t; body = named new r.body; variables = r.vars } in c) (named-more old new kept r.head h.head_names)
       ∙ ap (λ (t : Term Text). let c : Clause = record { id = r.id; head = named old r.head; body = t; variables = r.vars } in c) (named-more old new kept r.body h.body_names)
 
-  clauses-kept : (k : Pi) (rs : List Rule) → All (λ r. IsRule (length old) k r) rs → map (clause_named new) rs ≡ map (clause_named old) rs
+  clauses-kept : (k : Pi) (rs : List NumberedClause) → All (λ r. IsNumberedClause (length old) k r) rs → map (clause_named new) rs ≡ map (clause_named old) rs
   clauses-kept k [] h = refl
   clauses-kept k (r ∷ rs) h =
-      ap (λ (c : Clause). c ∷ map (clause_named new) rs) (clause-kept k r (All-head (λ (r : Rule). IsRule (length old) k r) r rs h))
-      ∙ ap (λ (cs : List Clause). clause_named old r ∷ cs) (clauses-kept k rs (All-tail (λ (r : Rule). IsRule (length old) k r) r rs h))
+      ap (λ (c : Clause). c ∷ map (clause_named new) rs) (clause-kept k r (All-head (λ (r : NumberedClause). IsNumberedClause (length old) k r) r rs h))
+      ∙ ap (λ (cs : List Clause). clause_named old r ∷ cs) (clauses-kept k rs (All-tail (λ (r : NumberedClause). IsNumberedClause (length old) k r) r rs h))
 
   row-kept : (k : Pi) (p : Row) → IsRow (length old) k p → row_named new p ≡ row_named old p
-  row-kept k p h = ap (λ (cs : List Clause). let q : Procedure = record { dynamic = p.dynamic; clauses = cs } in q) (clauses-kept k p.clauses h.rules)
+  row-kept k p h = ap (λ (cs : List Clause). let q : Procedure = record { dynamic = p.dynamic; clauses = cs } in q) (clauses-kept k p.clauses h.clauses)
 
   rows-kept : (rows : Rows) → AreRows (length old) rows → rows_named new rows ≡ rows_named old rows
   rows-kept [] h = refl
   rows-kept (e ∷ es) h =
-      ap (λ (f : Text). (key f e.0.arity, row_named new e.1) ∷ rows_named new es) (name-kept e.0.name.0 h.0.name)
-      ∙ (ap (λ (p : Procedure). (key_named old e.0, p) ∷ rows_named new es) (row-kept e.0 e.1 h.0)
-      ∙ ap (λ (ps : List (Key × Procedure)). (key_named old e.0, row_named old e.1) ∷ ps) (rows-kept es h.1))
+      ap (λ (f : Text). (name_arity f e.0.arity, row_named new e.1) ∷ rows_named new es) (name-kept e.0.name.0 h.0.name)
+      ∙ (ap (λ (p : Procedure). (indicator_named old e.0, p) ∷ rows_named new es) (row-kept e.0 e.1 h.0)
+      ∙ ap (λ (ps : List (Indicator × Procedure)). (indicator_named old e.0, row_named old e.1) ∷ ps) (rows-kept es h.1))
 
 pub world-kept : (s : Stored) (names : List Text) → take (length s.names) names ≡ s.names → IsSound s → world_of (with_names s names) ≡ world_of s
 world-kept s names kept h =
-    ap (λ (ps : List (Key × Procedure)). let w : World = record { procedures = ps; next = s.next; table = s.table; flags = s.flags } in w) (rows-kept s.names names kept s.rows h.rows)
+    ap (λ (ps : List (Indicator × Procedure)). let w : World = record { procedures = ps; next = s.next; table = s.table; flags = s.flags } in w) (rows-kept s.names names kept s.rows h.rows)

@@ -13,7 +13,7 @@ use Rattle.op_store.specs.Clauses.{clause, sentence_of, of_sentence, with_parts,
 use Rattle.op_store.specs.Counted.{variable_count}
 use Rattle.op_store.specs.Load.{Loaded, loaded, stopped, load_from, line_at, fault_line, first_token}
 use Rattle.op_store.specs.Parts.{body_text, body_variables}
-use Rattle.op_store.specs.World.{World, key_of}
+use Rattle.op_store.specs.World.{World, indicator_of_term}
 use Rattle.op_store.specs.Fault.{Fault, syntax}
 use Rattle.op_store.proofs.Counting.{count-named}
 use Rattle.op_store.specs.Queries.{fault_named, IsKnownFault}
@@ -46,14 +46,14 @@ module _ {P : Type 0} (tree : P → Term ℕ) where
 
   pub clause-told : (l : Locked) (w : World) (old new : List Text) (t : Term ℕ) (h : P) (b : Option P) → take (length old) new ≡ old → HasNames (length old) t → HasNames (length old) (tree h) → IfSome b (λ p. HasNames (length old) (tree p))
       → clause (named old (tree h)) (body_text (λ p. named old (tree p)) b) ≡ sentence_of (named old t)
-      → with_parts l w (named new (tree h)) (body_variables (λ p. variable_count (tree p)) h b) (key_of (named new (tree h))) (converted (body_text (λ p. named new (tree p)) b)).body ≡ with_term l w (named new t)
+      → with_parts l w (named new (tree h)) (body_variables (λ p. variable_count (tree p)) h b) (indicator_of_term (named new (tree h))) (converted (body_text (λ p. named new (tree p)) b)).body ≡ with_term l w (named new t)
   clause-told l w old new t h b kept ht hh hb e =
       let head : named new (tree h) ≡ named old (tree h) = named-more old new kept (tree h) hh in
       sym (ap (with_term l w) (named-more old new kept t ht)
       ∙ (ap (of_sentence l w) (sym e)
       ∙ (ap (λ (u : Term Text). of_sentence l w (clause u (body_text (λ p. named old (tree p)) b))) (sym head)
       ∙ (ap (λ (u : Term Text). of_sentence l w (clause (named new (tree h)) u)) (body-more old new kept b hb)
-      ∙ ap (λ (n : ℕ). with_parts l w (named new (tree h)) n (key_of (named new (tree h))) (converted (body_text (λ p. named new (tree p)) b)).body) (body-count new h b)))))
+      ∙ ap (λ (n : ℕ). with_parts l w (named new (tree h)) n (indicator_of_term (named new (tree h))) (converted (body_text (λ p. named new (tree p)) b)).body) (body-count new h b)))))
 
   places-known : (Q : P → Type 0) (h : P) (b : Option P) → All Q (sentence_places (Clause h b)) → Q h × IfSome b Q
   places-known Q h None k = (k 0 h (omega arith), tt)
@@ -66,7 +66,7 @@ module _ {P : Type 0} (tree : P → Term ℕ) where
   -- the names that the clause was read with are the old ones
   pub clause-read : (Q : P → Type 0) (l : Locked) (w : World) (old new syms : List Text) (t : Term ℕ) (root h : P) (b : Option P) → syms ≡ old → tree root ≡ t → take (length old) new ≡ old → HasNames (length old) t
       → All (λ p. Q p × HasNames (length syms) (tree p)) (sentence_places (Clause h b)) → clause (named syms (tree h)) (body_text (λ p. named syms (tree p)) b) ≡ sentence_of (named syms (tree root))
-      → with_parts l w (named new (tree h)) (body_variables (λ p. variable_count (tree p)) h b) (key_of (named new (tree h))) (converted (body_text (λ p. named new (tree p)) b)).body ≡ with_term l w (named new t)
+      → with_parts l w (named new (tree h)) (body_variables (λ p. variable_count (tree p)) h b) (indicator_of_term (named new (tree h))) (converted (body_text (λ p. named new (tree p)) b)).body ≡ with_term l w (named new t)
   clause-read Q l w old new syms t root h b s e kept ht known said =
       let places : All (λ p. Q p × HasNames (length old) (tree p)) (sentence_places (Clause h b)) = subst (λ (ns : List Text). All (λ p. Q p × HasNames (length ns) (tree p)) (sentence_places (Clause h b))) s known in
       let both = places-known (λ p. Q p × HasNames (length old) (tree p)) h b places in

@@ -4,21 +4,21 @@
 use Rattle.std.specs.Prelude.{ℕ, suc, ◌+◌, List, [], ◌∷◌, Option, Some, None, option_map, if◌then◌else◌, bytes_eq, codes}
 use Rattle.op_logic.specs.Term.{Term, var, int, node, Args, no_args, arg}
 use Rattle.op_store.specs.declared.body_part.Part.{Part}
-use Rattle.op_store.specs.declared.body_part.Part.TheVariants.{And, Or, Then, Variable, Goal, Number}
+use Rattle.op_store.specs.declared.body_part.Part.TheVariants.{Conjunction, Disjunction, IfThen, Variable, Goal, Number}
 
 -- a compound of two arguments, by its name
-abbrev pub connective : List ℕ → Part
-connective f =
-    if bytes_eq f (codes ",") then And else
-    if bytes_eq f (codes ";") then Or else
-    if bytes_eq f (codes "->") then Then else
+abbrev pub part_of_pair : List ℕ → Part
+part_of_pair f =
+    if bytes_eq f (codes ",") then Conjunction else
+    if bytes_eq f (codes ";") then Disjunction else
+    if bytes_eq f (codes "->") then IfThen else
     Goal
 
 -- what a term is as a part of a body
 abbrev pub part_of_term : Term (List ℕ) → Part
 part_of_term (var v) = Variable
 part_of_term (int i) = Number
-part_of_term (node f (arg t (arg u no_args))) = connective f
+part_of_term (node f (arg t (arg u no_args))) = part_of_pair f
 part_of_term (node f ts) = Goal
 
 -- a body: a goal, a call of a variable, or the control construct of a name with its two parts
@@ -48,7 +48,7 @@ of_part Goal whole parts = whole
 of_part part whole parts = parts
 
 abbrev pub compound : List ℕ → Args (List ℕ) → List Division → Division
-compound f ts (a ∷ b ∷ []) = of_part (connective f) (one_step (Some (goal (node f ts)))) (joined f a b)
+compound f ts (a ∷ b ∷ []) = of_part (part_of_pair f) (one_step (Some (goal (node f ts)))) (joined f a b)
 compound f ts parts = one_step (Some (goal (node f ts)))
 
 abbrev mutual

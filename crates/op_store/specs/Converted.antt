@@ -4,10 +4,10 @@ use Rattle.op_logic.specs.Term.{Term, node, no_args, arg}
 use Rattle.op_store.specs.Body.{pair}
 use Rattle.op_logic.specs.Names.{name_at, named}
 use Rattle.op_term.specs.Places.{term_at}
-use Rattle.op_store.specs.declared.connectives.Connectives.{Connectives}
+use Rattle.op_store.specs.declared.control_names.ControlNames.{ControlNames}
 
 -- the numbers of the names of the control constructs and of call/1
-pub record AreConnectives (names : List (List ℕ)) (k : Connectives) : Type 0 where
+pub record AreControlNames (names : List (List ℕ)) (k : ControlNames) : Type 0 where
   pub comma : name_at names k.comma.0 ≡ codes ","
   pub semicolon : name_at names k.semicolon.0 ≡ codes ";"
   pub arrow : name_at names k.arrow.0 ≡ codes "->"

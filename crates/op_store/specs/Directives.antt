@@ -8,7 +8,7 @@ use Rattle.op_term.specs.declared.ops.OpKind.TheVariants.{Xfx, Xfy, Yfx, Fy, Fx,
 use Rattle.op_reader.specs.declared.quotes.DoubleQuotes.{DoubleQuotes}
 use Rattle.op_reader.specs.declared.quotes.DoubleQuotes.TheVariants.{Codes, Chars, Atom}
 use Rattle.op_store.specs.declared.locked.Locked.{Locked}
-use Rattle.op_store.specs.World.{Key, key, Procedure, World, procedure_in, set_procedure, no_clauses}
+use Rattle.op_store.specs.World.{Indicator, name_arity, Procedure, World, procedure_in, set_procedure, no_clauses}
 use Rattle.op_store.specs.Locked.{is_locked}
 use Rattle.op_store.specs.Fault.{Fault, locked, directive, and_then}
 
@@ -69,11 +69,11 @@ abbrev pub entries : Term Text → List (Term Text)
 entries t = elim (elements t) [ Some ts ↦ ts | None ↦ conjuncts t ]
 
 -- an entry is Name/Arity
-abbrev pub indicated : Text → Option Text → Option ℕ → Option Key
-indicated f (Some name) (Some n) = if is_name f (codes "/") then Some (key name n) else None
+abbrev pub indicated : Text → Option Text → Option ℕ → Option Indicator
+indicated f (Some name) (Some n) = if is_name f (codes "/") then Some (name_arity name n) else None
 indicated f name n = None
 
-abbrev pub indicator : Term Text → Option Key
+abbrev pub indicator : Term Text → Option Indicator
 indicator (node f (arg t (arg u no_args))) = indicated f (atom_name t) (natural u)
 indicator t = None
 
@@ -82,11 +82,11 @@ or_directive (Some a) = Ok a
 or_directive None = Err directive
 
 -- a procedure that has static clauses can't become dynamic
-abbrev pub may_change : World → Key → Option Procedure → Result World Fault
+abbrev pub may_change : World → Indicator → Option Procedure → Result World Fault
 may_change w k None = Ok (set_procedure w k no_clauses)
 may_change w k (Some p) = if p.dynamic then Ok w else Err directive
 
-abbrev pub made_dynamic : Locked → World → Key → Result World Fault
+abbrev pub made_dynamic : Locked → World → Indicator → Result World Fault
 made_dynamic l w k = if is_locked l k then Err (locked k) else may_change w k (procedure_in w.procedures k)
 
 -- from the left, each entry for its form, then for what it names

@@ -8,7 +8,7 @@ use Rattle.op_reader.specs.declared.fault.ReadFaultKind.TheVariants.{NoEnd, NoOp
 use Rattle.op_reader.specs.Reading.{reading_of}
 use Rattle.op_reader.specs.Row.{tree_of}
 use Rattle.op_store.specs.declared.locked.Locked.TheVariants.{Program, Analysis}
-use Rattle.op_store.specs.World.{World, key, Procedure, no_clauses}
+use Rattle.op_store.specs.World.{World, name_arity, Procedure, no_clauses}
 use Rattle.op_store.specs.Locked.{builtins, commands}
 use Rattle.op_store.specs.Fault.{Fault, syntax, trailing, head, body, locked, directive}
 use Rattle.op_store.specs.Load.{Loaded, stopped, load_from, load_text, query, goal_of, goal_in, command_of, unreadable}
@@ -41,7 +41,7 @@ truth = atom (codes "true")
 abbrev fault_of : Loaded → ℕ → Fault → Type 0
 fault_of l line f = l.found ≡ Some (record { line = line; fault = f })
 
-pub two_clauses : (load (codes "a. p(X) :- X.")).world ≡ record start { procedures = (key (codes "a") 0, static (clause 0 a truth 0 ∷ [])) ∷ (key (codes "p") 1, static (clause 1 (one (codes "p") (var 0)) (one (codes "call") (var 0)) 1 ∷ [])) ∷ []; next = 2 }
+pub two_clauses : (load (codes "a. p(X) :- X.")).world ≡ record start { procedures = (name_arity (codes "a") 0, static (clause 0 a truth 0 ∷ [])) ∷ (name_arity (codes "p") 1, static (clause 1 (one (codes "p") (var 0)) (one (codes "call") (var 0)) 1 ∷ [])) ∷ []; next = 2 }
 unfolding load_from reading_of iso_table iso_rows tree_of builtins commands
 two_clauses = refl
 
@@ -50,7 +50,7 @@ unfolding load_from reading_of iso_table iso_rows tree_of builtins commands
 two_necks = refl
 
 -- the operators of the moment
-pub an_operator : (load (codes ":- op(700,xfx,===>). p(a ===> a).")).world.procedures ≡ (key (codes "p") 1, static (clause 0 (one (codes "p") (two (codes "===>") a a)) truth 0 ∷ [])) ∷ []
+pub an_operator : (load (codes ":- op(700,xfx,===>). p(a ===> a).")).world.procedures ≡ (name_arity (codes "p") 1, static (clause 0 (one (codes "p") (two (codes "===>") a a)) truth 0 ∷ [])) ∷ []
 unfolding load_from reading_of iso_table iso_rows tree_of builtins commands
 an_operator = refl
 
@@ -58,15 +58,15 @@ pub an_operator_too_late : fault_of (load (codes "p(a ===> a).\n:- op(700,xfx,==
 unfolding load_from reading_of iso_table iso_rows tree_of builtins commands
 an_operator_too_late = refl
 
-pub a_dynamic_procedure : (load (codes ":- dynamic q/1, r/0.\nq(1).")).world.procedures ≡ (key (codes "q") 1, record { dynamic = true; clauses = clause 0 (one (codes "q") (int (pos 1))) truth 0 ∷ [] }) ∷ (key (codes "r") 0, no_clauses) ∷ []
+pub a_dynamic_procedure : (load (codes ":- dynamic q/1, r/0.\nq(1).")).world.procedures ≡ (name_arity (codes "q") 1, record { dynamic = true; clauses = clause 0 (one (codes "q") (int (pos 1))) truth 0 ∷ [] }) ∷ (name_arity (codes "r") 0, no_clauses) ∷ []
 unfolding load_from reading_of iso_table iso_rows tree_of builtins commands
 a_dynamic_procedure = refl
 
-pub dynamic_too_late : load (codes "q(1).\n\n :- dynamic q/1. a.") ≡ stopped (record start { procedures = (key (codes "q") 1, static (clause 0 (one (codes "q") (int (pos 1))) truth 0 ∷ [])) ∷ []; next = 1 }) 3 directive
+pub dynamic_too_late : load (codes "q(1).\n\n :- dynamic q/1. a.") ≡ stopped (record start { procedures = (name_arity (codes "q") 1, static (clause 0 (one (codes "q") (int (pos 1))) truth 0 ∷ [])) ∷ []; next = 1 }) 3 directive
 unfolding load_from reading_of iso_table iso_rows tree_of builtins commands
 dynamic_too_late = refl
 
-pub a_locked_name : fault_of (load (codes "a.\nwrite(x).")) 2 (locked (key (codes "write") 1))
+pub a_locked_name : fault_of (load (codes "a.\nwrite(x).")) 2 (locked (name_arity (codes "write") 1))
 unfolding load_from reading_of iso_table iso_rows tree_of builtins commands
 a_locked_name = refl
 
@@ -74,7 +74,7 @@ pub a_command_is_no_builtin : (load (codes "next.")).found ≡ None
 unfolding load_from reading_of iso_table iso_rows tree_of builtins commands
 a_command_is_no_builtin = refl
 
-pub a_command_is_locked : fault_of (load_text Analysis start (codes "next.")) 1 (locked (key (codes "next") 0))
+pub a_command_is_locked : fault_of (load_text Analysis start (codes "next.")) 1 (locked (name_arity (codes "next") 0))
 unfolding load_from reading_of iso_table iso_rows tree_of builtins commands
 a_command_is_locked = refl
 

@@ -3,7 +3,7 @@
 use Rattle.std.specs.Prelude.{ℕ, ◌==◌, Bool, ◌||◌, List, [], ◌∷◌, codes, bytes_eq, if◌then◌else◌}
 use Rattle.std.specs.List.{list_any}
 use Rattle.op_trace.specs.World.{Text}
-use Rattle.op_store.specs.World.{Key}
+use Rattle.op_store.specs.World.{Indicator}
 use Rattle.op_store.specs.declared.locked.Locked.{Locked}
 use Rattle.op_store.specs.declared.locked.Locked.TheVariants.{Program, Analysis}
 
@@ -53,6 +53,6 @@ abbrev pub is_among : List Text → Text → Bool
 is_among names f = list_any (λ n. bytes_eq f n) names
 
 -- in a program, and in an analysis
-abbrev pub is_locked : Locked → Key → Bool
+abbrev pub is_locked : Locked → Indicator → Bool
 is_locked Program k = is_among (builtins k.arity) k.name
 is_locked Analysis k = is_among (builtins k.arity) k.name || is_among (commands k.arity) k.name

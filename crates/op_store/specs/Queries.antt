@@ -15,7 +15,7 @@ use Rattle.op_store.specs.Body.{converted}
 use Rattle.op_store.specs.Load.{Query, Found, Bad, unreadable, not_body, Loaded, loaded, stopped}
 use Rattle.op_store.specs.Stored.{Stored, world_of}
 use Rattle.op_store.specs.Fault.{Fault, syntax, trailing, head, body, locked, directive}
-use Rattle.op_store.specs.Rows.{key_named}
+use Rattle.op_store.specs.Rows.{indicator_named}
 use Rattle.op_store.specs.declared.load_fault.LoadFaultKind.{LoadFaultKind}
 use Rattle.op_store.specs.declared.load_fault.LoadFaultKind.TheVariants as kinds
 use Rattle.op_store.specs.declared.load_fault.LoadFault.{LoadFault}
@@ -58,7 +58,7 @@ fault_named names (kinds.Syntax kind) = syntax kind
 fault_named names kinds.Trailing = trailing
 fault_named names kinds.Head = head
 fault_named names kinds.Body = body
-fault_named names (kinds.Locked k) = locked (key_named names k)
+fault_named names (kinds.Locked k) = locked (indicator_named names k)
 fault_named names kinds.Directive = directive
 
 -- what reading a goal tells

@@ -7,10 +7,10 @@ use Rattle.op_logic.specs.Term.{Term, var, int, node, arity, IsWithin}
 use Rattle.op_logic.specs.Names.{name_at, named, HasNames}
 use Rattle.op_term.specs.Head.{sym}
 use Rattle.op_trace.specs.World.{Text, Clause}
-use Rattle.op_bind.specs.declared.places.Clause.{Clause as Rule}
+use Rattle.op_bind.specs.declared.places.Clause.{Clause as NumberedClause}
 use Rattle.op_store.specs.declared.pi.Pi.{Pi}
 use Rattle.op_store.specs.declared.procedure.Procedure.{Procedure as Row}
-use Rattle.op_store.specs.World.{Key, key, Procedure}
+use Rattle.op_store.specs.World.{Indicator, name_arity, Procedure}
 
 abbrev pub Rows : Type 0
 Rows = List (Pi × Row)
@@ -24,16 +24,16 @@ row_in rows k = lookup (pi_eq k) rows
 abbrev pub with_row : Rows → Pi → Row → Rows
 with_row rows k r = insert_entry pi_eq rows k r
 
-abbrev pub extended_row : Option Row → Rule → Row
+abbrev pub extended_row : Option Row → NumberedClause → Row
 extended_row None r = record { dynamic = false; clauses = r ∷ [] }
 extended_row (Some p) r = record { dynamic = p.dynamic; clauses = p.clauses ++ r ∷ [] }
 
 -- the clauses of all procedures
-abbrev pub all_rules : Rows → List Rule
-all_rules rows = flat_map (λ e. e.1.clauses) rows
+abbrev pub all_numbered_clauses : Rows → List NumberedClause
+all_numbered_clauses rows = flat_map (λ e. e.1.clauses) rows
 
-abbrev pub no_rules : Row
-no_rules = record { dynamic = true; clauses = [] }
+abbrev pub no_numbered_clauses : Row
+no_numbered_clauses = record { dynamic = true; clauses = [] }
 
 -- the procedure that a term is of
 abbrev pub pi_of : Term ℕ → Option Pi
@@ -43,20 +43,20 @@ pi_of (node f ts) = Some (record { name = sym f; arity = arity ts })
 
 -- the same over texts
 
-abbrev pub key_named : List Text → Pi → Key
-key_named names k = key (name_at names k.name.0) k.arity
+abbrev pub indicator_named : List Text → Pi → Indicator
+indicator_named names k = name_arity (name_at names k.name.0) k.arity
 
-abbrev pub clause_named : List Text → Rule → Clause
+abbrev pub clause_named : List Text → NumberedClause → Clause
 clause_named names r = record { id = r.id; head = named names r.head; body = named names r.body; variables = r.vars }
 
 abbrev pub row_named : List Text → Row → Procedure
 row_named names p = record { dynamic = p.dynamic; clauses = map (clause_named names) p.clauses }
 
-abbrev pub rows_named : List Text → Rows → List (Key × Procedure)
-rows_named names rows = map (λ e. (key_named names e.0, row_named names e.1)) rows
+abbrev pub rows_named : List Text → Rows → List (Indicator × Procedure)
+rows_named names rows = map (λ e. (indicator_named names e.0, row_named names e.1)) rows
 
 -- a clause for a procedure, whose names are among so many, and whose variables are counted
-pub record IsRule (n : ℕ) (k : Pi) (r : Rule) : Type 0 where
+pub record IsNumberedClause (n : ℕ) (k : Pi) (r : NumberedClause) : Type 0 where
   pub for : pi_of r.head ≡ Some k
   pub head_names : HasNames n r.head
   pub body_names : HasNames n r.body
@@ -65,7 +65,7 @@ pub record IsRule (n : ℕ) (k : Pi) (r : Rule) : Type 0 where
 
 pub record IsRow (n : ℕ) (k : Pi) (p : Row) : Type 0 where
   pub name : k.name.0 < n
-  pub rules : All (λ r. IsRule n k r) p.clauses
+  pub clauses : All (λ r. IsNumberedClause n k r) p.clauses
 
 abbrev pub AreRows : ℕ → Rows → Type 0
 AreRows n [] = Unit {0}

@@ -1,8 +1,8 @@
 -- What a snapshot of a procedure has.
 use Rattle.std.specs.Prelude.{List, [], Option, Some, None}
-use Rattle.op_bind.specs.declared.places.Clause.{Clause as Rule}
+use Rattle.op_bind.specs.declared.places.Clause.{Clause as NumberedClause}
 
 -- no clauses where there is no procedure
-abbrev pub rules_in : Option (List Rule) → List Rule
-rules_in None = []
-rules_in (Some rules) = rules
+abbrev pub snapshot_clauses : Option (List NumberedClause) → List NumberedClause
+snapshot_clauses None = []
+snapshot_clauses (Some snapshot) = snapshot

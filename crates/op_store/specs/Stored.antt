@@ -5,12 +5,12 @@ use Rattle.op_term.specs.Ops.{Table, iso_table}
 use Rattle.op_term.specs.Ops as ops
 use Rattle.op_trace.specs.World.{Text}
 use Rattle.op_reader.specs.declared.quotes.DoubleQuotes.TheVariants.{Codes}
-use Rattle.op_bind.specs.declared.places.Clause.{Clause as Rule}
+use Rattle.op_bind.specs.declared.places.Clause.{Clause as NumberedClause}
 use Rattle.op_store.specs.declared.flags.Flags.{Flags}
 use Rattle.op_store.specs.declared.locked.Locked.{Locked}
 use Rattle.op_store.specs.declared.pi.Pi.{Pi}
 use Rattle.op_store.specs.World.{World, Procedure}
-use Rattle.op_store.specs.Rows.{Rows, row_in, with_row, extended_row, all_rules, rows_named, AreRows}
+use Rattle.op_store.specs.Rows.{Rows, row_in, with_row, extended_row, all_numbered_clauses, rows_named, AreRows}
 
 -- which names are locked; the names; the operators; the flags; the procedures; the number of the next clause
 pub record Stored : Type 0 where
@@ -33,12 +33,12 @@ abbrev pub new_store : Locked → Stored
 new_store l = record { locked = l; names = first_names; table = iso_table; flags = record { quotes = Codes; unknown_fails = false }; rows = []; next = 0 }
 
 -- a clause joins at the end of its procedure
-abbrev pub with_rule : Stored → Pi → Rule → Stored
-with_rule s k r = record s { rows = with_row s.rows k (extended_row (row_in s.rows k) r); next = suc s.next }
+abbrev pub with_numbered_clause : Stored → Pi → NumberedClause → Stored
+with_numbered_clause s k r = record s { rows = with_row s.rows k (extended_row (row_in s.rows k) r); next = suc s.next }
 
 -- all clauses, procedure by procedure in order of first sight
-abbrev pub rules_of : Stored → List Rule
-rules_of s = all_rules s.rows
+abbrev pub numbered_clauses : Stored → List NumberedClause
+numbered_clauses s = all_numbered_clauses s.rows
 
 abbrev pub is_dynamic_row : Option Procedure → Bool
 is_dynamic_row None = false

@@ -1,6 +1,6 @@
 ghost use Rattle.std.specs.Prelude.{◌≡◌, ◌<◌, ℕ, length};
 ghost use Rattle.op_logic.specs.Names.{HasNames, named};
-ghost use Rattle.op_store.specs.Body.{part_of_term, connective};
+ghost use Rattle.op_store.specs.Body.{part_of_term, part_of_pair};
 
 use op_term::{Node, Symbols, Tree};
 
@@ -8,9 +8,9 @@ use op_term::{Node, Symbols, Tree};
 /// which is no goal.
 #[derive(Clone, Copy, Debug, PartialEq, Eq)]
 pub(crate) enum Part {
-    And,
-    Or,
-    Then,
+    Conjunction,
+    Disjunction,
+    IfThen,
     Variable,
     Goal,
     Number,
@@ -18,14 +18,14 @@ pub(crate) enum Part {
 
 // What a compound of two arguments is.
 fn pair_part(name: &str) -> Part
-    ensures { result ≡ connective name.now }
+    ensures { result ≡ part_of_pair name.now }
 {
     if name == "," {
-        Part::And
+        Part::Conjunction
     } else if name == ";" {
-        Part::Or
+        Part::Disjunction
     } else if name == "->" {
-        Part::Then
+        Part::IfThen
     } else {
         Part::Goal
     }

@@ -4,10 +4,10 @@ ghost use Rattle.op_term.specs.Cells.{AllBelow};
 ghost use Rattle.op_store.specs.Body.{Body, term_of};
 ghost use Rattle.op_store.specs.Nodes.{leaves};
 ghost use Rattle.op_store.specs.Walk.{needs, took, read};
-ghost use Rattle.op_store.specs.Converted.{AreConnectives, texts_at, paired, called};
+ghost use Rattle.op_store.specs.Converted.{AreControlNames, texts_at, paired, called};
 
 use crate::body_node::BodyNode;
-use crate::connectives::Connectives;
+use crate::control_names::ControlNames;
 use crate::copy::copy_term;
 use crate::link::pop_two;
 use op_base::Memory;
@@ -66,7 +66,7 @@ fn push_part<T: Tree>(
     alloc: Global,
     tree: &T,
     node: BodyNode<T::At>,
-    known: Connectives,
+    known: ControlNames,
     made: &mut Builder,
     stack: &mut Vec<u64>,
 ) -> Result<(), Memory>
@@ -74,7 +74,7 @@ fn push_part<T: Tree>(
     requires parts { needs node ≤ length stack.old.items }
     requires there { AllBelow (length made.old) (reverse stack.old.items) }
     ensures there { OnOk result (AllBelow (length made.new) (reverse stack.new.items)) }
-    ensures took { OnOk result ((names : List (List ℕ)) (bodies : List Body) → AreConnectives names known
+    ensures took { OnOk result ((names : List (List ℕ)) (bodies : List Body) → AreControlNames names known
         → map term_of bodies ≡ texts_at names made.old (reverse stack.old.items)
         → option_map (λ bs. map term_of bs) (took (λ p. named names (T.term tree.now p)) node bodies)
         ≡ Some (texts_at names made.new (reverse stack.new.items))) }
@@ -95,13 +95,13 @@ fn push_part<T: Tree>(
 pub(crate) fn build_body<T: Tree>(
     alloc: Global,
     tree: &T,
-    known: Connectives,
+    known: ControlNames,
     mut met: Vec<BodyNode<T::At>>,
 ) -> Result<Term, Memory>
     requires places { All (λ p. T.IsPlace tree.now p) (leaves met.items) }
-    requires body { (names : List (List ℕ)) × ((b : Body) × (AreConnectives names known
+    requires body { (names : List (List ℕ)) × ((b : Body) × (AreControlNames names known
         × (read (λ p. named names (T.term tree.now p)) met.items (Some []) ≡ Some (b ∷ [])))) }
-    ensures { IfOk result (λ t. (names : List (List ℕ)) (b : Body) → AreConnectives names known
+    ensures { IfOk result (λ t. (names : List (List ℕ)) (b : Body) → AreControlNames names known
         → read (λ p. named names (T.term tree.now p)) met.items (Some []) ≡ Some (b ∷ []) → named names t ≡ term_of b) }
 {
     let mut made = Builder::new(alloc);

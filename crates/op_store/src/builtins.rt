@@ -1,6 +1,6 @@
 ghost use Rattle.std.specs.Prelude.{◌≡◌};
 ghost use Rattle.op_store.specs.Locked.{builtins as the_builtins, calls, commands as the_commands, is_among as the_among, is_locked};
-ghost use Rattle.op_store.specs.World.{key};
+ghost use Rattle.op_store.specs.World.{name_arity};
 ghost use Rattle.std.specs.Prelude.{bytes_eq};
 ghost use Rattle.std.specs.List.{list_any};
 
@@ -166,7 +166,7 @@ fn is_command(name: &str, arity: u64) -> bool
 
 /// Whether no clause may be for a name with so many arguments.
 pub(crate) fn is_locked_name(locked: Locked, name: &str, arity: u64) -> bool
-    ensures { result ≡ is_locked locked (key name.now arity) }
+    ensures { result ≡ is_locked locked (name_arity name.now arity) }
 {
     match locked {
         Locked::Program => is_builtin(name, arity),

@@ -95,9 +95,9 @@ fn meet<T: Tree>(
         Part::Number => Err(BodyFault::NotCallable),
         Part::Goal => Ok(push_node(BodyNode::Goal(next), met)?),
         Part::Variable => Ok(push_node(BodyNode::CallOf(next), met)?),
-        Part::And => Ok(push_parts(tree, next, BodyNode::And(0, 0), todo, met)?),
-        Part::Or => Ok(push_parts(tree, next, BodyNode::Or(0, 0), todo, met)?),
-        Part::Then => Ok(push_parts(tree, next, BodyNode::Then(0, 0), todo, met)?),
+        Part::Conjunction => Ok(push_parts(tree, next, BodyNode::And(0, 0), todo, met)?),
+        Part::Disjunction => Ok(push_parts(tree, next, BodyNode::Or(0, 0), todo, met)?),
+        Part::IfThen => Ok(push_parts(tree, next, BodyNode::Then(0, 0), todo, met)?),
     }
 }
 

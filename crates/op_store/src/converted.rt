@@ -7,7 +7,7 @@ ghost use Rattle.op_store.specs.Counted.{node_variables};
 
 use crate::body_fault::BodyFault;
 use crate::build_body::build_body;
-use crate::connectives::known_connectives;
+use crate::control_names::known_control_names;
 use crate::{convert, copy};
 use op_base::Memory;
 use op_term::{Fuel, Node, Symbols, Term, Tree};
@@ -27,7 +27,7 @@ pub(crate) fn converted_term<T: Tree>(
     ensures within { IfOk result (λ o. (n : ℕ) → IsWithin n (T.term tree.now at.now) → IfSome o (IsWithin n)) }
     ensures kept { take (length symbols.old) symbols.new ≡ symbols.old }
 {
-    let known = known_connectives(symbols)?;
+    let known = known_control_names(symbols)?;
     let mut fuel = Fuel::new(u64::MAX);
     match convert::nodes_of(alloc, tree, at, symbols, &mut fuel) {
         Ok(met) => Ok(Some(build_body(alloc, tree, known, met)?)),

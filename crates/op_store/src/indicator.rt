@@ -1,7 +1,7 @@
 ghost use Rattle.std.specs.Prelude.{◌≡◌, ◌<◌, ℕ, length, map, All, IfSome, option_map, Ok, Err, if◌then◌else◌};
 ghost use Rattle.op_logic.specs.Names.{HasNames, named};
 ghost use Rattle.op_store.specs.World.{World};
-ghost use Rattle.op_store.specs.Rows.{key_named};
+ghost use Rattle.op_store.specs.Rows.{indicator_named};
 ghost use Rattle.op_store.specs.Fault.{directive};
 ghost use Rattle.op_store.specs.Directives.{indicator, all_indicate as the_indicators};
 
@@ -14,7 +14,7 @@ use op_term::{Symbols, Tree};
 pub(crate) fn indicator_of<T: Tree>(tree: &T, at: &T::At, symbols: &Symbols) -> Option<Pi>
     requires place { T.IsPlace tree.now at.now }
     requires names { HasNames (length symbols.now) (T.term tree.now at.now) }
-    ensures indicator { option_map (key_named symbols.now) result ≡ indicator (named symbols.now (T.term tree.now at.now)) }
+    ensures indicator { option_map (indicator_named symbols.now) result ≡ indicator (named symbols.now (T.term tree.now at.now)) }
     ensures there { IfSome result (λ k. k.name.0 < length symbols.now) }
 {
     let (name, count) = match pair_of(tree, at, symbols, "/") {

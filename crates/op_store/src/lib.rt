@@ -11,7 +11,7 @@ mod builtins;
 mod clause_parts;
 mod command;
 mod command_fault;
-mod connectives;
+mod control_names;
 mod convert;
 mod converted;
 mod copy;

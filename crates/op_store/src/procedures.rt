@@ -1,5 +1,5 @@
 ghost use Rattle.std.specs.Prelude.{◌≡◌, [], ◌∷◌, length, take, Some, None, option_copied, option_map, IfOk, OnOk, OnErr, MatchOption};
-ghost use Rattle.op_store.specs.Rows.{pi_eq, row_in, with_row, extended_row, all_rules, no_rules};
+ghost use Rattle.op_store.specs.Rows.{pi_eq, row_in, with_row, extended_row, all_numbered_clauses, no_numbered_clauses};
 ghost use Rattle.std.specs.List.{IsDistinct};
 ghost use Rattle.std.specs.Map.{keys_of};
 
@@ -82,7 +82,7 @@ impl Procedures {
     /// Makes a procedure that isn't there, dynamic and without clauses.
     pub fn make_dynamic(&mut self, pi: Pi) -> Result<(), Memory>
         requires { row_in self.old pi ≡ None }
-        ensures ok { OnOk result (self.new ≡ with_row self.old pi no_rules) }
+        ensures ok { OnOk result (self.new ≡ with_row self.old pi no_numbered_clauses) }
         ensures err { OnErr result (self.new ≡ self.old) }
     {
         let clauses = Snapshot::new(self.alloc)?;
@@ -114,7 +114,7 @@ impl Procedures {
 
     /// The clauses of all procedures, in time linear in their number.
     pub fn all_clauses(&self) -> Result<Snapshot, Memory>
-        ensures { IfOk result (λ s. s ≡ all_rules self.now) }
+        ensures { IfOk result (λ s. s ≡ all_numbered_clauses self.now) }
     {
         let mut all = Vec::new(self.alloc);
         'rows: for i in 0..self.rows.len() {

@@ -16,9 +16,9 @@ impl Model for Snapshot {
     ghost use Rattle.std.specs.Prelude.{List, map};
     ghost use Rattle.std.specs.Coded.{codes};
     ghost use Rattle.op_logic.specs.Code.{term_code};
-    ghost use Rattle.op_bind.specs.declared.places.Clause.{Clause as Rule};
+    ghost use Rattle.op_bind.specs.declared.places.Clause.{Clause as NumberedClause};
 
-    ghost Value = { List Rule };
+    ghost Value = { List NumberedClause };
 
     ghost coded = { Prim.hlevel (codes, term_code) };
 

@@ -11,11 +11,11 @@ ghost use Rattle.op_store.specs.Clauses.{with_parts};
 ghost use Rattle.op_store.specs.Parts.{body_text, body_variables};
 ghost use Rattle.op_term.specs.Ops.{set_in};
 ghost use Rattle.op_term.specs.declared.ops.OpFault.TheVariants.{Memory as want_of_memory};
-ghost use Rattle.op_store.specs.World.{procedure_in, clauses_of_world, key_of};
+ghost use Rattle.op_store.specs.World.{procedure_in, clauses_of_world, indicator_of_term};
 ghost use Rattle.op_store.specs.Load.{goal_of, command_of, load_text, load_from};
 ghost use Rattle.op_store.specs.Locked.{is_locked as the_locked};
-ghost use Rattle.op_store.specs.Rows.{row_in, key_named, clause_named, pi_of, IsRule};
-ghost use Rattle.op_store.specs.Snapshots.{rules_in};
+ghost use Rattle.op_store.specs.Rows.{row_in, indicator_named, clause_named, pi_of, IsNumberedClause};
+ghost use Rattle.op_store.specs.Snapshots.{snapshot_clauses};
 
 use crate::builtins::is_locked_name;
 use crate::clause_parts::{clause_body, clause_variables, own_term, procedure_of};
@@ -69,7 +69,7 @@ impl Model for Store {
 impl Store {
     ghost use Rattle.op_store.specs.Queries.{TellsGoal, TellsCommand, TellsLoad, IsSoundGoal, IsSoundFault, IsSoundLoadFault};
     ghost use Rattle.op_store.specs.Told.{TellsTerm, with_names};
-    ghost use Rattle.op_store.specs.Stored.{Stored, world_of, first_names, new_store, with_rule, rules_of, is_dynamic_row, IsSound};
+    ghost use Rattle.op_store.specs.Stored.{Stored, world_of, first_names, new_store, with_numbered_clause, numbered_clauses, is_dynamic_row, IsSound};
 
     /// A store without clauses, with the operators of the standard and the names of the control constructs.
     pub fn new(alloc: Global, locked: Locked) -> Result<Store, Memory>
@@ -143,12 +143,12 @@ impl Store {
 
     /// The clauses of a procedure at this moment, or None where there is no such procedure. It takes constant time.
     pub fn snapshot(&self, pi: Pi) -> Result<Option<Snapshot>, Memory>
-        ensures rules { IfOk result (λ o. o ≡ option_map (λ p. p.clauses) (row_in self.now.rows pi)) }
+        ensures clauses { IfOk result (λ o. o ≡ option_map (λ p. p.clauses) (row_in self.now.rows pi)) }
         ensures world { IfOk result (λ o. option_map (map (clause_named self.now.names)) o
-            ≡ option_map (λ p. p.clauses) (procedure_in (world_of self.now).procedures (key_named self.now.names pi))) }
-        ensures sound { IfOk result (λ o. IfSome o (All (λ r. IsRule (length self.now.names) pi r))) }
+            ≡ option_map (λ p. p.clauses) (procedure_in (world_of self.now).procedures (indicator_named self.now.names pi))) }
+        ensures sound { IfOk result (λ o. IfSome o (All (λ r. IsNumberedClause (length self.now.names) pi r))) }
         ensures procedure { IfOk result (λ o. (g : SpecTerm ℕ) → pi_of g ≡ Some pi
-            → procedure (clauses_of_world (world_of self.now)) (named self.now.names g) ≡ map (clause_named self.now.names) (rules_in o)) }
+            → procedure (clauses_of_world (world_of self.now)) (named self.now.names g) ≡ map (clause_named self.now.names) (snapshot_clauses o)) }
     {
         let _names = self.symbols.count();
         let _procedures = self.procedures.len();
@@ -160,7 +160,7 @@ impl Store {
 
     /// All clauses at this moment, procedure by procedure in order of first sight. It takes time linear in their number.
     pub fn all_clauses(&self) -> Result<Snapshot, Memory>
-        ensures rules { IfOk result (λ all. all ≡ rules_of self.now) }
+        ensures clauses { IfOk result (λ all. all ≡ numbered_clauses self.now) }
         ensures world { IfOk result (λ all. map (clause_named self.now.names) all ≡ clauses_of_world (world_of self.now)) }
         ensures sound { IsSound self.now }
     {
@@ -169,14 +169,14 @@ impl Store {
 
     /// Whether there is a procedure, with clauses or without.
     pub fn has_procedure(&self, pi: Pi) -> bool
-        ensures { result ≡ is_some (procedure_in (world_of self.now).procedures (key_named self.now.names pi)) }
+        ensures { result ≡ is_some (procedure_in (world_of self.now).procedures (indicator_named self.now.names pi)) }
     {
         self.procedures.find(pi).is_some()
     }
 
     /// Whether the program may change a procedure.
     pub fn is_dynamic(&self, pi: Pi) -> bool
-        ensures { result ≡ is_dynamic_row (procedure_in (world_of self.now).procedures (key_named self.now.names pi)) }
+        ensures { result ≡ is_dynamic_row (procedure_in (world_of self.now).procedures (indicator_named self.now.names pi)) }
     {
         let _names = self.symbols.count();
         match self.procedures.find(pi) {
@@ -188,7 +188,7 @@ impl Store {
     /// Whether no clause may be for a procedure.
     pub fn is_locked(&self, pi: Pi) -> bool
         requires { pi.name.0 < length self.now.names }
-        ensures { result ≡ the_locked self.now.locked (key_named self.now.names pi) }
+        ensures { result ≡ the_locked self.now.locked (indicator_named self.now.names pi) }
     {
         is_locked_name(self.locked, self.symbols.name_of(pi.name), pi.arity)
     }
@@ -236,8 +236,8 @@ impl Store {
 
     // Adds a clause at the end of its procedure, under the next number.
     pub(crate) fn add(&mut self, pi: Pi, head: Term, body: Term, vars: u64) -> Result<(), Memory>
-        requires { IsRule (length self.old.names) pi (record { id = self.old.next; head = head; body = body; vars = vars }) }
-        ensures ok { OnOk result (self.new ≡ with_rule self.old pi (record { id = self.old.next; head = head; body = body; vars = vars })) }
+        requires { IsNumberedClause (length self.old.names) pi (record { id = self.old.next; head = head; body = body; vars = vars }) }
+        ensures ok { OnOk result (self.new ≡ with_numbered_clause self.old pi (record { id = self.old.next; head = head; body = body; vars = vars })) }
         ensures err { OnErr result (self.new ≡ self.old) }
     {
         let id = self.next;
@@ -300,7 +300,7 @@ impl Store {
     /// Makes a procedure dynamic, which it stays.
     pub(crate) fn make_dynamic(&mut self, pi: Pi) -> Result<(), TermFault>
         requires { pi.name.0 < length self.old.names }
-        ensures tells { TellsTerm self.new result (made_dynamic self.old.locked (world_of self.old) (key_named self.old.names pi)) }
+        ensures tells { TellsTerm self.new result (made_dynamic self.old.locked (world_of self.old) (indicator_named self.old.names pi)) }
         ensures kept { self.new ≡ record self.old { rows = self.new.rows } }
         ensures front { take (length self.old.rows) self.new.rows ≡ self.old.rows }
         ensures err { OnErr result (self.new ≡ self.old) }
@@ -353,7 +353,7 @@ impl Store {
         requires body_names { IfSome body (λ b. HasNames (length self.old.names) (T.term tree.now b)) }
         ensures tells { TellsTerm self.new result
             (with_parts self.old.locked (world_of self.old) (named self.new.names (T.term tree.now head.now))
-            (body_variables (λ p. variable_count (T.term tree.now p)) head.now body) (key_of (named self.new.names (T.term tree.now head.now)))
+            (body_variables (λ p. variable_count (T.term tree.now p)) head.now body) (indicator_of_term (named self.new.names (T.term tree.now head.now)))
             (converted (body_text (λ p. named self.new.names (T.term tree.now p)) body)).body) }
         ensures names { take (length self.old.names) self.new.names ≡ self.old.names }
         ensures locked { self.new.locked ≡ self.old.locked }

@@ -5,9 +5,9 @@ use Rattle.op_logic.specs.Term.{Term, shift}
 use Rattle.op_logic.specs.Bind.{Bindings, Solved as Result, solve}
 use Rattle.op_trace.specs.declared.port.Port.TheVariants as port
 use Rattle.op_trace.specs.declared.barrier.Barrier.{Barrier}
-use Rattle.op_trace.specs.declared.barrier.Barrier.TheVariants.{Within, Past}
+use Rattle.op_trace.specs.declared.barrier.Barrier.TheVariants.{InCondition, AtSuccess}
 use Rattle.op_trace.specs.World.{Text, text_eq, Clause, World, Setup, same_barrier, Item, Goal, Cut, Exit, Shown, procedure}
-use Rattle.op_trace.specs.Visit.{Verdict, Failed, CutTo, Stopped, Spent, Visited, gives, with_turns, and_then, on_failed, reaches, on_condition, cut, with_event, event_of, pays, spends, Control, Succeed, Give_up, Commit, Both, Either, If, Invoke, Visitor, Choice, Redo, Branch, More, Fail, Condition, matched, tries, alternatives, branches, after, boxed, selected, visit_with, visit_by, visit}
+use Rattle.op_trace.specs.Visit.{Verdict, Failed, CutTo, Stopped, Spent, Visited, gives, with_turns, and_then, on_failed, reaches, on_condition, cut, with_event, event_of, pays, spends, Control, TrueGoal, FailGoal, CutGoal, Conjunction, Disjunction, IfThenElse, BoxedGoal, Visitor, Choice, Redo, Branch, More, Fail, Condition, matched, tries, alternatives, branches, after, boxed, selected, visit_with, visit_by, visit}
 use Rattle.op_trace.proofs.Later.{VisitsLater, Later, IsLess, within-less, tries-later, visit_with-later, visit_by-later}
 
 -- two visitors that agree wherever more than n steps were made, and no more than b
@@ -38,7 +38,7 @@ reaches-same false h i k w e = refl
 pub on_condition-same : (n : ℕ) (h i : World → Visited) (r : Verdict) (w : World) → h w ≡ i w → on_condition n h r w ≡ on_condition n i r w
 on_condition-same n h i Failed w e = e
 on_condition-same n h i (CutTo m) w e =
-    reaches-same (same_barrier m (Within n)) h i (reaches (same_barrier m (Past n)) (gives Failed) (gives (CutTo m))) w e
+    reaches-same (same_barrier m (InCondition n)) h i (reaches (same_barrier m (AtSuccess n)) (gives Failed) (gives (CutTo m))) w e
 on_condition-same n h i Stopped w e = refl
 on_condition-same n h i Spent w e = refl
 
@@ -78,7 +78,7 @@ module _ (f g : Visitor) (s : Setup) (n : ℕ) (agree : Agree s.budget n f g) (l
   after-same (Fail k t σ J) r w low high = refl
   after-same (Condition c t m σ J) r w low high = on_condition-same c (branches f s t m σ J) (branches g s t m σ J) r w (branches-same t m σ J w low high)
 
-  -- the walks of the same items, and then the same choice
+  -- the walks of the same items, and then the same choice point
   pub chosen-same : (I : List Item) (c : Choice) (σ : Bindings Text) (w : World) → n < w.steps → w.steps ≤ s.budget
       → and_then (f I σ w) (after f s c) ≡ and_then (g I σ w) (after g s c)
   chosen-same I c σ w low high =
@@ -96,15 +96,15 @@ module _ (f g : Visitor) (s : Setup) (n : ℕ) (agree : Agree s.budget n f g) (l
 
   pub selected-same : (q : Control) (t : Term Text) (m : Barrier) (J : List Item) (σ : Bindings Text) (w : World)
       → n < w.steps → w.steps ≤ s.budget → selected f s q t m J σ w ≡ selected g s q t m J σ w
-  selected-same Succeed t m J σ w low high = agree _ _ _ low high
-  selected-same Give_up t m J σ w low high = refl
-  selected-same Commit t m J σ w low high = ap (λ (x : Visited). and_then x (cut m)) (agree J σ w low high)
-  selected-same (Both a b) t m J σ w low high = agree _ _ _ low high
-  selected-same (Either a b) t m J σ w low high = chosen-same (Goal a m ∷ J) (Branch b m σ J) σ w low high
-  selected-same (If c a b) t m J σ w low high =
-      chosen-same (Goal c (Within (w.conditions + 1)) ∷ Cut (Past (w.conditions + 1)) ∷ Goal a m ∷ J) (Condition (w.conditions + 1) b m σ J) σ
+  selected-same TrueGoal t m J σ w low high = agree _ _ _ low high
+  selected-same FailGoal t m J σ w low high = refl
+  selected-same CutGoal t m J σ w low high = ap (λ (x : Visited). and_then x (cut m)) (agree J σ w low high)
+  selected-same (Conjunction a b) t m J σ w low high = agree _ _ _ low high
+  selected-same (Disjunction a b) t m J σ w low high = chosen-same (Goal a m ∷ J) (Branch b m σ J) σ w low high
+  selected-same (IfThenElse c a b) t m J σ w low high =
+      chosen-same (Goal c (InCondition (w.conditions + 1)) ∷ Cut (AtSuccess (w.conditions + 1)) ∷ Goal a m ∷ J) (Condition (w.conditions + 1) b m σ J) σ
       (record w { conditions = w.conditions + 1 }) low high
-  selected-same Invoke t m J σ w low high = boxed-same t J σ w (omega arith) high
+  selected-same BoxedGoal t m J σ w low high = boxed-same t J σ w (omega arith) high
 
   pub visit_with-same : (I : List Item) (σ : Bindings Text) (w : World) → n ≤ w.steps → w.steps ≤ s.budget → visit_with f s I σ w ≡ visit_with g s I σ w
   unfolding visit_with

@@ -4,9 +4,9 @@ use Rattle.std.proofs.lemmas.Bool.Decides.{nat_tests}
 use Rattle.op_logic.specs.Term.{Term, shift}
 use Rattle.op_logic.specs.Bind.{Bindings, Solved as Result, within, solve}
 use Rattle.op_trace.specs.declared.barrier.Barrier.{Barrier}
-use Rattle.op_trace.specs.declared.barrier.Barrier.TheVariants.{Call, Within, Past}
+use Rattle.op_trace.specs.declared.barrier.Barrier.TheVariants.{Call, InCondition, AtSuccess}
 use Rattle.op_trace.specs.World.{Text, text_eq, Clause, World, Setup, same_barrier, Item, Goal, Cut, Exit, procedure}
-use Rattle.op_trace.specs.Visit.{Verdict, Failed, CutTo, Stopped, Spent, Visited, gives, and_then, on_failed, reaches, on_end, on_condition, cut, with_event, pays, spends, Control, Succeed, Give_up, Commit, Both, Either, If, Invoke, control, Visitor, Choice, Redo, Branch, More, Fail, Condition, matched, tries, alternatives, branches, after, boxed, conditional, selected, visit_with, visit_by, visit}
+use Rattle.op_trace.specs.Visit.{Verdict, Failed, CutTo, Stopped, Spent, Visited, gives, and_then, on_failed, reaches, on_end, on_condition, cut, with_event, pays, spends, Control, TrueGoal, FailGoal, CutGoal, Conjunction, Disjunction, IfThenElse, BoxedGoal, control, Visitor, Choice, Redo, Branch, More, Fail, Condition, matched, tries, alternatives, branches, after, boxed, if_then_else, selected, visit_with, visit_by, visit}
 
 -- a walk from n steps on, with a budget of b
 abbrev pub Later : ℕ → ℕ → Visited → Type 0
@@ -48,8 +48,8 @@ on_end-later b n m h Spent w low high l = (low, high)
 pub on_condition-later : (b n c : ℕ) (h : World → Visited) (r : Verdict) (w : World) → n ≤ w.steps → w.steps ≤ b → Later b n (h w) → Later b n (on_condition c h r w)
 on_condition-later b n c h Failed w low high l = l
 on_condition-later b n c h (CutTo x) w low high l =
-    reaches-later b n (same_barrier x (Within c)) h (reaches (same_barrier x (Past c)) (gives Failed) (gives (CutTo x))) w l
-    (reaches-later b n (same_barrier x (Past c)) (gives Failed) (gives (CutTo x)) w (low, high) (low, high))
+    reaches-later b n (same_barrier x (InCondition c)) h (reaches (same_barrier x (AtSuccess c)) (gives Failed) (gives (CutTo x))) w l
+    (reaches-later b n (same_barrier x (AtSuccess c)) (gives Failed) (gives (CutTo x)) w (low, high) (low, high))
 on_condition-later b n c h Stopped w low high l = (low, high)
 on_condition-later b n c h Spent w low high l = (low, high)
 
@@ -123,26 +123,26 @@ boxed-later visit s g J σ w lv below =
 pub cut-later : (b n : ℕ) (m : Barrier) (v : Visited) → Later b n v → Later b n (and_then v (cut m))
 cut-later b n m v l = and_then-later b n v (cut m) l (λ r u low high. on_failed-later b n (gives (CutTo m)) r u low high (low, high))
 
-pub conditional-later : (visit : Visitor) (s : Setup) (c t e : Term Text) (m : Barrier) (J : List Item) (σ : Bindings Text) (w : World)
-    → VisitsLater s.budget visit → w.steps ≤ s.budget → Later s.budget w.steps (conditional visit s c t e m J σ w)
-conditional-later visit s c t e m J σ w lv below =
+pub if_then_else-later : (visit : Visitor) (s : Setup) (c t e : Term Text) (m : Barrier) (J : List Item) (σ : Bindings Text) (w : World)
+    → VisitsLater s.budget visit → w.steps ≤ s.budget → Later s.budget w.steps (if_then_else visit s c t e m J σ w)
+if_then_else-later visit s c t e m J σ w lv below =
     let n : ℕ = w.conditions + 1 in
     let u : World = record w { conditions = n } in
-    and_then-later s.budget w.steps (visit (Goal c (Within n) ∷ Cut (Past n) ∷ Goal t m ∷ J) σ u) (after visit s (Condition n e m σ J))
-    (lv (Goal c (Within n) ∷ Cut (Past n) ∷ Goal t m ∷ J) σ u below)
+    and_then-later s.budget w.steps (visit (Goal c (InCondition n) ∷ Cut (AtSuccess n) ∷ Goal t m ∷ J) σ u) (after visit s (Condition n e m σ J))
+    (lv (Goal c (InCondition n) ∷ Cut (AtSuccess n) ∷ Goal t m ∷ J) σ u below)
     (λ r u l h. after-later visit s (Condition n e m σ J) w.steps r u lv l h)
 
 pub selected-later : (visit : Visitor) (s : Setup) (q : Control) (t : Term Text) (m : Barrier) (J : List Item) (σ : Bindings Text) (w : World)
     → VisitsLater s.budget visit → w.steps ≤ s.budget → Later s.budget w.steps (selected visit s q t m J σ w)
-selected-later visit s Succeed t m J σ w lv below = lv J σ w below
-selected-later visit s Give_up t m J σ w lv below = (omega arith, below)
-selected-later visit s Commit t m J σ w lv below = cut-later s.budget w.steps m (visit J σ w) (lv J σ w below)
-selected-later visit s (Both a b) t m J σ w lv below = lv _ σ w below
-selected-later visit s (Either a b) t m J σ w lv below =
+selected-later visit s TrueGoal t m J σ w lv below = lv J σ w below
+selected-later visit s FailGoal t m J σ w lv below = (omega arith, below)
+selected-later visit s CutGoal t m J σ w lv below = cut-later s.budget w.steps m (visit J σ w) (lv J σ w below)
+selected-later visit s (Conjunction a b) t m J σ w lv below = lv _ σ w below
+selected-later visit s (Disjunction a b) t m J σ w lv below =
     and_then-later s.budget w.steps (visit (Goal a m ∷ J) σ w) (after visit s (Branch b m σ J)) (lv (Goal a m ∷ J) σ w below)
     (λ r u l h. after-later visit s (Branch b m σ J) w.steps r u lv l h)
-selected-later visit s (If c a b) t m J σ w lv below = conditional-later visit s c a b m J σ w lv below
-selected-later visit s Invoke t m J σ w lv below = boxed-later visit s t J σ w lv below
+selected-later visit s (IfThenElse c a b) t m J σ w lv below = if_then_else-later visit s c a b m J σ w lv below
+selected-later visit s BoxedGoal t m J σ w lv below = boxed-later visit s t J σ w lv below
 
 pub visit_with-later : (visit : Visitor) (s : Setup) → VisitsLater s.budget visit → VisitsLater s.budget (visit_with visit s)
 unfolding visit_with

@@ -4,9 +4,9 @@ use Rattle.std.proofs.lemmas.Bool.Decides.{nat_tests}
 use Rattle.op_logic.specs.Term.{Term, shift}
 use Rattle.op_logic.specs.Bind.{Bindings, unify, Solved as Result}
 use Rattle.op_trace.specs.declared.barrier.Barrier.{Barrier}
-use Rattle.op_trace.specs.declared.barrier.Barrier.TheVariants.{Call, Within, Past}
+use Rattle.op_trace.specs.declared.barrier.Barrier.TheVariants.{Call, InCondition, AtSuccess}
 use Rattle.op_trace.specs.World.{Text, text_eq, Clause, World, Setup, same_barrier, Item, Goal, Cut, Exit, Has, procedure}
-use Rattle.op_trace.specs.Visit.{Verdict, Failed, CutTo, Stopped, Spent, Visited, gives, on_failed, reaches, on_end, on_condition, cut, pays, Control, Succeed, Give_up, Commit, Both, Either, If, Invoke, control, is_true, entered, with_event, shows, Visitor, matched, tries, alternatives, branches, boxed, conditional, selected, visit_with, visit_by, visit}
+use Rattle.op_trace.specs.Visit.{Verdict, Failed, CutTo, Stopped, Spent, Visited, gives, on_failed, reaches, on_end, on_condition, cut, pays, Control, TrueGoal, FailGoal, CutGoal, Conjunction, Disjunction, IfThenElse, BoxedGoal, control, is_true, entered, with_event, shows, Visitor, matched, tries, alternatives, branches, boxed, if_then_else, selected, visit_with, visit_by, visit}
 use Rattle.op_trace.specs.declared.port.Port.TheVariants as port
 
 abbrev pub Only : List Item → Verdict → Type 0
@@ -26,8 +26,8 @@ only-of I J Spent h o = tt
 
 pub same-refl : (b : Barrier) → same_barrier b b ≡ true
 same-refl (Call n) = grind (arith, nat_tests)
-same-refl (Within n) = grind (arith, nat_tests)
-same-refl (Past n) = grind (arith, nat_tests)
+same-refl (InCondition n) = grind (arith, nat_tests)
+same-refl (AtSuccess n) = grind (arith, nat_tests)
 
 pub other : {A : Type 0} (x b : Barrier) → same_barrier x b ≡ false → (x ≡ b) ⊎ A → A
 other {A} x b e h = elim h [ inl s ↦ differ s | inr a ↦ a ]
@@ -67,15 +67,15 @@ on_end-only k h J Spent w o i = tt
 
 -- a condition ends the cuts to its own marks
 pub on_condition-only : (n : ℕ) (m : Barrier) (h : World → Visited) (J : List Item) (r : Verdict) (w : World)
-    → Only (Cut (Within n) ∷ Cut (Past n) ∷ Cut m ∷ J) r → ((u : World) → Only (Cut m ∷ J) (h u).verdict) → Only (Cut m ∷ J) (on_condition n h r w).verdict
+    → Only (Cut (InCondition n) ∷ Cut (AtSuccess n) ∷ Cut m ∷ J) r → ((u : World) → Only (Cut m ∷ J) (h u).verdict) → Only (Cut m ∷ J) (on_condition n h r w).verdict
 on_condition-only n m h J Failed w o i = i w
-on_condition-only n m h J (CutTo x) w o i = go (same_barrier x (Within n)) (same_barrier x (Past n)) refl refl
+on_condition-only n m h J (CutTo x) w o i = go (same_barrier x (InCondition n)) (same_barrier x (AtSuccess n)) refl refl
   where
-    go : (a b : Bool) → same_barrier x (Within n) ≡ a → same_barrier x (Past n) ≡ b
+    go : (a b : Bool) → same_barrier x (InCondition n) ≡ a → same_barrier x (AtSuccess n) ≡ b
         → Only (Cut m ∷ J) (reaches a h (reaches b (gives Failed) (gives (CutTo x))) w).verdict
     go true b d e = i w
     go false true d e = tt
-    go false false d e = other x (Past n) e (other x (Within n) d o)
+    go false false d e = other x (AtSuccess n) e (other x (InCondition n) d o)
 on_condition-only n m h J Stopped w o i = tt
 on_condition-only n m h J Spent w o i = tt
 
@@ -118,25 +118,25 @@ module _ (visit : Visitor) (s : Setup) (only : VisitsOnly visit) where
       on_end-only k (λ u. shows port.Fail k g σ J u (gives Failed)) J v.verdict v.world
       (alternatives-only (procedure w.clauses g) k g σ J Failed (with_event (record w { calls = k })) tt) (λ u. tt)
 
-  pub conditional-only : (c t e : Term Text) (m : Barrier) (J : List Item) (σ : Bindings Text) (w : World) → Only (Cut m ∷ J) (conditional visit s c t e m J σ w).verdict
-  conditional-only c t e m J σ w =
+  pub if_then_else-only : (c t e : Term Text) (m : Barrier) (J : List Item) (σ : Bindings Text) (w : World) → Only (Cut m ∷ J) (if_then_else visit s c t e m J σ w).verdict
+  if_then_else-only c t e m J σ w =
       let n : ℕ = w.conditions + 1 in
-      let v : Visited = visit (Goal c (Within n) ∷ Cut (Past n) ∷ Goal t m ∷ J) σ (record w { conditions = n }) in
+      let v : Visited = visit (Goal c (InCondition n) ∷ Cut (AtSuccess n) ∷ Goal t m ∷ J) σ (record w { conditions = n }) in
       on_condition-only n m (branches visit s e m σ J) J v.verdict v.world
-      (only (Goal c (Within n) ∷ Cut (Past n) ∷ Goal t m ∷ J) σ (record w { conditions = n })) (branches-only e m σ J)
+      (only (Goal c (InCondition n) ∷ Cut (AtSuccess n) ∷ Goal t m ∷ J) σ (record w { conditions = n })) (branches-only e m σ J)
 
   pub selected-only : (q : Control) (t : Term Text) (m : Barrier) (J : List Item) (σ : Bindings Text) (w : World) → Only (Cut m ∷ J) (selected visit s q t m J σ w).verdict
-  selected-only Succeed t m J σ w = only-of J (Cut m ∷ J) (visit J σ w).verdict (λ n h. inr h) (only J σ w)
-  selected-only Give_up t m J σ w = tt
-  selected-only Commit t m J σ w = cut-only m J (visit J σ w).verdict (visit J σ w).world (only J σ w)
-  selected-only (Both a b) t m J σ w =
+  selected-only TrueGoal t m J σ w = only-of J (Cut m ∷ J) (visit J σ w).verdict (λ n h. inr h) (only J σ w)
+  selected-only FailGoal t m J σ w = tt
+  selected-only CutGoal t m J σ w = cut-only m J (visit J σ w).verdict (visit J σ w).world (only J σ w)
+  selected-only (Conjunction a b) t m J σ w =
       only-of (Goal a m ∷ Goal b m ∷ J) (Cut m ∷ J) (visit (Goal a m ∷ Goal b m ∷ J) σ w).verdict
       (λ n h. elim h [ inl e ↦ inl e | inr k ↦ k ]) (only (Goal a m ∷ Goal b m ∷ J) σ w)
-  selected-only (Either a b) t m J σ w =
+  selected-only (Disjunction a b) t m J σ w =
       on_failed-only (branches visit s b m σ J) (visit (Goal a m ∷ J) σ w).verdict (visit (Goal a m ∷ J) σ w).world (Cut m ∷ J)
       (only (Goal a m ∷ J) σ w) (branches-only b m σ J)
-  selected-only (If c a b) t m J σ w = conditional-only c a b m J σ w
-  selected-only Invoke t m J σ w = only-of J (Cut m ∷ J) (boxed visit s t J σ w).verdict (λ n h. inr h) (boxed-only t J σ w)
+  selected-only (IfThenElse c a b) t m J σ w = if_then_else-only c a b m J σ w
+  selected-only BoxedGoal t m J σ w = only-of J (Cut m ∷ J) (boxed visit s t J σ w).verdict (λ n h. inr h) (boxed-only t J σ w)
 
   pub visit_with-only : VisitsOnly (visit_with visit s)
   unfolding visit_with

@@ -11,14 +11,14 @@ use Rattle.op_trace.specs.Run.{run, events_of}
 abbrev name : Text → Term Text
 name f = atom f
 
-abbrev both : Term Text → Term Text → Term Text
-both a b = node (codes ",") (arg a (arg b no_args))
+abbrev conjunction : Term Text → Term Text → Term Text
+conjunction a b = node (codes ",") (arg a (arg b no_args))
 
-abbrev either : Term Text → Term Text → Term Text
-either a b = node (codes ";") (arg a (arg b no_args))
+abbrev disjunction : Term Text → Term Text → Term Text
+disjunction a b = node (codes ";") (arg a (arg b no_args))
 
-abbrev then : Term Text → Term Text → Term Text
-then a b = node (codes "->") (arg a (arg b no_args))
+abbrev if_then : Term Text → Term Text → Term Text
+if_then a b = node (codes "->") (arg a (arg b no_args))
 
 abbrev clause : ℕ → Text → Term Text → Clause
 clause i f b = record { id = i; head = name f; body = b; variables = 0 }
@@ -34,7 +34,7 @@ all = record { budget = 100; wanted = 0 }
 
 -- a :- b, c. b. c.
 abbrev first_program : World
-first_program = loaded (clause 0 (codes "a") (both (name (codes "b")) (name (codes "c"))) ∷ clause 1 (codes "b") (name (codes "true")) ∷ clause 2 (codes "c") (name (codes "true")) ∷ [])
+first_program = loaded (clause 0 (codes "a") (conjunction (name (codes "b")) (name (codes "c"))) ∷ clause 1 (codes "b") (name (codes "true")) ∷ clause 2 (codes "c") (name (codes "true")) ∷ [])
 
 pub first_events : events_of (run setup (name (codes "a")) 0 first_program).turns
     ≡ event 1 1 0 1 port.Call (codes "a") ∷ event 2 2 1 2 port.Call (codes "b") ∷ event 3 2 1 2 port.Exit (codes "b")
@@ -52,7 +52,7 @@ first_steps = refl
 
 -- p :- q, r. q. q. r :- fail.
 abbrev second_program : World
-second_program = loaded (clause 0 (codes "p") (both (name (codes "q")) (name (codes "r"))) ∷ clause 1 (codes "q") (name (codes "true"))
+second_program = loaded (clause 0 (codes "p") (conjunction (name (codes "q")) (name (codes "r"))) ∷ clause 1 (codes "q") (name (codes "true"))
     ∷ clause 2 (codes "q") (name (codes "true")) ∷ clause 3 (codes "r") (name (codes "fail")) ∷ [])
 
 pub second_events : events_of (run setup (name (codes "p")) 0 second_program).turns
@@ -69,7 +69,7 @@ second_ending = refl
 
 -- p :- q, !, r. p. q. q. r :- fail. The cut removes the second q and the second p.
 abbrev cut_program : World
-cut_program = loaded (clause 0 (codes "p") (both (name (codes "q")) (both (name (codes "!")) (name (codes "r")))) ∷ clause 1 (codes "p") (name (codes "true")) ∷ clause 2 (codes "q") (name (codes "true")) ∷ clause 3 (codes "q") (name (codes "true")) ∷ clause 4 (codes "r") (name (codes "fail")) ∷ [])
+cut_program = loaded (clause 0 (codes "p") (conjunction (name (codes "q")) (conjunction (name (codes "!")) (name (codes "r")))) ∷ clause 1 (codes "p") (name (codes "true")) ∷ clause 2 (codes "q") (name (codes "true")) ∷ clause 3 (codes "q") (name (codes "true")) ∷ clause 4 (codes "r") (name (codes "fail")) ∷ [])
 
 pub cut_events : events_of (run setup (name (codes "p")) 0 cut_program).turns
     ≡ event 1 1 0 1 port.Call (codes "p") ∷ event 2 2 1 2 port.Call (codes "q") ∷ event 3 2 1 2 port.Exit (codes "q") ∷ event 4 3 1 2 port.Call (codes "r") ∷ event 5 3 1 2 port.Fail (codes "r") ∷ event 6 1 0 1 port.Fail (codes "p") ∷ []
@@ -86,7 +86,7 @@ cut_steps = refl
 
 -- p :- ( q, ! -> r ; s ). p. q. r. s. The cut is local to the condition.
 abbrev condition_program : World
-condition_program = loaded (clause 0 (codes "p") (either (then (both (name (codes "q")) (name (codes "!"))) (name (codes "r"))) (name (codes "s"))) ∷ clause 1 (codes "p") (name (codes "true")) ∷ clause 2 (codes "q") (name (codes "true")) ∷ clause 3 (codes "r") (name (codes "true")) ∷ clause 4 (codes "s") (name (codes "true")) ∷ [])
+condition_program = loaded (clause 0 (codes "p") (disjunction (if_then (conjunction (name (codes "q")) (name (codes "!"))) (name (codes "r"))) (name (codes "s"))) ∷ clause 1 (codes "p") (name (codes "true")) ∷ clause 2 (codes "q") (name (codes "true")) ∷ clause 3 (codes "r") (name (codes "true")) ∷ clause 4 (codes "s") (name (codes "true")) ∷ [])
 
 pub condition_events : events_of (run all (name (codes "p")) 0 condition_program).turns
     ≡ event 1 1 0 1 port.Call (codes "p") ∷ event 2 2 1 2 port.Call (codes "q") ∷ event 3 2 1 2 port.Exit (codes "q") ∷ event 4 3 1 2 port.Call (codes "r") ∷ event 5 3 1 2 port.Exit (codes "r") ∷ event 6 1 0 1 port.Exit (codes "p") ∷ event 7 1 0 1 port.Redo (codes "p") ∷ event 8 3 1 2 port.Redo (codes "r") ∷ event 9 3 1 2 port.Fail (codes "r") ∷ event 10 1 0 1 port.Exit (codes "p") ∷ event 11 1 0 1 port.Redo (codes "p") ∷ event 12 1 0 1 port.Fail (codes "p") ∷ []
@@ -103,7 +103,7 @@ condition_steps = refl
 
 -- p :- ( q, !, fail -> r ; s ). q. q. s. The cut leaves the condition no solution, and the else branch is tried.
 abbrev else_program : World
-else_program = loaded (clause 0 (codes "p") (either (then (both (name (codes "q")) (both (name (codes "!")) (name (codes "fail")))) (name (codes "r"))) (name (codes "s"))) ∷ clause 1 (codes "q") (name (codes "true")) ∷ clause 2 (codes "q") (name (codes "true")) ∷ clause 3 (codes "s") (name (codes "true")) ∷ [])
+else_program = loaded (clause 0 (codes "p") (disjunction (if_then (conjunction (name (codes "q")) (conjunction (name (codes "!")) (name (codes "fail")))) (name (codes "r"))) (name (codes "s"))) ∷ clause 1 (codes "q") (name (codes "true")) ∷ clause 2 (codes "q") (name (codes "true")) ∷ clause 3 (codes "s") (name (codes "true")) ∷ [])
 
 pub else_events : events_of (run setup (name (codes "p")) 0 else_program).turns
     ≡ event 1 1 0 1 port.Call (codes "p") ∷ event 2 2 1 2 port.Call (codes "q") ∷ event 3 2 1 2 port.Exit (codes "q") ∷ event 4 3 1 2 port.Call (codes "s") ∷ event 5 3 1 2 port.Exit (codes "s") ∷ event 6 1 0 1 port.Exit (codes "p") ∷ []
@@ -120,7 +120,7 @@ else_steps = refl
 
 -- p :- ( q ; r ). q :- fail. r.
 abbrev branch_program : World
-branch_program = loaded (clause 0 (codes "p") (either (name (codes "q")) (name (codes "r"))) ∷ clause 1 (codes "q") (name (codes "fail")) ∷ clause 2 (codes "r") (name (codes "true")) ∷ [])
+branch_program = loaded (clause 0 (codes "p") (disjunction (name (codes "q")) (name (codes "r"))) ∷ clause 1 (codes "q") (name (codes "fail")) ∷ clause 2 (codes "r") (name (codes "true")) ∷ [])
 
 pub branch_events : events_of (run setup (name (codes "p")) 0 branch_program).turns
     ≡ event 1 1 0 1 port.Call (codes "p") ∷ event 2 2 1 2 port.Call (codes "q") ∷ event 3 2 1 2 port.Fail (codes "q") ∷ event 4 3 1 2 port.Call (codes "r") ∷ event 5 3 1 2 port.Exit (codes "r") ∷ event 6 1 0 1 port.Exit (codes "p") ∷ []
@@ -137,7 +137,7 @@ branch_steps = refl
 
 -- p :- ( q -> r ). q :- fail.
 abbrev bare_program : World
-bare_program = loaded (clause 0 (codes "p") (then (name (codes "q")) (name (codes "r"))) ∷ clause 1 (codes "q") (name (codes "fail")) ∷ [])
+bare_program = loaded (clause 0 (codes "p") (if_then (name (codes "q")) (name (codes "r"))) ∷ clause 1 (codes "q") (name (codes "fail")) ∷ [])
 
 pub bare_events : events_of (run setup (name (codes "p")) 0 bare_program).turns
     ≡ event 1 1 0 1 port.Call (codes "p") ∷ event 2 2 1 2 port.Call (codes "q") ∷ event 3 2 1 2 port.Fail (codes "q") ∷ event 4 1 0 1 port.Fail (codes "p") ∷ []
@@ -154,7 +154,7 @@ bare_steps = refl
 
 -- p :- ( fail ; !, r ). p. r :- fail. The cut in a branch is one of the clause.
 abbrev transparent_program : World
-transparent_program = loaded (clause 0 (codes "p") (either (name (codes "fail")) (both (name (codes "!")) (name (codes "r")))) ∷ clause 1 (codes "p") (name (codes "true")) ∷ clause 2 (codes "r") (name (codes "fail")) ∷ [])
+transparent_program = loaded (clause 0 (codes "p") (disjunction (name (codes "fail")) (conjunction (name (codes "!")) (name (codes "r")))) ∷ clause 1 (codes "p") (name (codes "true")) ∷ clause 2 (codes "r") (name (codes "fail")) ∷ [])
 
 pub transparent_events : events_of (run setup (name (codes "p")) 0 transparent_program).turns
     ≡ event 1 1 0 1 port.Call (codes "p") ∷ event 2 2 1 2 port.Call (codes "r") ∷ event 3 2 1 2 port.Fail (codes "r") ∷ event 4 1 0 1 port.Fail (codes "p") ∷ []
@@ -173,16 +173,16 @@ transparent_steps = refl
 abbrev top_program : World
 top_program = loaded (clause 0 (codes "q") (name (codes "true")) ∷ clause 1 (codes "q") (name (codes "true")) ∷ [])
 
-pub top_events : events_of (run all (both (name (codes "q")) (name (codes "!"))) 0 top_program).turns
+pub top_events : events_of (run all (conjunction (name (codes "q")) (name (codes "!"))) 0 top_program).turns
     ≡ event 1 1 0 1 port.Call (codes "q") ∷ event 2 1 0 1 port.Exit (codes "q") ∷ []
 unfolding visit visit_by visit_with
 top_events = refl
 
-pub top_ending : (run all (both (name (codes "q")) (name (codes "!"))) 0 top_program).ending ≡ Failed
+pub top_ending : (run all (conjunction (name (codes "q")) (name (codes "!"))) 0 top_program).ending ≡ Failed
 unfolding visit visit_by visit_with
 top_ending = refl
 
-pub top_steps : (run all (both (name (codes "q")) (name (codes "!"))) 0 top_program).world.steps ≡ 5
+pub top_steps : (run all (conjunction (name (codes "q")) (name (codes "!"))) 0 top_program).world.steps ≡ 5
 unfolding visit visit_by visit_with
 top_steps = refl
 
@@ -213,7 +213,7 @@ two f a b = node f (arg a (arg b no_args))
 abbrev edges : World
 edges = loaded (record { id = 0; head = two (codes "e") (name (codes "a")) (name (codes "b")); body = name (codes "true"); variables = 0 }
     ∷ record { id = 1; head = two (codes "e") (name (codes "b")) (name (codes "c")); body = name (codes "true"); variables = 0 }
-    ∷ record { id = 2; head = two (codes "p") (var 0) (var 1); body = both (two (codes "e") (var 0) (var 2)) (two (codes "e") (var 2) (var 1)); variables = 3 } ∷ [])
+    ∷ record { id = 2; head = two (codes "p") (var 0) (var 1); body = conjunction (two (codes "e") (var 0) (var 2)) (two (codes "e") (var 2) (var 1)); variables = 3 } ∷ [])
 
 abbrev shown : ℕ → ℕ → ℕ → ℕ → Port → Term Text → Event
 shown n k p d q g = record { chrono = n; call = k; parent = p; depth = d; port = q; goal = g }

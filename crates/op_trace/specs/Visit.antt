@@ -7,7 +7,7 @@ use Rattle.op_logic.specs.Bind.{Bindings, apply, unify, Solved as Result}
 use Rattle.op_trace.specs.declared.port.Port.{Port}
 use Rattle.op_trace.specs.declared.port.Port.TheVariants as port
 use Rattle.op_trace.specs.declared.barrier.Barrier.{Barrier}
-use Rattle.op_trace.specs.declared.barrier.Barrier.TheVariants.{Call, Within, Past}
+use Rattle.op_trace.specs.declared.barrier.Barrier.TheVariants.{Call, InCondition, AtSuccess}
 use Rattle.op_trace.specs.World.{Text, text_eq, Clause, World, Setup, same_barrier, Item, Goal, Cut, Exit, open_boxes, head_number, Event, Turn, Shown, Solved, procedure}
 
 -- how a walk ends: no solution is left; none is left, and a cut drops all alternatives up to a barrier; the wanted solution was found; or one
@@ -82,38 +82,38 @@ spends s n w h = pays (nat_le (w.steps + n) s.budget) s n w h
 
 -- what kind of goal a converted term is (7.6.2): one of the control constructs that have no box, by this project's own list, or a goal with a box
 pub data Control : Type 0 where
-  Succeed : Control
-  Give_up : Control
-  Commit : Control
-  Both : Term Text → Term Text → Control
-  Either : Term Text → Term Text → Control
-  If : Term Text → Term Text → Term Text → Control
-  Invoke : Control
+  TrueGoal : Control
+  FailGoal : Control
+  CutGoal : Control
+  Conjunction : Term Text → Term Text → Control
+  Disjunction : Term Text → Term Text → Control
+  IfThenElse : Term Text → Term Text → Term Text → Control
+  BoxedGoal : Control
 
 abbrev pub control_of_atom : Text → Control
 control_of_atom f =
-    if text_eq f (codes "true") then Succeed else
-    if text_eq f (codes "fail") then Give_up else
-    if text_eq f (codes "false") then Give_up else
-    if text_eq f (codes "!") then Commit else
-    Invoke
+    if text_eq f (codes "true") then TrueGoal else
+    if text_eq f (codes "fail") then FailGoal else
+    if text_eq f (codes "false") then FailGoal else
+    if text_eq f (codes "!") then CutGoal else
+    BoxedGoal
 
--- a disjunction, whose first part may be a condition with what follows its success
-abbrev pub disjunction : Term Text → Term Text → Control
-disjunction (node f (arg c (arg t no_args))) b = if text_eq f (codes "->") then If c t b else Either (node f (arg c (arg t no_args))) b
-disjunction a b = Either a b
+-- a disjunction, or an if-then-else where its first part is an if-then
+abbrev pub control_of_disjunction : Term Text → Term Text → Control
+control_of_disjunction (node f (arg c (arg t no_args))) b = if text_eq f (codes "->") then IfThenElse c t b else Disjunction (node f (arg c (arg t no_args))) b
+control_of_disjunction a b = Disjunction a b
 
 abbrev pub control_of_pair : Text → Term Text → Term Text → Control
 control_of_pair f a b =
-    if text_eq f (codes ",") then Both a b else
-    if text_eq f (codes ";") then disjunction a b else
-    if text_eq f (codes "->") then If a b (atom (codes "fail")) else
-    Invoke
+    if text_eq f (codes ",") then Conjunction a b else
+    if text_eq f (codes ";") then control_of_disjunction a b else
+    if text_eq f (codes "->") then IfThenElse a b (atom (codes "fail")) else
+    BoxedGoal
 
 abbrev pub control : Term Text → Control
 control (node f no_args) = control_of_atom f
 control (node f (arg a (arg b no_args))) = control_of_pair f a b
-control _ = Invoke
+control _ = BoxedGoal
 
 abbrev pub is_true : Term Text → Bool
 is_true (node f no_args) = text_eq f (codes "true")
@@ -162,11 +162,11 @@ branches visit s t m σ J w = spends s 1 w (visit (Goal t m ∷ J) σ)
 -- a condition that has no solution is followed by the else branch, also where a cut inside it left none; the cut that its success made ends here
 abbrev pub on_condition : ℕ → (World → Visited) → Verdict → World → Visited
 on_condition n h Failed w = h w
-on_condition n h (CutTo m) w = reaches (same_barrier m (Within n)) h (reaches (same_barrier m (Past n)) (gives Failed) (gives (CutTo m))) w
+on_condition n h (CutTo m) w = reaches (same_barrier m (InCondition n)) h (reaches (same_barrier m (AtSuccess n)) (gives Failed) (gives (CutTo m))) w
 on_condition n h Stopped w = gives Stopped w
 on_condition n h Spent w = gives Spent w
 
--- what each kind of choice does after a result
+-- what each kind of choice point does after a result
 abbrev pub after : Visitor → Setup → Choice → Verdict → World → Visited
 after visit s (Redo k g σ J) r w = on_failed (λ u. shows port.Redo k g σ J u (gives Failed)) r w
 after visit s (Branch t m σ J) r w = on_failed (branches visit s t m σ J) r w
@@ -182,19 +182,19 @@ boxed visit s g J σ w =
     and_then (alternatives visit s (procedure u.clauses g) k g σ J Failed u) (after visit s (Fail k g σ J)))
 
 -- the condition, the cut of its success and what follows it; on failure the else branch
-abbrev pub conditional : Visitor → Setup → Term Text → Term Text → Term Text → Barrier → List Item → Bindings Text → World → Visited
-conditional visit s c t e m J σ w =
+abbrev pub if_then_else : Visitor → Setup → Term Text → Term Text → Term Text → Barrier → List Item → Bindings Text → World → Visited
+if_then_else visit s c t e m J σ w =
     let n : ℕ = w.conditions + 1 in
-    and_then (visit (Goal c (Within n) ∷ Cut (Past n) ∷ Goal t m ∷ J) σ (record w { conditions = n })) (after visit s (Condition n e m σ J))
+    and_then (visit (Goal c (InCondition n) ∷ Cut (AtSuccess n) ∷ Goal t m ∷ J) σ (record w { conditions = n })) (after visit s (Condition n e m σ J))
 
 abbrev pub selected : Visitor → Setup → Control → Term Text → Barrier → List Item → Bindings Text → World → Visited
-selected visit s Succeed t m J σ w = visit J σ w
-selected visit s Give_up t m J σ w = gives Failed w
-selected visit s Commit t m J σ w = and_then (visit J σ w) (cut m)
-selected visit s (Both a b) t m J σ w = visit (Goal a m ∷ Goal b m ∷ J) σ w
-selected visit s (Either a b) t m J σ w = and_then (visit (Goal a m ∷ J) σ w) (after visit s (Branch b m σ J))
-selected visit s (If c a b) t m J σ w = conditional visit s c a b m J σ w
-selected visit s Invoke t m J σ w = boxed visit s t J σ w
+selected visit s TrueGoal t m J σ w = visit J σ w
+selected visit s FailGoal t m J σ w = gives Failed w
+selected visit s CutGoal t m J σ w = and_then (visit J σ w) (cut m)
+selected visit s (Conjunction a b) t m J σ w = visit (Goal a m ∷ Goal b m ∷ J) σ w
+selected visit s (Disjunction a b) t m J σ w = and_then (visit (Goal a m ∷ J) σ w) (after visit s (Branch b m σ J))
+selected visit s (IfThenElse c a b) t m J σ w = if_then_else visit s c a b m J σ w
+selected visit s BoxedGoal t m J σ w = boxed visit s t J σ w
 
 -- a solution, which ends the walk if it is the wanted one
 abbrev pub solved : Setup → Bindings Text → World → Visited

@@ -4,7 +4,7 @@ use Rattle.op_logic.specs.Term.{Term, node, arity}
 use Rattle.op_logic.specs.Bind.{Bindings}
 use Rattle.op_trace.specs.declared.port.Port.{Port}
 use Rattle.op_trace.specs.declared.barrier.Barrier.{Barrier}
-use Rattle.op_trace.specs.declared.barrier.Barrier.TheVariants.{Call, Within, Past}
+use Rattle.op_trace.specs.declared.barrier.Barrier.TheVariants.{Call, InCondition, AtSuccess}
 
 abbrev pub Text : Type 0
 Text = List ℕ
@@ -47,8 +47,8 @@ pub record Setup : Type 0 where
 
 abbrev pub same_barrier : Barrier → Barrier → Bool
 same_barrier (Call a) (Call b) = a == b
-same_barrier (Within a) (Within b) = a == b
-same_barrier (Past a) (Past b) = a == b
+same_barrier (InCondition a) (InCondition b) = a == b
+same_barrier (AtSuccess a) (AtSuccess b) = a == b
 same_barrier _ _ = false
 
 -- what is still to be done: a goal, the cut of a condition that has succeeded, or the exit of a box that was called with a goal

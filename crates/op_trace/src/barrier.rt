@@ -7,9 +7,9 @@ pub enum Barrier {
     /// The call of the box with this number.
     Call(u64),
     /// The beginning of the condition with this number, for a cut inside it.
-    Within(u64),
+    InCondition(u64),
     /// The time before the condition with this number, for the cut that its success makes (7.8.8).
-    Past(u64),
+    AtSuccess(u64),
 }
 
 impl Barrier {
@@ -19,8 +19,8 @@ impl Barrier {
     {
         match (self, other) {
             (Barrier::Call(a), Barrier::Call(b)) => a == b,
-            (Barrier::Within(a), Barrier::Within(b)) => a == b,
-            (Barrier::Past(a), Barrier::Past(b)) => a == b,
+            (Barrier::InCondition(a), Barrier::InCondition(b)) => a == b,
+            (Barrier::AtSuccess(a), Barrier::AtSuccess(b)) => a == b,
             _ => false,
         }
     }

@@ -1,7 +1,7 @@
 use Rattle.std.proofs.Common.{◌≡◌, Bool, sym, ap, ◌∙◌, subst, All, IfOk, length}
 use Rattle.std.specs.List.{list_all}
 use Rattle.op_logic.specs.Names.{HasNames, named}
-use Rattle.op_bind.specs.declared.places.Clause.{Clause as Rule}
+use Rattle.op_bind.specs.declared.places.Clause.{Clause as NumberedClause}
 use Rattle.op_trace.specs.World.{Clause}
 use Rattle.op_store.specs.Stored.{world_of}
 use Rattle.op_store.specs.Rows.{clause_named}
@@ -12,12 +12,12 @@ use Rattle.op_session.proofs.runnable.are_runnable.Goals as goal
 pub are_runnable_clauses-requires : goal.are_runnable_clauses-requires
 are_runnable_clauses-requires c =
     let s = c.args.store.now in
-    subst (All (λ (r : Rule). HasNames (length s.names) r.body)) (sym c.in_ok-clauses.ensures.rules) (rows-bodies (length s.names) s.rows c.in_ok-clauses.ensures.sound.rows)
+    subst (All (λ (r : NumberedClause). HasNames (length s.names) r.body)) (sym c.in_ok-clauses.ensures.clauses) (rows-bodies (length s.names) s.rows c.in_ok-clauses.ensures.sound.rows)
 
 pub returns : goal.returns
 returns c =
     let s = c.args.store.now in
-    let e : list_all (λ (r : Rule). is_runnable (world_of s) (named s.names r.body)) c.in_ok-clauses.clauses ≡ are_runnable (world_of s) =
+    let e : list_all (λ (r : NumberedClause). is_runnable (world_of s) (named s.names r.body)) c.in_ok-clauses.clauses ≡ are_runnable (world_of s) =
     sym (list_all-map (λ (k : Clause). is_runnable (world_of s) k.body) (clause_named s.names) c.in_ok-clauses.clauses)
     ∙ ap (list_all (λ (k : Clause). is_runnable (world_of s) k.body)) c.in_ok-clauses.ensures.world in
     subst (λ (x : Bool). IfOk c.are_runnable_clauses.result (λ b. b ≡ x)) e c.are_runnable_clauses.ensures

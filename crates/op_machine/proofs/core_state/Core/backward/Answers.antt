@@ -32,6 +32,6 @@ resume-requires-clause-calls c =
 pub resume-requires-clause-tried : goal.resume-requires-clause-tried
 resume-requires-clause-tried c =
     let f = c.in-Some.choice in
-    let P : Core → Type 0 = λ x. IsTried x.frames.boxes x.lists f.kind f.kept f.rest in
+    let P : Core → Type 0 = λ x. IsTried x.frames.boxes x.continuations f.kind f.kept f.rest in
     subst P (sym c.restore.ensures.back)
     (popped-tried c.args.self.now c.pop.new.self f c.requires.good c.in-Some.ensures.frames c.in-Some.ensures.rest c.in-Some.ensures.boxes c.restore.ensures.stays).1

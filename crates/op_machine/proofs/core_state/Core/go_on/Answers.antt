@@ -1,10 +1,10 @@
 use Rattle.std.proofs.Common.{List, length, Option, subst}
-use Rattle.op_bind.specs.declared.places.Clause.{Clause as Rule}
-use Rattle.op_store.specs.Snapshots.{rules_in}
+use Rattle.op_bind.specs.declared.places.Clause.{Clause as NumberedClause}
+use Rattle.op_store.specs.Snapshots.{snapshot_clauses}
 use Rattle.op_machine.specs.Program.{AreKnown}
 use Rattle.op_machine.proofs.core_state.Core.go_on.Goals as goal
 
 pub retry-requires-clause-known : goal.retry-requires-clause-known
 retry-requires-clause-known c =
-    let P : Option (List Rule) → Type 0 = λ o. AreKnown (length c.args.self.now.store.names) (rules_in o) in
+    let P : Option (List NumberedClause) → Type 0 = λ o. AreKnown (length c.args.self.now.store.names) (snapshot_clauses o) in
     subst P c.in-Some.is c.requires.known

@@ -34,27 +34,27 @@ pub enter-requires-clause-good : goal.enter-requires-clause-good
 enter-requires-clause-good c =
     let old : Core = c.args.self.now in
     let s : State = c.rename.new.self in
-    let m = matched old c.args.rule.now c.args.goal c.new-fuel.result c.rename.new.fuel s c.new-fuel.ensures (of-some c.in-Ok-Some.field-0 c.in-Ok-Some.body (λ _. with_variables c.args.rule.now.vars (unified c.new-fuel.result old.bindings (term_at old.bindings.terms c.args.goal) (shift old.bindings.count c.args.rule.now.head)) ≡ Some (found (bindings s) c.rename.new.fuel)) c.in-Ok-Some.field-0-is c.in-Ok-Some.ensures.yes) in
-    bound-good old s (old.budget - c.left.result) c.requires.good c.in-Ok-Some.ensures.grows (bound-names old c.args.rule.now c.args.goal _ s c.requires.good c.requires.goal c.requires.known m)
+    let m = matched old c.args.clause.now c.args.goal c.new-fuel.result c.rename.new.fuel s c.new-fuel.ensures (of-some c.in-Ok-Some.field-0 c.in-Ok-Some.body (λ _. with_variables c.args.clause.now.vars (unified c.new-fuel.result old.bindings (term_at old.bindings.terms c.args.goal) (shift old.bindings.count c.args.clause.now.head)) ≡ Some (found (bindings s) c.rename.new.fuel)) c.in-Ok-Some.field-0-is c.in-Ok-Some.ensures.yes) in
+    bound-good old s (old.budget - c.left.result) c.requires.good c.in-Ok-Some.ensures.grows (bound-names old c.args.clause.now c.args.goal _ s c.requires.good c.requires.goal c.requires.known m)
 
 pub enter-requires-clause-body : goal.enter-requires-clause-body
 enter-requires-clause-body c =
     let old : Core = c.args.self.now in
     let s : State = c.rename.new.self in
-    let names = shift-names (length old.store.names) old.bindings.count c.args.rule.now.body c.requires.known.1.body_names in (
+    let names = shift-names (length old.store.names) old.bindings.count c.args.clause.now.body c.requires.known.1.body_names in (
       of-some c.in-Ok-Some.field-0 c.in-Ok-Some.body (λ r. r < length s.terms) c.in-Ok-Some.field-0-is c.in-Ok-Some.ensures.place,
-      subst (HasNames (length old.store.names)) (sym (of-some c.in-Ok-Some.field-0 c.in-Ok-Some.body (λ r. term_at s.terms r ≡ shift old.bindings.count c.args.rule.now.body) c.in-Ok-Some.field-0-is c.in-Ok-Some.ensures.value)) names,
+      subst (HasNames (length old.store.names)) (sym (of-some c.in-Ok-Some.field-0 c.in-Ok-Some.body (λ r. term_at s.terms r ≡ shift old.bindings.count c.args.clause.now.body) c.in-Ok-Some.field-0-is c.in-Ok-Some.ensures.value)) names,
     )
 
 pub returns-in_ok-enter-in-Ok-Some-clause-advances : goal.returns-in_ok-enter-in-Ok-Some-clause-advances
 returns-in_ok-enter-in-Ok-Some-clause-advances c =
     let old : Core = c.args.self.now in
     let s : State = c.rename.new.self in
-    let r : Clause = c.args.rule.now in
+    let r : Clause = c.args.clause.now in
     let table : IsTable old.store.names = subst IsTable c.symbols.ensures.names c.count-names.ensures.table in
-    let m = matched old c.args.rule.now c.args.goal c.new-fuel.result c.rename.new.fuel s c.new-fuel.ensures (of-some c.in-Ok-Some.field-0 c.in-Ok-Some.body (λ _. with_variables c.args.rule.now.vars (unified c.new-fuel.result old.bindings (term_at old.bindings.terms c.args.goal) (shift old.bindings.count c.args.rule.now.head)) ≡ Some (found (bindings s) c.rename.new.fuel)) c.in-Ok-Some.field-0-is c.in-Ok-Some.ensures.yes) in
-    let count : s.count ≡ old.bindings.count + r.vars = of-some c.in-Ok-Some.field-0 c.in-Ok-Some.body (λ _. s.count ≡ old.bindings.count + c.args.rule.now.vars) c.in-Ok-Some.field-0-is c.in-Ok-Some.ensures.count in
-    let value : term_at s.terms c.in-Ok-Some.body ≡ shift old.bindings.count r.body = of-some c.in-Ok-Some.field-0 c.in-Ok-Some.body (λ r. term_at s.terms r ≡ shift old.bindings.count c.args.rule.now.body) c.in-Ok-Some.field-0-is c.in-Ok-Some.ensures.value in
+    let m = matched old c.args.clause.now c.args.goal c.new-fuel.result c.rename.new.fuel s c.new-fuel.ensures (of-some c.in-Ok-Some.field-0 c.in-Ok-Some.body (λ _. with_variables c.args.clause.now.vars (unified c.new-fuel.result old.bindings (term_at old.bindings.terms c.args.goal) (shift old.bindings.count c.args.clause.now.head)) ≡ Some (found (bindings s) c.rename.new.fuel)) c.in-Ok-Some.field-0-is c.in-Ok-Some.ensures.yes) in
+    let count : s.count ≡ old.bindings.count + r.vars = of-some c.in-Ok-Some.field-0 c.in-Ok-Some.body (λ _. s.count ≡ old.bindings.count + c.args.clause.now.vars) c.in-Ok-Some.field-0-is c.in-Ok-Some.ensures.count in
+    let value : term_at s.terms c.in-Ok-Some.body ≡ shift old.bindings.count r.body = of-some c.in-Ok-Some.field-0 c.in-Ok-Some.body (λ r. term_at s.terms r ≡ shift old.bindings.count c.args.clause.now.body) c.in-Ok-Some.field-0-is c.in-Ok-Some.ensures.value in
     let same = met-yes old s r c.args.call c.args.goal c.in-Ok-Some.body c.args.rest c.rename.new.fuel table c.requires.steps c.requires.good
     c.in-Ok-Some.ensures.grows c.requires.goal c.requires.there m count value in
     let entered : Advances (bound_on old s (old.budget - c.rename.new.fuel)) c.enter.new.self (body_entered (bound_on old s (old.budget - c.rename.new.fuel)) c.in-Ok-Some.body c.args.call c.args.goal c.args.rest) step.Silent =
@@ -64,7 +64,7 @@ returns-in_ok-enter-in-Ok-Some-clause-advances c =
 pub returns-in-Ok-None-clause-advances : goal.returns-in-Ok-None-clause-advances
 returns-in-Ok-None-clause-advances c =
     let old : Core = c.args.self.now in
-    let r : Clause = c.args.rule.now in
+    let r : Clause = c.args.clause.now in
     let table : IsTable old.store.names = subst IsTable c.symbols.ensures.names c.count-names.ensures.table in
     let none = paid-none r.vars (head_met old r c.args.goal) c.rename.new.fuel
     (paid-by old r c.args.goal c.new-fuel.result _ c.new-fuel.ensures (c.in-Ok-None.ensures.no (ap Ok c.in-Ok-None.field-0-is))) in
@@ -74,7 +74,7 @@ returns-in-Ok-None-clause-advances c =
 pub returns-in-Err-Spent-clause-advances : goal.returns-in-Err-Spent-clause-advances
 returns-in-Err-Spent-clause-advances c =
     let old : Core = c.args.self.now in
-    let r : Clause = c.args.rule.now in
+    let r : Clause = c.args.clause.now in
     let table : IsTable old.store.names = subst IsTable c.symbols.ensures.names c.count-names.ensures.table in
     let is = ap Err c.in-Err-Spent.field-0-is in
     let none = paid-by old r c.args.goal c.new-fuel.result _ c.new-fuel.ensures (c.in-Err-Spent.ensures.spent is) in

@@ -1,5 +1,5 @@
 use Rattle.std.proofs.Common.{◌≡◌, ◌++◌, ◌∷◌, [], List, Option, Some, sym, ap, ◌∙◌}
-use Rattle.op_bind.specs.declared.places.Clause.{Clause as Rule}
+use Rattle.op_bind.specs.declared.places.Clause.{Clause as NumberedClause}
 use Rattle.op_store.specs.declared.procedure.Procedure.{Procedure as Row}
 use Rattle.std.specs.Map.{set_value}
 use Rattle.op_store.specs.Rows.{Rows, pi_eq, row_in, with_row, extended_row}
@@ -16,7 +16,7 @@ returns-in-Some-clause-ok c =
     on-ok c.push.result
     (λ (q : c.push.new.self ≡ p.clauses ++ c.args.clause ∷ []).
     let written : w ≡ extended_row (row_in es c.args.pi) c.args.clause =
-    ap (λ (rs : List Rule). let x : Row = record { dynamic = p.dynamic; clauses = rs } in x) q ∙ sym (ap (λ (o : Option Row). extended_row o c.args.clause) got) in
+    ap (λ (rs : List NumberedClause). let x : Row = record { dynamic = p.dynamic; clauses = rs } in x) q ∙ sym (ap (λ (o : Option Row). extended_row o c.args.clause) got) in
     e ∙ (set-inserts c.args.pi es p w got ∙ (ap (with_row es c.args.pi) written ∙ ap (λ (rows : Rows). with_row rows c.args.pi (extended_row (row_in rows c.args.pi) c.args.clause)) c.self.view_is)))
     c.push.ensures.ok
 
@@ -29,6 +29,6 @@ returns-in-Some-clause-err c =
     let e = (c.get_mut.follows.holds w).0 in
     on-err-map c.push.result
     (λ (q : c.push.new.self ≡ p.clauses).
-    let same : w ≡ p = ap (λ (rs : List Rule). let x : Row = record { dynamic = p.dynamic; clauses = rs } in x) q in
+    let same : w ≡ p = ap (λ (rs : List NumberedClause). let x : Row = record { dynamic = p.dynamic; clauses = rs } in x) q in
     e ∙ (ap (λ (x : Row). set_value (pi_eq c.args.pi) es x) same ∙ (set-same c.args.pi es p got ∙ c.self.view_is)))
     c.push.ensures.err

@@ -1,6 +1,6 @@
 use Rattle.std.proofs.Common.{List, map, ap, ◌∙◌}
-use Rattle.op_bind.specs.declared.places.Clause.{Clause as Rule}
-use Rattle.op_store.specs.Stored.{Stored, rules_of}
+use Rattle.op_bind.specs.declared.places.Clause.{Clause as NumberedClause}
+use Rattle.op_store.specs.Stored.{Stored, numbered_clauses}
 use Rattle.op_store.specs.Rows.{clause_named}
 use Rattle.op_store.proofs.Naming.{clauses-of}
 use Rattle.op_store.proofs.RowLaws.{if-ok}
@@ -10,5 +10,5 @@ pub returns-clause-world : goal.returns-clause-world
 returns-clause-world c =
     let s : Stored = c.args.self.now in
     if-ok c.all_clauses.result
-    (λ (rs : List Rule) e. ap (map (clause_named s.names)) (e ∙ ap rules_of c.self.view_is) ∙ clauses-of s)
+    (λ (rs : List NumberedClause) e. ap (map (clause_named s.names)) (e ∙ ap numbered_clauses c.self.view_is) ∙ clauses-of s)
     c.all_clauses.ensures

@@ -3,7 +3,7 @@ use Rattle.std.specs.Prelude.{option_map}
 use Rattle.op_store.specs.World.{procedure_in}
 use Rattle.op_store.specs.declared.procedure.Procedure.{Procedure as Row}
 use Rattle.op_store.specs.Stored.{Stored, world_of, is_dynamic_row}
-use Rattle.op_store.specs.Rows.{key_named, row_named}
+use Rattle.op_store.specs.Rows.{indicator_named, row_named}
 use Rattle.op_store.proofs.Naming.{found-named}
 use Rattle.op_store.proofs.store.Store.is_dynamic.Goals as goal
 
@@ -11,11 +11,11 @@ pub returns-in-Some : goal.returns-in-Some
 returns-in-Some c =
     let i = c.self.inside in
     let p : Row = c.in-Some.procedure.now in
-    subst (λ (s : Stored). p.dynamic ≡ is_dynamic_row (procedure_in (world_of s).procedures (key_named s.names c.args.pi))) c.self.view_is
+    subst (λ (s : Stored). p.dynamic ≡ is_dynamic_row (procedure_in (world_of s).procedures (indicator_named s.names c.args.pi))) c.self.view_is
     (ap (λ (o : Option Row). is_dynamic_row (option_map (row_named i.symbols) o)) c.in-Some.ensures ∙ ap is_dynamic_row (sym (found-named i.symbols c.count-names.ensures.table i.procedures c.args.pi)))
 
 pub returns-in-None : goal.returns-in-None
 returns-in-None c =
     let i = c.self.inside in
-    subst (λ (s : Stored). false ≡ is_dynamic_row (procedure_in (world_of s).procedures (key_named s.names c.args.pi))) c.self.view_is
+    subst (λ (s : Stored). false ≡ is_dynamic_row (procedure_in (world_of s).procedures (indicator_named s.names c.args.pi))) c.self.view_is
     (ap (λ (o : Option Row). is_dynamic_row (option_map (row_named i.symbols) o)) c.in-None.ensures ∙ ap is_dynamic_row (sym (found-named i.symbols c.count-names.ensures.table i.procedures c.args.pi)))

@@ -2,7 +2,7 @@ use Rattle.std.proofs.Common.{◌≡◌, ◌<◌, length, take, Some, Ok, sym, a
 use Rattle.std.specs.Prelude.{option_map}
 use Rattle.op_logic.specs.Names.{IsTable}
 use Rattle.op_store.specs.declared.procedure.Procedure.{Procedure as Row}
-use Rattle.op_store.specs.Rows.{Rows, row_in, with_row, no_rules}
+use Rattle.op_store.specs.Rows.{Rows, row_in, with_row, no_numbered_clauses}
 use Rattle.op_store.specs.Stored.{Stored, IsSound, world_of}
 use Rattle.op_store.proofs.Declaring.{made-kept, made-static, made-new, none-there, new-behind, rows-dynamic}
 use Rattle.op_store.proofs.store.Store.make_dynamic.Goals as goal
@@ -11,7 +11,7 @@ pub invariant_of-self-in-None : goal.invariant_of-self-in-None
 invariant_of-self-in-None c =
     let i = c.self.inside in
     let s : Stored = record { locked = i.locked; names = i.symbols; table = i.ops; flags = i.flags; rows = i.procedures; next = i.next } in
-    let h : IsSound (record s { rows = with_row i.procedures c.args.pi no_rules }) = record {
+    let h : IsSound (record s { rows = with_row i.procedures c.args.pi no_numbered_clauses }) = record {
       names = c.self.invariant.names;
       begins = c.self.invariant.begins;
       table = c.self.invariant.table;
@@ -36,11 +36,11 @@ returns-in_ok-make_dynamic-in-None-clause-tells c =
     let rows : Rows = c.make_dynamic.new.self in
     made-new c.args.self.now c.args.pi rows c.is_locked-locked.result (subst (λ (x : Stored). IsTable x.names) c.self.view_is c.self.invariant.names) c.is_locked-locked.ensures c.if-locked.false
     (c.in-None.ensures ∙ ap (λ (x : Stored). option_map (λ (p : Row). p.dynamic) (row_in x.rows c.args.pi)) c.self.view_is)
-    (c.in_ok-make_dynamic-in-None.ensures.ok ∙ ap (λ (x : Stored). with_row x.rows c.args.pi no_rules) c.self.view_is)
+    (c.in_ok-make_dynamic-in-None.ensures.ok ∙ ap (λ (x : Stored). with_row x.rows c.args.pi no_numbered_clauses) c.self.view_is)
     ∙ ap (λ (x : Stored). Ok (world_of (record x { rows = rows }))) (sym c.self.view_is)
 
 pub returns-in_ok-make_dynamic-in-None-clause-front : goal.returns-in_ok-make_dynamic-in-None-clause-front
 returns-in_ok-make_dynamic-in-None-clause-front c =
     let i = c.self.inside in
     subst (λ (x : Stored). take (length x.rows) c.make_dynamic.new.self ≡ x.rows) c.self.view_is
-    (ap (take (length i.procedures)) c.in_ok-make_dynamic-in-None.ensures.ok ∙ new-behind i.procedures c.args.pi no_rules (none-there i.procedures c.args.pi c.in-None.ensures))
+    (ap (take (length i.procedures)) c.in_ok-make_dynamic-in-None.ensures.ok ∙ new-behind i.procedures c.args.pi no_numbered_clauses (none-there i.procedures c.args.pi c.in-None.ensures))

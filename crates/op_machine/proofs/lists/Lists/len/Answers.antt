@@ -1,7 +1,0 @@
-use Rattle.std.proofs.Common.{length, List, ◌∙◌, ap, arith}
-use Rattle.op_machine.specs.declared.lists.Item.{Item}
-use Rattle.op_machine.proofs.ListLaws.{length_lists_of}
-use Rattle.op_machine.proofs.lists.Lists.len.Goals as goal
-
-pub returns-clause-count : goal.returns-clause-count
-returns-clause-count c = omega (arith, c.self.inside.cells.ok.0, length_lists_of c.self.inside.cells.items) ∙ ap (λ (L : List (List Item)). length L) c.self.view_is

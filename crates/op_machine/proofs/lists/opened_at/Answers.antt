@@ -1,7 +1,0 @@
-use Rattle.std.proofs.Common.{arith}
-use Rattle.op_machine.proofs.ListLaws.{length_lists_of}
-use Rattle.op_machine.proofs.lists.opened_at.Goals as goal
-
-pub returns-in-Some-clause-small : goal.returns-in-Some-clause-small
-returns-in-Some-clause-small c =
-    omega (arith, c.args.cells.now.ok.0, c.args.cells.now.small, length_lists_of c.args.cells.now.items, c.requires.there, c.in-Some.ensures.begins.shallow, c.in-Some.ensures.begins.depth)
