@@ -117,39 +117,65 @@ fn add_use(alloc: Global, line: &mut String, desk: &mut MemoryDesk) -> Result<()
     Ok(())
 }
 
-/// A desk in memory whose Input is the file `in`, `abc`, and which has the commands `next.`, used once.
-pub fn memory_desk(alloc: Global, text: &str) -> Result<String, Memory> {
-    let mut desk = desk_of(alloc, failing(alloc, text)?)?;
+// Attaches three channels of a desk that was just made.
+fn add_attached(line: &mut String, desk: &mut MemoryDesk) -> Result<(), Memory>
+    requires { Each (λ c. fresh_of desk.old c ≡ true) }
+{
+    let input = desk.attach(Chan::Input, "in");
+    let commands = desk.attach(Chan::Commands, "-");
+    let talk = desk.attach(Chan::Talk, "out");
+    line.push_str(word(input)?)?;
+    line.push_str(word(commands)?)?;
+    line.push_str(word(talk)?)?;
+    Ok(())
+}
+
+// A desk that was just made, used once.
+fn used_desk(alloc: Global, desk: &mut MemoryDesk) -> Result<String, Memory>
+    requires { Each (λ c. fresh_of desk.old c ≡ true) }
+{
     let mut line = String::new(alloc);
-    line.push_str(word(desk.attach(Chan::Input, "in"))?)?;
-    line.push_str(word(desk.attach(Chan::Commands, "-"))?)?;
-    line.push_str(word(desk.attach(Chan::Talk, "out"))?)?;
-    add_use(alloc, &mut line, &mut desk)?;
-    add_state(alloc, &mut line, &desk)?;
+    add_attached(&mut line, desk)?;
+    add_use(alloc, &mut line, desk)?;
+    add_state(alloc, &mut line, desk)?;
     Ok(line)
 }
 
-// Writes a file, takes it whole and takes two bytes of it.
+fn own_desk(alloc: Global, mut desk: MemoryDesk) -> Result<String, Memory>
+    requires { Each (λ c. fresh_of desk c ≡ true) }
+{
+    used_desk(alloc, &mut desk)
+}
+
+/// A desk in memory whose Input is the file `in`, `abc`, and which has the commands `next.`, used once.
+pub fn memory_desk(alloc: Global, text: &str) -> Result<String, Memory> {
+    let desk = desk_of(alloc, failing(alloc, text)?)?;
+    own_desk(alloc, desk)
+}
+
+// Puts bytes on Output, takes the whole file that they went to, and two bytes of Input.
 fn use_files(alloc: Global, desk: &mut FileDesk) -> Result<String, Memory> {
     let mut line = String::new(alloc);
-    line.push_str(word(desk.attach(Chan::Output, "written"))?)?;
     line.push_str(word(put_all(desk, Chan::Output, b"abc"))?)?;
     match take_all(alloc, desk, "written", 3) {
         Ok(file) => line.push_str(escaped(alloc, file.as_slice())?.as_str())?,
         Err(_) => line.push_str("no file")?,
     }
     line.push_str(" ")?;
-    line.push_str(word(desk.attach(Chan::Input, "written"))?)?;
     let mut piece = [0u8; 2];
     let taken = desk.take(Chan::Input, &mut piece);
     add_count(alloc, &mut line, taken, &piece)?;
     Ok(line)
 }
 
-/// A desk over the system's files that writes a file and reads it.
+/// A desk over the system's files, whose Output is the file `written` and whose Input is the file `given`.
 pub fn file_desk(rt: HostRuntime) -> Result<String, Memory> {
     let mut desk = FileDesk::new(rt, rt.alloc());
-    let line = use_files(rt.alloc(), &mut desk)?;
+    let output = desk.attach(Chan::Output, "written");
+    let input = desk.attach(Chan::Input, "given");
+    let attached = word(output)?;
+    let connected = word(input)?;
+    let used = use_files(rt.alloc(), &mut desk)?;
     let _removed = fs::remove_file(&rt, "written");
-    Ok(line)
+    Ok(format!(in rt.alloc(); "{attached}{connected}{used}")?)
 }
