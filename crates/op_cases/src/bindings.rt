@@ -1,4 +1,5 @@
-ghost use Rattle.std.specs.Prelude.{◌≡◌, ◌<◌, length, IfOk};
+ghost use Rattle.std.specs.Prelude.{◌<◌, length, IfOk, OnOk};
+ghost use Rattle.op_bind.specs.Grown.{Grows};
 ghost use Rattle.op_logic.specs.Term.{IsWithin};
 
 use crate::show::shown;
@@ -37,8 +38,47 @@ fn add_value(
     Ok(())
 }
 
-// Unifies the two arguments of an equation: the answer, the steps left, the equation's value, the steps left, and its value once the
-// bindings are undone.
+// Unifies the two arguments of an equation, and tells the answer.
+fn answer_of(
+    bindings: &mut Bindings,
+    equation: &Ref,
+    fuel: &mut Fuel,
+) -> Result<&'static str, Memory>
+    requires { equation.now < length bindings.old.terms }
+    ensures { OnOk result (Grows bindings.old bindings.new) }
+{
+    let Node::Struct(_, 2) = bindings.outline(equation) else {
+        return Ok("no equation");
+    };
+    let left = bindings.argument(equation, 0);
+    let right = bindings.argument(equation, 1);
+    match bindings.unify(&left, &right, fuel) {
+        Ok(Unified::Yes) => Ok("yes"),
+        Ok(Unified::No) => Ok("no"),
+        Err(WalkFault::Spent) => Ok("spent"),
+        Err(WalkFault::Memory) => Err(Memory),
+    }
+}
+
+// The answer, the steps left, the equation's value, and the steps left behind it.
+fn add_answer(
+    alloc: Global,
+    line: &mut String,
+    symbols: &Symbols,
+    bindings: &mut Bindings,
+    equation: &Ref,
+    fuel: &mut Fuel,
+) -> Result<(), Memory>
+    requires { equation.now < length bindings.old.terms }
+    ensures { OnOk result (Grows bindings.old bindings.new) }
+{
+    let word = answer_of(bindings, equation, fuel)?;
+    let steps = fuel.left();
+    write!(line, "{word} {steps}")?;
+    add_value(alloc, line, symbols, bindings, equation, fuel)
+}
+
+// The same, and the equation's value once the bindings are undone.
 fn unify_arguments(
     alloc: Global,
     symbols: &Symbols,
@@ -49,21 +89,8 @@ fn unify_arguments(
     requires { equation.now < length bindings.old.terms }
 {
     let mut line = String::new(alloc);
-    let Node::Struct(_, 2) = bindings.outline(equation) else {
-        return Ok(String::from_str(alloc, "no equation")?);
-    };
-    let left = bindings.argument(equation, 0);
-    let right = bindings.argument(equation, 1);
     let mark = bindings.mark();
-    match bindings.unify(&left, &right, fuel) {
-        Ok(Unified::Yes) => line.push_str("yes ")?,
-        Ok(Unified::No) => line.push_str("no ")?,
-        Err(WalkFault::Spent) => line.push_str("spent ")?,
-        Err(WalkFault::Memory) => return Err(Memory),
-    }
-    let steps = fuel.left();
-    write!(line, "{steps}")?;
-    add_value(alloc, &mut line, symbols, bindings, equation, fuel)?;
+    add_answer(alloc, &mut line, symbols, bindings, equation, fuel)?;
     bindings.undo_to(mark);
     add_value(
         alloc,

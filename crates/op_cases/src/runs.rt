@@ -189,28 +189,41 @@ pub enum Shown {
     ChoicePoints,
 }
 
-fn add_run<L: Ledger>(
+fn add_shown<L: Ledger>(
     line: &mut String,
+    machine: &mut Machine,
+    steps: &mut Steps<L>,
+    shown: Shown,
+) -> Result<(), Memory> {
+    match shown {
+        Shown::Turns => add_turns(line, machine, steps),
+        Shown::Count => add_count(line, machine, steps),
+        Shown::ChoicePoints => add_choice_points(line, machine, steps),
+    }
+}
+
+fn run_by<L: Ledger>(
+    alloc: Global,
     machine: &mut Machine,
     blank: Blank,
     shown: Shown,
-) -> Result<(), Memory>
+) -> Result<String, Memory>
     requires name { blank.name ≡ L.name }
     requires parts { blank.parts ≡ L.parts }
     requires some { 0 < L.parts }
 {
+    let mut line = String::new(alloc);
     let mut steps = Steps::<L>::new(blank);
-    match shown {
-        Shown::Turns => add_turns(line, machine, &mut steps),
-        Shown::Count => add_count(line, machine, &mut steps),
-        Shown::ChoicePoints => add_choice_points(line, machine, &mut steps),
-    }
+    add_shown(&mut line, machine, &mut steps, shown)?;
+    Ok(line)
+}
+
+fn shown_run(alloc: Global, machine: &mut Machine, shown: Shown) -> Result<String, Memory> {
+    run_by::<Brand>(alloc, machine, Blank::new(1), shown)
 }
 
 fn machine_run(alloc: Global, mut machine: Machine, shown: Shown) -> Result<String, Memory> {
-    let mut line = String::new(alloc);
-    add_run::<Brand>(&mut line, &mut machine, Blank::new(1), shown)?;
-    Ok(line)
+    shown_run(alloc, &mut machine, shown)
 }
 
 // A run of a goal that was read.
@@ -227,11 +240,8 @@ fn goal_run(
     if budget < 1 || budget > 1_000_000_000 {
         return Ok(String::from_str(alloc, "no budget")?);
     }
-    machine_run(
-        alloc,
-        Machine::start(alloc, store, goal, budget, wanted)?,
-        shown,
-    )
+    let machine = Machine::start(alloc, store, goal, budget, wanted)?;
+    machine_run(alloc, machine, shown)
 }
 
 // A run over a program that was loaded.

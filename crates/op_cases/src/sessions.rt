@@ -13,13 +13,6 @@ use std::alloc::Global;
 use std::marker::Brand;
 use std::sync::ledger::{Blank, Ledger};
 
-// What a call leaves.
-#[derive(Drop)]
-struct Left {
-    status: Status,
-    desk: MemoryDesk,
-}
-
 fn desk_of(
     alloc: Global,
     program: &[u8],
@@ -35,19 +28,23 @@ fn desk_of(
     Ok(MemoryDesk::new(alloc, shelf, commands, input, failing))
 }
 
-fn call_by<L: Ledger>(alloc: Global, blank: Blank, words: &[String], mut desk: MemoryDesk) -> Left
+fn call_by<L: Ledger>(
+    alloc: Global,
+    blank: Blank,
+    words: &[String],
+    desk: &mut MemoryDesk,
+) -> Status
     requires name { blank.name ≡ L.name }
     requires parts { blank.parts ≡ L.parts }
     requires some { 0 < L.parts }
-    requires fresh { Each (λ c. fresh_of desk c ≡ true) }
+    requires fresh { Each (λ c. fresh_of desk.old c ≡ true) }
 {
     let mut steps: Steps<L> = Steps::new(blank);
-    let status = opium(alloc, words, &mut desk, &mut steps);
-    Left { status, desk }
+    opium(alloc, words, desk, &mut steps)
 }
 
-fn call(alloc: Global, words: &[String], desk: MemoryDesk) -> Left
-    requires { Each (λ c. fresh_of desk c ≡ true) }
+fn call(alloc: Global, words: &[String], desk: &mut MemoryDesk) -> Status
+    requires { Each (λ c. fresh_of desk.old c ≡ true) }
 {
     call_by::<Brand>(alloc, Blank::new(1), words, desk)
 }
@@ -82,13 +79,20 @@ pub fn session(alloc: Global, text: &str) -> Result<String, Memory> {
     let program = decoded(alloc, field(text, 2))?;
     let commands = decoded(alloc, field(text, 3))?;
     let desk = desk_of(alloc, &program, &commands, failing)?;
-    let left = call(alloc, &words, desk);
-    shown_left(alloc, &left)
+    called(alloc, &words, desk)
 }
 
-fn shown_left(alloc: Global, left: &Left) -> Result<String, Memory> {
-    let status = status_word(left.status);
-    let talk = escaped(alloc, left.desk.bytes_written(Chan::Talk))?;
-    let commands = escaped(alloc, left.desk.bytes_left(Chan::Commands))?;
+// A call over a desk of its own, and what it leaves.
+fn called(alloc: Global, words: &[String], mut desk: MemoryDesk) -> Result<String, Memory>
+    requires { Each (λ c. fresh_of desk c ≡ true) }
+{
+    let status = call(alloc, words, &mut desk);
+    shown_left(alloc, status, &desk)
+}
+
+fn shown_left(alloc: Global, status: Status, desk: &MemoryDesk) -> Result<String, Memory> {
+    let status = status_word(status);
+    let talk = escaped(alloc, desk.bytes_written(Chan::Talk))?;
+    let commands = escaped(alloc, desk.bytes_left(Chan::Commands))?;
     Ok(format!(in alloc; "{status} § {talk} § {commands}")?)
 }

@@ -1,0 +1,12 @@
+use Rattle.op_term.specs.Places.{term_at}
+use Rattle.std.proofs.Common.{sym, ◌∙◌}
+use Rattle.op_machine.proofs.Controls.{head-struct}
+use Rattle.op_cases.proofs.bindings.answer_of.Goals as goal
+
+pub argument-requires-clause-within : goal.argument-requires-clause-within
+argument-requires-clause-within c =
+    (head-struct (term_at c.args.bindings.old.terms c.args.equation.now) _ _ (sym c.outline.ensures ∙ c.in-Struct.is)).2
+
+pub argument-requires-2-clause-within : goal.argument-requires-2-clause-within
+argument-requires-2-clause-within c =
+    (head-struct (term_at c.args.bindings.old.terms c.args.equation.now) _ _ (sym c.outline.ensures ∙ c.in-Struct.is)).2
