@@ -1,6 +1,7 @@
-//! What every layer shares: the answer for want of memory, and the ledger of steps.
+//! What every layer shares: the answer for out of memory, the ledger of steps, and the classes of characters.
 #![tactic(auto)]
 
+pub mod characters;
 mod memory;
 mod steps;
 

@@ -22,7 +22,7 @@ use Rattle.op_writer.specs.declared.notation.Notation.{Notation}
 use Rattle.op_writer.specs.declared.notation.Notation.TheVariants.{List as Listed, Braces, Infix, Prefix, Postfix, Functional}
 use Rattle.op_writer.specs.declared.edge.Edge.{Edge}
 use Rattle.op_writer.specs.declared.edge.Edge.TheVariants.{Minus}
-use Rattle.op_writer.specs.Signs.{is_symbol}
+use Rattle.op_base.specs.Characters.{is_symbol}
 use Rattle.op_writer.specs.Spelling.{is_symbolic, name_text}
 use Rattle.op_writer.specs.Pieces.{edge_behind}
 use Rattle.op_writer.specs.Text.{within, rest, argument, fits, left_of, right_of, notation_of}

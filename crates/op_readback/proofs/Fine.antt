@@ -14,7 +14,7 @@ use Rattle.op_writer.specs.declared.bound.Bound.{Bound}
 use Rattle.op_writer.specs.declared.bound.Bound.TheVariants.{Whole}
 use Rattle.op_writer.specs.declared.notation.Notation.{Notation}
 use Rattle.op_writer.specs.declared.notation.Notation.TheVariants.{List as Listed, Braces, Infix, Prefix, Postfix, Functional}
-use Rattle.op_writer.specs.Signs.{is_symbol, is_small, is_word}
+use Rattle.op_base.specs.Characters.{is_symbol, is_small, is_word}
 use Rattle.op_writer.specs.Spelling.{is_symbolic, is_word_name, is_other_token, is_unquoted, name_text, quoted}
 use Rattle.op_writer.specs.Text.{within, rest, fits, left_of, right_of, is_operand, argument, is_operator, notation_of}
 use Rattle.op_readback.specs.ReadBack.{IsSmall}

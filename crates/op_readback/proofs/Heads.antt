@@ -10,7 +10,7 @@ use Rattle.op_token.specs.declared.set.Set.TheVariants.{Decimal}
 use Rattle.op_token.specs.Set.{has}
 use Rattle.op_token.specs.Spelling.{is_fraction}
 use Rattle.op_writer.specs.declared.style.Style.TheVariants.{Quoted}
-use Rattle.op_writer.specs.Signs.{is_symbol, is_word, is_small}
+use Rattle.op_base.specs.Characters.{is_symbol, is_word, is_small}
 use Rattle.op_writer.specs.Spelling.{is_symbolic, is_word_name, is_other_token, is_unquoted, name_text, quoted, escaped}
 use Rattle.op_writer.specs.Pieces.{text_of}
 use Rattle.op_readback.specs.ReadBack.{IsSmall}

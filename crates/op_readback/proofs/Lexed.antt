@@ -20,7 +20,7 @@ use Rattle.op_token.specs.Tokens.{Lexed, push, is_minus, on_spelling, lex}
 use Rattle.op_writer.specs.declared.style.Style.TheVariants.{Quoted}
 use Rattle.op_writer.specs.declared.edge.Edge.{Edge}
 use Rattle.op_writer.specs.declared.edge.Edge.TheVariants.{Other, Word, Symbol, Prefix, Minus}
-use Rattle.op_writer.specs.Signs.{is_symbol, is_word, is_small}
+use Rattle.op_base.specs.Characters.{is_symbol, is_word, is_small}
 use Rattle.op_writer.specs.Spelling.{is_symbolic, is_word_name, is_other_token, is_unquoted, name_text, quoted, escaped}
 use Rattle.op_writer.specs.Pieces.{edge_at, edge_of, prefix_edge, edge_behind, is_apart, set_apart, spaced}
 use Rattle.op_readback.specs.ReadBack.{IsSmall}

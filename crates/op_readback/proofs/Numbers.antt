@@ -16,7 +16,7 @@ use Rattle.op_token.specs.declared.set.Set.TheVariants.{Decimal}
 use Rattle.op_token.specs.Set.{has, run, begins_with}
 use Rattle.op_token.specs.Class.{class_of}
 use Rattle.op_token.specs.Spelling.{begins, spelled, number_of, digit_value, is_fraction, least_magnitude, ranged}
-use Rattle.op_writer.specs.Signs.{is_word}
+use Rattle.op_base.specs.Characters.{is_word}
 use Rattle.op_readback.proofs.Quoting.{and-parts}
 use Rattle.op_readback.proofs.Spelled.{Stops, run-all, or-neither}
 

@@ -20,8 +20,7 @@ use Rattle.op_token.specs.Set.{has, run, begins_with}
 use Rattle.op_token.specs.Character.{char_at, first_char, is_scalar}
 use Rattle.op_token.specs.Spelling.{digit_value, number_of, numbered, escape_at, quoted_from, fault}
 use Rattle.op_token.specs.Tokens.{escaped as unescaped, text_from}
-use Rattle.op_writer.specs.Signs.{is_control}
-use Rattle.op_writer.specs.Spelling.{digit, hexadecimal, escaped}
+use Rattle.op_writer.specs.Spelling.{is_control, digit, hexadecimal, escaped}
 
 -- the digits of an escape
 digit-value : (d : ℕ) → d < 16 → digit_value (digit d) ≡ d

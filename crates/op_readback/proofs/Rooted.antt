@@ -5,11 +5,12 @@ use Rattle.op_logic.proofs.Tests.{by_test, by_order, if_true, if_false}
 use Rattle.op_term.specs.declared.ops.OpKind.{OpKind}
 use Rattle.op_term.specs.declared.ops.OpKind.TheVariants.{Xfx, Xfy, Yfx, Fy, Fx, Xf, Yf}
 use Rattle.op_term.specs.declared.ops.Meaning.{Meaning}
-use Rattle.op_reader.specs.Row.{Piece, operand, operator, Operator, Split, split_at, top, leftmost, rightmost, root, root_among, is_y_left, is_y_right}
+use Rattle.op_term.specs.Ops.{is_y_left, is_y_right}
+use Rattle.op_reader.specs.Row.{Piece, operand, operator, Operator, Split, split_at, top, leftmost, rightmost, root, root_among}
 use Rattle.op_reader.proofs.Splits.{extended, top-append, leftmost-here, leftmost-more, rightmost-here, rightmost-there, leftmost-there, leftmost-splits}
 use Rattle.op_writer.specs.declared.bound.Bound.{Bound}
 use Rattle.op_writer.specs.declared.bound.Bound.TheVariants.{Whole, Operand, Left, Right}
-use Rattle.op_writer.specs.Text.{fits, left_of, right_of, is_left, is_right}
+use Rattle.op_writer.specs.Text.{fits, left_of, right_of}
 use Rattle.op_readback.specs.Rows.{operator_of, limit}
 
 abbrev Text : Type 0
@@ -53,24 +54,6 @@ top-limit b [] h = omega arith
 top-limit b (operand t ∷ xs) h = top-limit b xs h
 top-limit b (operator o ∷ xs) h = omega (arith, allowed-limit b o h.0, top-limit b xs h.1)
 
-pub y-left : (k : OpKind) → is_left k ≡ is_y_left k
-y-left Xfx = refl
-y-left Xfy = refl
-y-left Yfx = refl
-y-left Fy = refl
-y-left Fx = refl
-y-left Xf = refl
-y-left Yf = refl
-
-pub y-right : (k : OpKind) → is_right k ≡ is_y_right k
-y-right Xfx = refl
-y-right Xfy = refl
-y-right Yfx = refl
-y-right Fy = refl
-y-right Fx = refl
-y-right Xf = refl
-y-right Yf = refl
-
 not-both : (k : OpKind) → is_y_left k ≡ true → is_y_right k ≡ false
 not-both Yfx h = refl
 not-both Yf h = refl
@@ -81,11 +64,11 @@ not-both Fx h = refl
 not-both Xf h = refl
 
 -- the bounds of an operator's sides
-pub left-cases : {P : Type 0} (m : Meaning) → (is_left m.kind ≡ true → left_of m ≡ Left m.priority → P) → (is_left m.kind ≡ false → left_of m ≡ Operand (m.priority - 1) → P) → P
-left-cases m f g = by_test (is_left m.kind) (λ h. f h (if_true _ _ _ h)) (λ h. g h (if_false _ _ _ h))
+pub left-cases : {P : Type 0} (m : Meaning) → (is_y_left m.kind ≡ true → left_of m ≡ Left m.priority → P) → (is_y_left m.kind ≡ false → left_of m ≡ Operand (m.priority - 1) → P) → P
+left-cases m f g = by_test (is_y_left m.kind) (λ h. f h (if_true _ _ _ h)) (λ h. g h (if_false _ _ _ h))
 
-pub right-cases : {P : Type 0} (m : Meaning) → (is_right m.kind ≡ true → right_of m ≡ Right m.priority → P) → (is_right m.kind ≡ false → right_of m ≡ Operand (m.priority - 1) → P) → P
-right-cases m f g = by_test (is_right m.kind) (λ h. f h (if_true _ _ _ h)) (λ h. g h (if_false _ _ _ h))
+pub right-cases : {P : Type 0} (m : Meaning) → (is_y_right m.kind ≡ true → right_of m ≡ Right m.priority → P) → (is_y_right m.kind ≡ false → right_of m ≡ Operand (m.priority - 1) → P) → P
+right-cases m f g = by_test (is_y_right m.kind) (λ h. f h (if_true _ _ _ h)) (λ h. g h (if_false _ _ _ h))
 
 either : {P : Type 0} (a b : Bool) → a || b ≡ true → (a ≡ true → P) → (b ≡ true → P) → P
 either true b h f g = f refl
@@ -101,63 +84,63 @@ left-weakens m bound o one fit h = left-cases m
     (λ y e. within bound fit y (subst (λ (b : Bound). IsAllowed b o) e h))
     (λ y e. below bound fit y (let l : o.priority ≤ m.priority - 1 = subst (λ (b : Bound). IsAllowed b o) e h in l))
   where
-    within : (bound : Bound) → fits bound m ≡ true → is_left m.kind ≡ true → IsAllowed (Left m.priority) o → IsAllowed bound o
+    within : (bound : Bound) → fits bound m ≡ true → is_y_left m.kind ≡ true → IsAllowed (Left m.priority) o → IsAllowed bound o
     within (Whole p) f y h = omega (arith, leb-true m.priority p f, h.0)
     within (Operand p) f y h = omega (arith, leb-true m.priority p f, h.0)
-    within (Left p) f y h = either (ltb m.priority p) (eqb m.priority p && is_left m.kind) f
+    within (Left p) f y h = either (ltb m.priority p) (eqb m.priority p && is_y_left m.kind) f
         (λ l. (omega (arith, ltb-true m.priority p l, h.0), λ e. absurd (omega (arith, ltb-true m.priority p l, h.0, e))))
-        (λ k. let q = eqb-true m.priority p (both (eqb m.priority p) (is_left m.kind) k).0 in (omega (arith, q, h.0), λ e. h.1 (omega (arith, q, e))))
-    within (Right p) f y h = either (ltb m.priority p) (eqb m.priority p && is_right m.kind) f
+        (λ k. let q = eqb-true m.priority p (both (eqb m.priority p) (is_y_left m.kind) k).0 in (omega (arith, q, h.0), λ e. h.1 (omega (arith, q, e))))
+    within (Right p) f y h = either (ltb m.priority p) (eqb m.priority p && is_y_right m.kind) f
         (λ l. (omega (arith, ltb-true m.priority p l, h.0), λ e. absurd (omega (arith, ltb-true m.priority p l, h.0, e))))
-        (λ k. absurd (let r : is_right m.kind ≡ true = (both (eqb m.priority p) (is_right m.kind) k).1 in
-        let n : is_right m.kind ≡ false = y-right m.kind ∙ not-both m.kind (sym (y-left m.kind) ∙ y) in let z : true ≡ false = sym r ∙ n in cc))
+        (λ k. absurd (let r : is_y_right m.kind ≡ true = (both (eqb m.priority p) (is_y_right m.kind) k).1 in
+        let n : is_y_right m.kind ≡ false = not-both m.kind y in let z : true ≡ false = sym r ∙ n in cc))
 
-    below : (bound : Bound) → fits bound m ≡ true → is_left m.kind ≡ false → o.priority ≤ m.priority - 1 → IsAllowed bound o
+    below : (bound : Bound) → fits bound m ≡ true → is_y_left m.kind ≡ false → o.priority ≤ m.priority - 1 → IsAllowed bound o
     below (Whole p) f y h = omega (arith, leb-true m.priority p f, h, one)
     below (Operand p) f y h = omega (arith, leb-true m.priority p f, h, one)
-    below (Left p) f y h = either (ltb m.priority p) (eqb m.priority p && is_left m.kind) f
+    below (Left p) f y h = either (ltb m.priority p) (eqb m.priority p && is_y_left m.kind) f
         (λ l. (omega (arith, ltb-true m.priority p l, h), λ e. absurd (omega (arith, ltb-true m.priority p l, h, e, one))))
-        (λ k. let q = eqb-true m.priority p (both (eqb m.priority p) (is_left m.kind) k).0 in (omega (arith, q, h), λ e. absurd (omega (arith, q, h, e, one))))
-    below (Right p) f y h = either (ltb m.priority p) (eqb m.priority p && is_right m.kind) f
+        (λ k. let q = eqb-true m.priority p (both (eqb m.priority p) (is_y_left m.kind) k).0 in (omega (arith, q, h), λ e. absurd (omega (arith, q, h, e, one))))
+    below (Right p) f y h = either (ltb m.priority p) (eqb m.priority p && is_y_right m.kind) f
         (λ l. (omega (arith, ltb-true m.priority p l, h), λ e. absurd (omega (arith, ltb-true m.priority p l, h, e, one))))
-        (λ k. let q = eqb-true m.priority p (both (eqb m.priority p) (is_right m.kind) k).0 in (omega (arith, q, h), λ e. absurd (omega (arith, q, h, e, one))))
+        (λ k. let q = eqb-true m.priority p (both (eqb m.priority p) (is_y_right m.kind) k).0 in (omega (arith, q, h), λ e. absurd (omega (arith, q, h, e, one))))
 
 pub right-weakens : (m : Meaning) (bound : Bound) (o : Operator Text) → 1 ≤ m.priority → fits bound m ≡ true → IsAllowed (right_of m) o → IsAllowed bound o
 right-weakens m bound o one fit h = right-cases m
     (λ y e. within bound fit y (subst (λ (b : Bound). IsAllowed b o) e h))
     (λ y e. below bound fit y (let l : o.priority ≤ m.priority - 1 = subst (λ (b : Bound). IsAllowed b o) e h in l))
   where
-    within : (bound : Bound) → fits bound m ≡ true → is_right m.kind ≡ true → IsAllowed (Right m.priority) o → IsAllowed bound o
+    within : (bound : Bound) → fits bound m ≡ true → is_y_right m.kind ≡ true → IsAllowed (Right m.priority) o → IsAllowed bound o
     within (Whole p) f y h = omega (arith, leb-true m.priority p f, h.0)
     within (Operand p) f y h = omega (arith, leb-true m.priority p f, h.0)
-    within (Right p) f y h = either (ltb m.priority p) (eqb m.priority p && is_right m.kind) f
+    within (Right p) f y h = either (ltb m.priority p) (eqb m.priority p && is_y_right m.kind) f
         (λ l. (omega (arith, ltb-true m.priority p l, h.0), λ e. absurd (omega (arith, ltb-true m.priority p l, h.0, e))))
-        (λ k. let q = eqb-true m.priority p (both (eqb m.priority p) (is_right m.kind) k).0 in (omega (arith, q, h.0), λ e. h.1 (omega (arith, q, e))))
-    within (Left p) f y h = either (ltb m.priority p) (eqb m.priority p && is_left m.kind) f
+        (λ k. let q = eqb-true m.priority p (both (eqb m.priority p) (is_y_right m.kind) k).0 in (omega (arith, q, h.0), λ e. h.1 (omega (arith, q, e))))
+    within (Left p) f y h = either (ltb m.priority p) (eqb m.priority p && is_y_left m.kind) f
         (λ l. (omega (arith, ltb-true m.priority p l, h.0), λ e. absurd (omega (arith, ltb-true m.priority p l, h.0, e))))
-        (λ k. absurd (let r : is_left m.kind ≡ true = (both (eqb m.priority p) (is_left m.kind) k).1 in
-        let n : is_right m.kind ≡ false = y-right m.kind ∙ not-both m.kind (sym (y-left m.kind) ∙ r) in let z : true ≡ false = sym y ∙ n in cc))
+        (λ k. absurd (let r : is_y_left m.kind ≡ true = (both (eqb m.priority p) (is_y_left m.kind) k).1 in
+        let n : is_y_right m.kind ≡ false = not-both m.kind r in let z : true ≡ false = sym y ∙ n in cc))
 
-    below : (bound : Bound) → fits bound m ≡ true → is_right m.kind ≡ false → o.priority ≤ m.priority - 1 → IsAllowed bound o
+    below : (bound : Bound) → fits bound m ≡ true → is_y_right m.kind ≡ false → o.priority ≤ m.priority - 1 → IsAllowed bound o
     below (Whole p) f y h = omega (arith, leb-true m.priority p f, h, one)
     below (Operand p) f y h = omega (arith, leb-true m.priority p f, h, one)
-    below (Left p) f y h = either (ltb m.priority p) (eqb m.priority p && is_left m.kind) f
+    below (Left p) f y h = either (ltb m.priority p) (eqb m.priority p && is_y_left m.kind) f
         (λ l. (omega (arith, ltb-true m.priority p l, h), λ e. absurd (omega (arith, ltb-true m.priority p l, h, e, one))))
-        (λ k. let q = eqb-true m.priority p (both (eqb m.priority p) (is_left m.kind) k).0 in (omega (arith, q, h), λ e. absurd (omega (arith, q, h, e, one))))
-    below (Right p) f y h = either (ltb m.priority p) (eqb m.priority p && is_right m.kind) f
+        (λ k. let q = eqb-true m.priority p (both (eqb m.priority p) (is_y_left m.kind) k).0 in (omega (arith, q, h), λ e. absurd (omega (arith, q, h, e, one))))
+    below (Right p) f y h = either (ltb m.priority p) (eqb m.priority p && is_y_right m.kind) f
         (λ l. (omega (arith, ltb-true m.priority p l, h), λ e. absurd (omega (arith, ltb-true m.priority p l, h, e, one))))
-        (λ k. let q = eqb-true m.priority p (both (eqb m.priority p) (is_right m.kind) k).0 in (omega (arith, q, h), λ e. absurd (omega (arith, q, h, e, one))))
+        (λ k. let q = eqb-true m.priority p (both (eqb m.priority p) (is_y_right m.kind) k).0 in (omega (arith, q, h), λ e. absurd (omega (arith, q, h, e, one))))
 
 -- an operator that fits is allowed
 pub fits-allowed : (f : Text) (m : Meaning) (bound : Bound) → fits bound m ≡ true → IsAllowed bound (operator_of f m)
 fits-allowed f m (Whole p) h = leb-true m.priority p h
 fits-allowed f m (Operand p) h = leb-true m.priority p h
-fits-allowed f m (Left p) h = either (ltb m.priority p) (eqb m.priority p && is_left m.kind) h
+fits-allowed f m (Left p) h = either (ltb m.priority p) (eqb m.priority p && is_y_left m.kind) h
     (λ l. (omega (arith, ltb-true m.priority p l), λ e. absurd (let q : m.priority ≡ p = e in omega (arith, ltb-true m.priority p l, q))))
-    (λ k. let b = both (eqb m.priority p) (is_left m.kind) k in (omega (arith, eqb-true m.priority p b.0), λ e. sym (y-left m.kind) ∙ b.1))
-fits-allowed f m (Right p) h = either (ltb m.priority p) (eqb m.priority p && is_right m.kind) h
+    (λ k. let b = both (eqb m.priority p) (is_y_left m.kind) k in (omega (arith, eqb-true m.priority p b.0), λ e. b.1))
+fits-allowed f m (Right p) h = either (ltb m.priority p) (eqb m.priority p && is_y_right m.kind) h
     (λ l. (omega (arith, ltb-true m.priority p l), λ e. absurd (let q : m.priority ≡ p = e in omega (arith, ltb-true m.priority p l, q))))
-    (λ k. let b = both (eqb m.priority p) (is_right m.kind) k in (omega (arith, eqb-true m.priority p b.0), λ e. sym (y-right m.kind) ∙ b.1))
+    (λ k. let b = both (eqb m.priority p) (is_y_right m.kind) k in (omega (arith, eqb-true m.priority p b.0), λ e. b.1))
 
 -- the root
 chosen-left : (l r : Split Text) → (ltb (top l.after) l.root.priority || is_y_right l.root.kind) ≡ true → root_among (Some l) (Some r) ≡ Some l
@@ -203,7 +186,7 @@ module _ (f : Text) (m : Meaning) (one : 1 ≤ m.priority) (xs ys : List (Piece 
   right-test = by_order (top ys) m.priority
       (λ l. or-true-left _ _ (lt-ltb (top ys) m.priority l))
       (λ l. right-cases m
-      (λ y e. or-true-right _ _ (sym (y-right m.kind) ∙ y))
+      (λ y e. or-true-right _ _ y)
       (λ y e. absurd (let k = top-limit (Operand (m.priority - 1)) ys (subst (λ (b : Bound). AllAllowed b ys) e hy) in omega (arith, k, l, one))))
 
   root-first : top xs < m.priority → root whole ≡ Some here
@@ -214,14 +197,14 @@ module _ (f : Text) (m : Meaning) (one : 1 ≤ m.priority) (xs ys : List (Piece 
       ∙ (ap (λ (q : Option (Split Text)). root_among q (rightmost m.priority whole)) l
       ∙ (ap (λ (q : Option (Split Text)). root_among (Some here) q) r.1 ∙ chosen-left here r.0 right-test))
 
-  root-last : is_left m.kind ≡ true → left_of m ≡ Left m.priority → m.priority ≤ top xs → root whole ≡ Some here
+  root-last : is_y_left m.kind ≡ true → left_of m ≡ Left m.priority → m.priority ≤ top xs → root whole ≡ Some here
   root-last y e h =
       let t : top xs ≡ m.priority = omega (arith, top-left, h) in
       let l = leftmost-there m.priority xs t (omega (arith, one)) in
       let s = leftmost-splits m.priority xs l.0 l.1 in
       let more = extended (operator (operator_of f m) ∷ ys) l.0 in
       let lw : leftmost m.priority whole ≡ Some more = leftmost-more m.priority xs (operator (operator_of f m) ∷ ys) l.0 l.1 in
-      let no : is_right m.kind ≡ false = y-right m.kind ∙ not-both m.kind (sym (y-left m.kind) ∙ y) in
+      let no : is_y_right m.kind ≡ false = not-both m.kind y in
       let er : right_of m ≡ Operand (m.priority - 1) = if_false _ _ _ no in
       let less : top ys < m.priority = (let k = top-limit (Operand (m.priority - 1)) ys (subst (λ (b : Bound). AllAllowed b ys) er hy) in omega (arith, k, one)) in
       let rw : rightmost m.priority whole ≡ Some here = rightmost-here xs (operator_of f m) ys less in
@@ -234,7 +217,7 @@ module _ (f : Text) (m : Meaning) (one : 1 ≤ m.priority) (xs ys : List (Piece 
       (λ k. k) in
       ap (λ (n : ℕ). root_among (leftmost n whole) (rightmost n whole)) top-whole
       ∙ (ap (λ (q : Option (Split Text)). root_among q (rightmost m.priority whole)) lw
-      ∙ (ap (λ (q : Option (Split Text)). root_among (Some more) q) rw ∙ chosen-right more here (or-false _ _ not-less not-right) (sym (y-left m.kind) ∙ y)))
+      ∙ (ap (λ (q : Option (Split Text)). root_among (Some more) q) rw ∙ chosen-right more here (or-false _ _ not-less not-right) y))
 
   -- the operator is the root of its row
   pub root-is : root whole ≡ Some here

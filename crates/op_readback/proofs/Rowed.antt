@@ -18,7 +18,7 @@ use Rattle.op_writer.specs.declared.notation.Notation.{Notation}
 use Rattle.op_writer.specs.declared.notation.Notation.TheVariants.{List as Listed, Braces, Infix, Prefix, Postfix, Functional}
 use Rattle.op_writer.specs.Text.{fits, left_of, right_of, notation_of, binary, unary, is_canonical}
 use Rattle.op_readback.specs.Rows.{operator_of, alone, notation_row, row_of, limit}
-use Rattle.op_readback.proofs.Rooted.{AllAllowed, allowed-append, allowed-map, allowed-limit, fits-allowed, left-weakens, right-weakens, left-cases, right-cases, root-is, y-left, y-right}
+use Rattle.op_readback.proofs.Rooted.{AllAllowed, allowed-append, allowed-map, allowed-limit, fits-allowed, left-weakens, right-weakens, left-cases, right-cases, root-is}
 
 abbrev Text : Type 0
 Text = List ℕ
@@ -39,13 +39,13 @@ more (suc k) bound ps =
 
 left-limit : (f : Text) (m : Meaning) → left_bound (operator_of f m) ≡ limit (left_of m)
 left-limit f m = left-cases m
-    (λ y e. if_true _ _ _ (sym (y-left m.kind) ∙ y) ∙ sym (ap limit e))
-    (λ y e. if_false _ _ _ (sym (y-left m.kind) ∙ y) ∙ sym (ap limit e))
+    (λ y e. if_true _ _ _ y ∙ sym (ap limit e))
+    (λ y e. if_false _ _ _ y ∙ sym (ap limit e))
 
 right-limit : (f : Text) (m : Meaning) → right_bound (operator_of f m) ≡ limit (right_of m)
 right-limit f m = right-cases m
-    (λ y e. if_true _ _ _ (sym (y-right m.kind) ∙ y) ∙ sym (ap limit e))
-    (λ y e. if_false _ _ _ (sym (y-right m.kind) ∙ y) ∙ sym (ap limit e))
+    (λ y e. if_true _ _ _ y ∙ sym (ap limit e))
+    (λ y e. if_false _ _ _ y ∙ sym (ap limit e))
 
 -- the tree of a row at its operator
 module _ (f : Text) (m : Meaning) (one : 1 ≤ m.priority) (xs ys : List (Piece Text)) (hx : AllAllowed (left_of m) xs) (hy : AllAllowed (right_of m) ys) where

@@ -18,7 +18,7 @@ use Rattle.op_token.specs.Set.{has, run, begins_with}
 use Rattle.op_token.specs.Class.{class_of}
 use Rattle.op_token.specs.Spelling.{begins, spelled, ends_clause}
 use Rattle.op_token.specs.Tokens.{text_from}
-use Rattle.op_writer.specs.Signs.{is_symbol, is_word, is_small}
+use Rattle.op_base.specs.Characters.{is_symbol, is_word, is_small}
 use Rattle.op_writer.specs.Spelling.{is_symbolic, is_word_name, is_other_token, escaped, quoted}
 use Rattle.op_readback.proofs.Quoting.{quoted-chars, text-chars, and-parts}
 

@@ -16,7 +16,7 @@ use Rattle.op_reader.specs.Words.{AsOperand, functor, prefix, plain, AsOperator,
 use Rattle.op_writer.specs.declared.bound.Bound.{Bound}
 use Rattle.op_writer.specs.declared.edge.Edge.{Edge}
 use Rattle.op_writer.specs.declared.edge.Edge.TheVariants.{Minus}
-use Rattle.op_writer.specs.Signs.{is_symbol, is_word}
+use Rattle.op_base.specs.Characters.{is_symbol, is_word}
 use Rattle.op_writer.specs.Spelling.{is_unquoted, quoted}
 use Rattle.op_writer.specs.Pieces.{edge_of, edge_at, edge_behind, is_apart}
 use Rattle.op_writer.specs.Text.{is_operand}

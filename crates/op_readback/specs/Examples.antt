@@ -8,9 +8,10 @@ use Rattle.op_term.specs.declared.ops.OpKind.TheVariants.{Xfx, Xfy, Yfx, Fy, Fx,
 use Rattle.op_term.specs.Ops.{Table, iso_rows, iso_table, with_op}
 use Rattle.op_reader.specs.Row.{tree_of}
 use Rattle.op_reader.specs.Reading.{term, refused, reading_of}
-use Rattle.op_reader.specs.declared.fault.ReadFaultKind.TheVariants.{NoEnd}
+use Rattle.op_reader.specs.declared.fault.ReadFaultKind.TheVariants.{Token, NoEnd}
+use Rattle.op_token.specs.declared.token.TokenFaultKind.TheVariants.{NumberRange}
 use Rattle.op_reader.specs.declared.quotes.DoubleQuotes.TheVariants.{Codes}
-use Rattle.op_writer.specs.declared.style.Style.TheVariants.{Quoted, Canonical}
+use Rattle.op_writer.specs.declared.style.Style.TheVariants.{Plain, Quoted, Canonical}
 use Rattle.op_writer.specs.Text.{text_of}
 use Rattle.op_readback.specs.ReadBack.{clause_text, IsReadBack}
 
@@ -143,7 +144,7 @@ pub canonical-3 : IsCanonical (node (codes ".") (two (atom (codes "|")) (node (c
 unfolding reading_of tree_of iso_table iso_rows digits chars encode
 canonical-3 = refl
 
--- '$VAR'(1) is written as B, and a variable is read
+-- What the law leaves out is false there. '$VAR'(1) is written as B, and a variable is read
 pub letter : reading_of ops Codes (clause_text ops Quoted (node (codes "$VAR") (one (int (pos 1)))) 1200) ≡ term (var 0) ((codes "B", 0) ∷ []) 3
 unfolding reading_of tree_of iso_table iso_rows digits chars encode
 letter = refl
@@ -152,3 +153,18 @@ letter = refl
 pub no-space : reading_of ops Codes (text_of ops Quoted (atom (codes "+")) 1200 ++ codes ".") ≡ refused 2 NoEnd
 unfolding reading_of tree_of iso_table iso_rows digits chars encode
 no-space = refl
+
+-- the plain style writes the name A without quotes, and a variable is read
+pub plain : reading_of ops Codes (clause_text ops Plain (atom (codes "A")) 1200) ≡ term (var 0) ((codes "A", 0) ∷ []) 3
+unfolding reading_of tree_of iso_table iso_rows digits chars encode
+plain = refl
+
+-- a variable is written as _ with its number, and is read as one that has a name
+pub variable : reading_of ops Codes (clause_text ops Quoted (var 7) 1200) ≡ term (var 0) ((codes "_7", 0) ∷ []) 4
+unfolding reading_of tree_of iso_table iso_rows digits chars encode
+variable = refl
+
+-- an integer past 64 bits is refused
+pub past-64-bits : reading_of ops Codes (clause_text ops Quoted (int (pos 9223372036854775808)) 1200) ≡ refused 0 (Token NumberRange)
+unfolding reading_of tree_of iso_table iso_rows digits chars encode
+past-64-bits = refl

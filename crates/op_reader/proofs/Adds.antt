@@ -5,10 +5,10 @@ use Rattle.std.specs.Option.{option_map, option_and_then}
 use Rattle.std.proofs.lemmas.Bool.{le-leb, leb-true}
 use Rattle.op_logic.specs.Term.{Term}
 use Rattle.op_logic.proofs.Tests.{by_test, if_true, if_false}
-use Rattle.op_term.specs.Ops.{is_prefix, is_postfix}
+use Rattle.op_term.specs.Ops.{is_prefix, is_postfix, is_y_left, is_y_right}
 use Rattle.op_term.specs.declared.ops.OpKind.{OpKind}
 use Rattle.op_term.specs.declared.ops.OpKind.TheVariants.{Xf, Yf}
-use Rattle.op_reader.specs.Row.{Piece, operand, operator, Operator, Split, split_at, top, root, left_bound, right_bound, is_empty, is_y_left, is_y_right, with_one, tree_of}
+use Rattle.op_reader.specs.Row.{Piece, operand, operator, Operator, Split, split_at, top, root, left_bound, right_bound, is_empty, with_one, tree_of}
 use Rattle.op_reader.specs.Spine.{Arm, Spine, ended, under, whole_priority, spine_within, spine_of}
 use Rattle.op_reader.specs.Adding.{added, added_to}
 use Rattle.op_reader.proofs.Splits.{extended}

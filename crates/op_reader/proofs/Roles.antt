@@ -5,10 +5,10 @@ use Rattle.std.proofs.lemmas.Bool.{le-leb, leb-true, eqb-true}
 use Rattle.std.proofs.lemmas.List.{append-nil}
 use Rattle.op_logic.specs.Term.{Term}
 use Rattle.op_logic.proofs.Tests.{by_test, if_true, if_false}
-use Rattle.op_term.specs.Ops.{is_prefix, is_infix, is_postfix}
+use Rattle.op_term.specs.Ops.{is_prefix, is_infix, is_postfix, is_y_left}
 use Rattle.op_term.specs.declared.ops.OpKind.{OpKind}
 use Rattle.op_term.specs.declared.ops.OpKind.TheVariants.{Xfx, Xfy, Yfx, Fy, Fx, Xf, Yf}
-use Rattle.op_reader.specs.Row.{Piece, operand, operator, Operator, split_at, top, left_bound, right_bound, is_empty, is_y_left, with_one, tree_of}
+use Rattle.op_reader.specs.Row.{Piece, operand, operator, Operator, split_at, top, left_bound, right_bound, is_empty, with_one, tree_of}
 use Rattle.op_reader.specs.Spine.{Arm, Spine, ended, under, arms_priority, whole_priority, spine_within, spine_of, spine}
 use Rattle.op_reader.specs.Adding.{whole_term, taken, added_to}
 use Rattle.op_reader.proofs.Roots.{root_splits}

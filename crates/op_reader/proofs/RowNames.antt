@@ -3,8 +3,8 @@ use Rattle.std.proofs.Common.{◌≡◌, ℕ, zero, suc, ◌==◌, Bool, true, f
 use Rattle.std.specs.Option.{option_map, option_and_then}
 use Rattle.std.proofs.lemmas.List.{length-map}
 use Rattle.op_logic.specs.Term.{Term, rename}
-use Rattle.op_term.specs.Ops.{is_prefix, is_postfix}
-use Rattle.op_reader.specs.Row.{Piece, operand, operator, Operator, Split, split_at, behind, top, leftmost, rightmost, root, root_among, joined, left_bound, right_bound, is_y_left, is_y_right, is_empty, with_one, with_two, tree_of, tree}
+use Rattle.op_term.specs.Ops.{is_prefix, is_postfix, is_y_left, is_y_right}
+use Rattle.op_reader.specs.Row.{Piece, operand, operator, Operator, Split, split_at, behind, top, leftmost, rightmost, root, root_among, joined, left_bound, right_bound, is_empty, with_one, with_two, tree_of, tree}
 use Rattle.op_reader.proofs.Splits.{last_of, rightmost_is}
 use Rattle.op_reader.proofs.Spines.{is_single, single_or, tree_step, tree_at}
 

@@ -1,9 +1,8 @@
 -- The tree of a row: operands, with operators before, between and behind them (ISO/IEC 13211-1, 6.3.1 and 6.3.4).
 use Rattle.std.specs.Prelude.{ℕ, zero, suc, ◌-◌, ◌==◌, ◌&&◌, ◌||◌, not, nat_lt, nat_le, max, length, Bool, true, false, if◌then◌else◌, List, [], ◌∷◌, Option, Some, None, option_map, option_and_then}
 use Rattle.op_logic.specs.Term.{Term, node, no_args, arg}
-use Rattle.op_term.specs.Ops.{is_prefix, is_infix, is_postfix}
+use Rattle.op_term.specs.Ops.{is_prefix, is_infix, is_postfix, is_y_left, is_y_right}
 use Rattle.op_term.specs.declared.ops.OpKind.{OpKind}
-use Rattle.op_term.specs.declared.ops.OpKind.TheVariants.{Xfy, Yfx, Fy, Yf}
 
 -- an operator in a row, with a priority from 1 to 1200; its kind says its role
 pub record Operator (N : Type 0) : Type 0 where
@@ -26,17 +25,6 @@ alternates expected (operator o ∷ ps) =
 
 abbrev pub is_row : {N : Type 0} → List (Piece N) → Bool
 is_row ps = alternates true ps
-
--- a `y` on the left, and on the right: an operand of the operator's own priority may stand there
-abbrev pub is_y_left : OpKind → Bool
-is_y_left Yfx = true
-is_y_left Yf = true
-is_y_left _ = false
-
-abbrev pub is_y_right : OpKind → Bool
-is_y_right Xfy = true
-is_y_right Fy = true
-is_y_right _ = false
 
 -- the greatest priority that an operand may have on the left, and on the right
 abbrev pub left_bound : {N : Type 0} → Operator N → ℕ

@@ -1,14 +1,14 @@
 ghost use Rattle.std.specs.Prelude.{◌≡◌, ◌<◌, ◌≤◌, ◌-◌, ◌++◌, ◌∷◌, [], ℕ, List, length, take, true, false, if◌then◌else◌, OnOk, IfOk, IfSome};
 ghost use Rattle.op_logic.specs.Term.{Term as SpecTerm};
-ghost use Rattle.op_term.specs.Ops.{is_prefix, is_infix, is_postfix};
+ghost use Rattle.op_term.specs.Ops.{is_prefix, is_infix, is_postfix, is_y_left, is_y_right};
 ghost use Rattle.op_term.specs.Places.{term_at};
-ghost use Rattle.op_reader.specs.Row.{Piece, operand, operator, is_y_left, is_y_right};
+ghost use Rattle.op_reader.specs.Row.{Piece, operand, operator};
 ghost use Rattle.op_reader.specs.Spine.{whole_priority};
 ghost use Rattle.op_reader.specs.Held.{BranchesBelow};
 ghost use Rattle.op_reader.specs.Adding.{last_is_below, whole_term, spine_at, IsSameTo, IsClosed};
 
 use op_base::Memory;
-use op_term::{Builder, Meaning, OpKind, Sym};
+use op_term::{Builder, Meaning, Sym};
 use std::alloc::Global;
 use std::marker::Model;
 
@@ -40,9 +40,10 @@ pub struct Row {
 fn left_bound(meaning: Meaning) -> u32
     ensures { result ≡ (if is_y_left meaning.kind then meaning.priority else meaning.priority - 1) }
 {
-    match meaning.kind {
-        OpKind::Yfx | OpKind::Yf => meaning.priority,
-        _ => meaning.priority.saturating_sub(1),
+    if meaning.kind.is_y_left() {
+        meaning.priority
+    } else {
+        meaning.priority.saturating_sub(1)
     }
 }
 
@@ -50,9 +51,10 @@ fn left_bound(meaning: Meaning) -> u32
 fn right_bound(meaning: Meaning) -> u32
     ensures { result ≡ (if is_y_right meaning.kind then meaning.priority else meaning.priority - 1) }
 {
-    match meaning.kind {
-        OpKind::Xfy | OpKind::Fy => meaning.priority,
-        _ => meaning.priority.saturating_sub(1),
+    if meaning.kind.is_y_right() {
+        meaning.priority
+    } else {
+        meaning.priority.saturating_sub(1)
     }
 }
 

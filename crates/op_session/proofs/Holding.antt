@@ -146,8 +146,7 @@ rest_open q f = by (last_of q (followed_length q f))
     by : (b : ℕ) × (b ≡ get_or q (length q - 1) b) → IsOpen (rest_in (cut_of q) q)
     by l =
         let two = followed_length q f in
-        let e = cutting.rest_last q l.0 (length q - 1) f (omega arith) l.1 in
-        subst IsOpen (sym e) (cutting.gap_open l.0 (cutting.rest_gap q l.0 f e))
+        cutting.rest_open q l.0 (length q - 1) f (omega arith) l.1
 
 -- a byte could not be kept
 pub breaks_push : (traced : Traced) (a b c : Sight) (n before after byte : ℕ) (p : List ℕ) (feed : Feed) → Holds traced a b n before after p feed → TakesByte b c byte → BreaksOff traced status.Memory a c

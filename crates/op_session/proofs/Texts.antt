@@ -2,9 +2,10 @@
 use Rattle.std.proofs.Common.{◌≡◌, ℕ, zero, suc, ◌+◌, ◌-◌, ◌<◌, ◌≤◌, Bool, true, false, cond, List, [], ◌∷◌, ◌++◌, length, drop, ◌⊎◌, inl, inr, refl, sym, ap, ◌∙◌, subst, arith, zero-add, append_assoc, length-append}
 use Rattle.std.specs.Prelude.{nat_lt}
 use Rattle.std.proofs.lemmas.Bool.Decides.{nat_tests}
+use Rattle.op_base.specs.Characters.{is_layout}
 use Rattle.op_token.specs.declared.piece.Piece.{Piece}
 use Rattle.op_token.specs.declared.piece.Piece.TheVariants.{Text, NoEnd, Empty}
-use Rattle.op_token.specs.Cut.{cut_of, text_in, rest_in, is_text, texts, behind_texts, IsOpen, IsFollowed, IsUnended}
+use Rattle.op_token.specs.Cut.{cut_of, text_in, behind_layout, rest_in, is_text, texts, behind_texts, IsOpen, IsFollowed, IsUnended}
 use Rattle.op_token.specs.Walk.{walked, has_ended}
 use Rattle.op_token.proofs.Cutting as cutting
 use Rattle.op_session.specs.Session.{commands_in, last_text}
@@ -29,11 +30,18 @@ followed_length p f =
     let h = w.0 in
     omega arith
 
-pub rest_length : (p : List ℕ) → IsFollowed p → length (rest_in (cut_of p) p) ≡ 1
+pub rest_length : (p : List ℕ) → IsFollowed p → length (rest_in (cut_of p) p) ≤ 1
 rest_length p f =
     let i = cutting.followed_is (cut_of p) (length p) f in
-    subst (λ x. length (rest_in x p) ≡ 1) (sym i.1.1.0) (drop_one p i.1.0 i.1.1.1)
+    subst (λ x. length (rest_in x p) ≤ 1) (sym i.1.1.0) (left (drop i.1.0 p) (drop_one p i.1.0 i.1.1.1))
   where
+    left : (s : List ℕ) → length s ≡ 1 → length (behind_layout s) ≤ 1
+    left [] h = omega arith
+    left (b ∷ s) h = elim (is_layout b) as (λ c. length (cond c s (b ∷ s)) ≤ 1) [
+      | true ↦ omega (arith, h)
+      | false ↦ omega (arith, h)
+    ]
+
     drop_one : (p : List ℕ) (n : ℕ) → suc n ≡ length p → length (drop n p) ≡ 1
     drop_one [] n h = absurd (omega arith)
     drop_one (x ∷ p) zero h = sym h

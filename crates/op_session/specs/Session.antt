@@ -1,14 +1,12 @@
 -- A session: the texts of the commands, one after the other, and the answer to each over the run's events.
 use Rattle.std.specs.Prelude.{ℕ, zero, suc, ◌-◌, Bool, true, false, List, [], ◌∷◌, ◌++◌, length, codes, decimal, Result, Ok, Err, if◌then◌else◌}
+use Rattle.op_base.specs.Characters.{is_layout}
 use Rattle.op_logic.specs.Term.{Term, node, no_args}
 use Rattle.op_term.specs.Ops.{Table, iso_table}
 use Rattle.op_trace.specs.World.{Text, text_eq, Event}
 use Rattle.op_trace.specs.Run.{events_of}
 use Rattle.op_token.specs.declared.piece.Piece.{Piece}
 use Rattle.op_token.specs.declared.piece.Piece.TheVariants.{NoEnd}
-use Rattle.op_token.specs.declared.kind.Kind.{Kind}
-use Rattle.op_token.specs.declared.kind.Kind.TheVariants.{Newline, Layout}
-use Rattle.op_token.specs.Kind.{kind_of}
 use Rattle.op_token.specs.Cut.{cut_of, texts, behind_texts}
 use Rattle.op_reader.specs.declared.quotes.DoubleQuotes.TheVariants.{Codes}
 use Rattle.op_reader.specs.declared.fault.ReadFaultKind.{ReadFaultKind}
@@ -39,14 +37,9 @@ abbrev pub meaning : List ℕ → Meaning
 meaning text = meaning_of (command_of iso_table Codes text)
 
 -- the bytes from the first one that isn't layout
-abbrev pub is_gap : Kind → Bool
-is_gap Newline = true
-is_gap Layout = true
-is_gap k = false
-
 abbrev pub from_first : List ℕ → List ℕ
 from_first [] = []
-from_first (b ∷ s) = if is_gap (kind_of b) then from_first s else b ∷ s
+from_first (b ∷ s) = if is_layout b then from_first s else b ∷ s
 
 -- a rest that is more than layout and comments is a command too
 abbrev pub last_text : Piece → List ℕ → List (List ℕ)

@@ -10,14 +10,14 @@ ghost use Rattle.op_token.specs.Cut.{IsOpen};
 ghost use Rattle.op_session.specs.Call.{Session, traced_of, channel_limit};
 ghost use Rattle.op_session.specs.Promise.{too_long_line};
 ghost use Rattle.op_session.specs.Progress.{Holds, Goes, Leaves, Ends};
-ghost use Rattle.op_session.specs.Session.{is_gap, from_first as the_first};
-ghost use Rattle.op_token.specs.Kind.{kind_of};
+ghost use Rattle.op_session.specs.Session.{from_first as the_first};
 ghost use Rattle.op_session.specs.Sight.{Sight, sight, Says};
 
 use crate::answer::give_answer;
 use crate::feed::Feed;
 use crate::status::Status;
 use crate::talk::{ended_as, say, take_byte};
+use op_base::characters::is_layout;
 use op_base::{Memory, Steps};
 use op_desk::Desk;
 use op_machine::Machine;
@@ -137,12 +137,6 @@ fn from_first(bytes: &[u8]) -> &[u8]
         }
     }
     &[]
-}
-
-fn is_layout(byte: u8) -> bool
-    ensures { result ≡ is_gap (kind_of byte) }
-{
-    byte == b' ' || (9..=13).contains(&byte)
 }
 
 // A machine before the first turn of a goal's run, which may take `budget` steps, and a store that reads commands.

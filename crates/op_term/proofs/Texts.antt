@@ -1,17 +1,22 @@
 -- The texts of a set of strings.
 use Rattle.std.proofs.Common.{◌≡◌, ℕ, ◌<◌, true, false, cond, List, [], ◌∷◌, ◌++◌, ◌||◌, map, length, get_or, All, Some, String, sym, ◌∙◌, ap, subst, refl, arith, Fits, w8}
-use Rattle.std.specs.Str.{bytes_eq}
+use Rattle.std.specs.Str.{bytes_eq, IsUtf8}
 use Rattle.std.specs.String.{string_bytes, string_eq}
 use Rattle.std.specs.List.{AllZip, list_any, position, position_or_len}
 use Rattle.std.proofs.lemmas.List.{length-map, map-append, get_or_default}
 use Rattle.std.proofs.lemmas.List.Quantifiers.{position-Some}
 use Rattle.std.proofs.lemmas.List.Folds.{list_any_at}
+use Rattle.std.proofs.lemmas.List.Elements.{All-map}
+use Rattle.std.proofs.lemmas.Str.{IsUtf8-string_bytes}
 use Rattle.std.proofs.lemmas.Slice.Eq.{bytes_eq-Decides}
 use Rattle.op_logic.specs.Names.{name_at, with_name, IsTable}
 use Rattle.op_logic.proofs.Naming.{name_at-below, IsTable-push}
 use Rattle.op_logic.proofs.Tests.{if_true, if_false}
 
 module _ {Z : Type 0} where
+  pub are-texts : (ks : List (String Z)) → All IsUtf8 (map (λ k. string_bytes k) ks)
+  are-texts ks = All-map IsUtf8 (λ k. string_bytes k) ks (λ i k l. IsUtf8-string_bytes (get_or ks i k))
+
   pub list_any-texts : (name : List ℕ) (ks : List (String Z)) → list_any (bytes_eq name) (map (λ k. string_bytes k) ks) ≡ list_any (λ k. bytes_eq name (string_bytes k)) ks
   list_any-texts name [] = refl
   list_any-texts name (k ∷ ks) = ap (λ b. bytes_eq name (string_bytes k) || b) (list_any-texts name ks)

@@ -45,6 +45,17 @@ is_infix Xfy = true
 is_infix Yfx = true
 is_infix _ = false
 
+-- the left, or the right, operand is a y: it may have the operator's own priority
+abbrev pub is_y_left : OpKind → Bool
+is_y_left Yfx = true
+is_y_left Yf = true
+is_y_left _ = false
+
+abbrev pub is_y_right : OpKind → Bool
+is_y_right Xfy = true
+is_y_right Fy = true
+is_y_right _ = false
+
 -- a name's meanings with another one in the class of a kind
 abbrev pub changed : OpKind → Option Meaning → Meanings → Meanings
 changed kind m ms =

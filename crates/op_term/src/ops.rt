@@ -1,5 +1,5 @@
 ghost use Rattle.std.specs.Prelude.{◌≡◌, ◌≢◌, IfOk, IfErr, OnOk, OnErr, Ok, Err, fold};
-ghost use Rattle.op_term.specs.Ops.{prefix_in, infix_in, postfix_in, is_prefix as prefix_kind, is_postfix as postfix_kind, is_infix as infix_kind, changed as the_changed, is_reserved as the_reserved, clashes as the_clash, with_op, iso_table, set_in, IsTable};
+ghost use Rattle.op_term.specs.Ops.{prefix_in, infix_in, postfix_in, is_prefix as prefix_kind, is_postfix as postfix_kind, is_infix as infix_kind, is_y_left as y_left, is_y_right as y_right, changed as the_changed, is_reserved as the_reserved, clashes as the_clash, with_op, iso_table, set_in, IsTable};
 ghost use Rattle.op_term.specs.declared.ops.OpFault.TheVariants.{Memory as want_of_memory};
 
 use crate::meanings::MeaningMap;
@@ -47,6 +47,26 @@ impl OpKind {
     {
         match self {
             OpKind::Xfx | OpKind::Xfy | OpKind::Yfx => true,
+            _ => false,
+        }
+    }
+
+    /// Whether its left operand may have its own priority.
+    pub fn is_y_left(self) -> bool
+        ensures { result ≡ y_left self }
+    {
+        match self {
+            OpKind::Yfx | OpKind::Yf => true,
+            _ => false,
+        }
+    }
+
+    /// Whether its right operand may have its own priority.
+    pub fn is_y_right(self) -> bool
+        ensures { result ≡ y_right self }
+    {
+        match self {
+            OpKind::Xfy | OpKind::Fy => true,
             _ => false,
         }
     }

@@ -1,4 +1,4 @@
-ghost use Rattle.std.specs.Prelude.{◌≡◌, ℕ, ◌<◌, List, [], length, take, OnOk, OnErr, IfOk};
+ghost use Rattle.std.specs.Prelude.{◌≡◌, ℕ, ◌<◌, List, [], length, take, OnOk, OnErr, IfOk, All, IsUtf8};
 ghost use Rattle.op_logic.specs.Names.{name_at, with_name, IsTable};
 
 use indexmap::IndexSet;
@@ -43,6 +43,7 @@ impl Symbols {
     pub fn count(&self) -> u64
         ensures count { result ≡ length self.now }
         ensures table { IsTable self.now }
+        ensures texts { All IsUtf8 self.now }
     {
         self.names.len() as u64
     }

@@ -13,8 +13,9 @@ use Rattle.op_token.specs.declared.kind.Mark.TheVariants.{Single, Double}
 use Rattle.op_token.specs.declared.walk.Mode.{Mode}
 use Rattle.op_token.specs.declared.walk.Walk.{Walk}
 use Rattle.op_token.specs.declared.walk.Mode.TheVariants.{Lead, Between, AfterSlash, AfterZero, AfterDot, InLine, InBlock, AfterStar, InQuotes, Escaped, InCode, CodeEscaped, CodeQuote, Ended}
+use Rattle.op_base.specs.Characters.{is_layout}
 use Rattle.op_token.specs.Kind.{kind_of, is_gap}
-use Rattle.op_token.specs.Cut.{spelled, is_followed, ends, end_from, blank_from, piece, cut_from, cut_of, IsFollowed, IsOpen, EndsBefore, IsUnended, IsBehindGap, rest_in, text_in, IsText, is_text, moved, texts, behind_texts}
+use Rattle.op_token.specs.Cut.{spelled, is_followed, ends, end_from, blank_from, piece, cut_from, cut_of, IsFollowed, IsOpen, EndsBefore, IsUnended, IsBehindGap, behind_layout, rest_in, text_in, IsText, is_text, moved, texts, behind_texts}
 use Rattle.op_token.specs.Walk.{piece_in, top_of, next_of, step_of, piece_at, walked, start, has_ended}
 use Rattle.op_token.proofs.Walking.{piece_steps}
 
@@ -268,19 +269,27 @@ text_more p r h =
     range_more : (p r : List ℕ) (f t : ℕ) → f < t → t ≤ length p → slice_range (p ++ r) f t ≡ slice_range p f t
     range_more p r f t h l = let le : f ≤ length p = omega arith in let le2 : t - f ≤ length (drop f p) = omega (arith, length-drop f p) in ap (take (t - f)) (drop-append-le f p r le) ∙ take-append-le (t - f) (drop f p) r le2
 
+behind_layout_more : (s r : List ℕ) → 0 < length s → behind_layout (s ++ r) ≡ behind_layout s ++ r
+behind_layout_more [] r h = absurd (omega arith)
+behind_layout_more (b ∷ s) r h = elim (is_layout b) as (λ c. cond c (s ++ r) (b ∷ s ++ r) ≡ cond c s (b ∷ s) ++ r) [
+  | true ↦ refl
+  | false ↦ refl
+]
+
 pub rest_more : (p r : List ℕ) → IsFollowed p → rest_in (cut_of p) (p ++ r) ≡ rest_in (cut_of p) p ++ r
 rest_more p r h =
     let i = followed_is (cut_of p) (length p) h in
     let w = cut_within p i.0 i.1.0 i.1.1.0 in
-    let g = drop-append-le i.1.0 p r w.1 in
+    let l : 0 < length (drop i.1.0 p) = omega (arith, i.1.1.1, length-drop i.1.0 p) in
+    let g = ap behind_layout (drop-append-le i.1.0 p r w.1) ∙ behind_layout_more (drop i.1.0 p) r l in
     subst (λ x. rest_in x (p ++ r) ≡ rest_in x p ++ r) (sym i.1.1.0) g
 
--- what is left behind a text that is followed is the byte that showed it
-pub rest_last : (p : List ℕ) (b n : ℕ) → IsFollowed p → suc n ≡ length p → b ≡ get_or p n b → rest_in (cut_of p) p ≡ b ∷ []
-rest_last p b n h l g =
+-- behind the end of a text that is followed stands the byte that showed it
+drop_end : (p : List ℕ) (b n : ℕ) (h : IsFollowed p) → suc n ≡ length p → b ≡ get_or p n b → drop (followed_is (cut_of p) (length p) h).1.0 p ≡ b ∷ []
+drop_end p b n h l g =
     let i = followed_is (cut_of p) (length p) h in
     let q : n ≡ i.1.0 = omega (arith, i.1.1.1) in
-    subst (λ x. rest_in x p ≡ b ∷ []) (sym i.1.1.0) (subst (λ n. drop n p ≡ b ∷ []) q (drop_last p b n l g))
+    subst (λ n. drop n p ≡ b ∷ []) q (drop_last p b n l g)
   where
     drop_last : (p : List ℕ) (b n : ℕ) → suc n ≡ length p → b ≡ get_or p n b → drop n p ≡ b ∷ []
     drop_last [] b n l g = cc
@@ -288,21 +297,33 @@ rest_last p b n h l g =
     drop_last (x ∷ y ∷ p) b zero l g = absurd (omega arith)
     drop_last (x ∷ p) b (suc n) l g = drop_last p b n (omega arith) g
 
-pub rest_gap : (p : List ℕ) (b : ℕ) → IsFollowed p → rest_in (cut_of p) p ≡ b ∷ [] → is_gap (kind_of b) ≡ true
-rest_gap p b h e =
+pub rest_last : (p : List ℕ) (b n : ℕ) → IsFollowed p → suc n ≡ length p → b ≡ get_or p n b → rest_in (cut_of p) p ≡ behind_layout (b ∷ [])
+rest_last p b n h l g =
     let i = followed_is (cut_of p) (length p) h in
-    let g = cut_behind p i.0 i.1.0 i.1.1.0 in
-    let d : drop i.1.0 p ≡ b ∷ [] = subst (λ x. rest_in x p ≡ b ∷ []) i.1.1.0 e in
-    subst (λ s. IsBehindGap s) d g
+    subst (λ x. rest_in x p ≡ behind_layout (b ∷ [])) (sym i.1.1.0) (ap behind_layout (drop_end p b n h l g))
 
-pub gap_open : (b : ℕ) → is_gap (kind_of b) ≡ true → IsOpen (b ∷ [])
-gap_open b h = kind_open (kind_of b) h
+-- that byte is layout or %
+pub last_gap : (p : List ℕ) (b n : ℕ) → IsFollowed p → suc n ≡ length p → b ≡ get_or p n b → is_gap (kind_of b) ≡ true
+last_gap p b n h l g =
+    let i = followed_is (cut_of p) (length p) h in
+    subst (λ s. IsBehindGap s) (drop_end p b n h l g) (cut_behind p i.0 i.1.0 i.1.1.0)
+
+-- what is left of it has no end
+gap_open : (b : ℕ) → is_gap (kind_of b) ≡ true → IsOpen (behind_layout (b ∷ []))
+gap_open b h = elim (is_layout b) as (λ c. IsOpen (cond c [] (b ∷ []))) [
+  | true ↦ tt
+  | false ↦ kind_open (kind_of b) h
+]
   where
     kind_open : (k : Kind) → is_gap k ≡ true → IsUnended (cut_from 0 (k ∷ [])) 1
     kind_open Newline h = tt
     kind_open Layout h = tt
     kind_open Percent h = tt
     kind_open k h = cc
+
+-- so what is left behind a text that is followed has no end
+pub rest_open : (p : List ℕ) (b n : ℕ) → IsFollowed p → suc n ≡ length p → b ≡ get_or p n b → IsOpen (rest_in (cut_of p) p)
+rest_open p b n h l g = subst IsOpen (sym (rest_last p b n h l g)) (gap_open b (last_gap p b n h l g))
 
 -- what a push says
 pub push_says : (p : List ℕ) (b : ℕ) (r : Bool) → IsOpen p → r ≡ has_ended (walked (p ++ b ∷ [])).mode → (IsTrue r ↔ IsFollowed (p ++ b ∷ [])) × OnFalse r (IsOpen (p ++ b ∷ []))

@@ -2,6 +2,7 @@
 -- whole spellings, from the first byte that isn't layout. Of each byte only its kind counts.
 use Rattle.std.specs.Prelude.{◌≡◌, slice_range, drop, ℕ, zero, suc, Bool, true, false, List, [], ◌∷◌, map, Option, Some, None, unwrap_or, length, if◌then◌else◌}
 use Rattle.std.specs.Option.{option_map, option_map_or}
+use Rattle.op_base.specs.Characters.{is_layout}
 use Rattle.op_token.specs.declared.piece.Piece.{Piece}
 use Rattle.op_token.specs.declared.piece.Piece.TheVariants.{Text, NoEnd, Empty}
 use Rattle.op_token.specs.declared.kind.Kind.{Kind}
@@ -99,9 +100,14 @@ abbrev pub text_in : Piece → List ℕ → List ℕ
 text_in (Text from end) bytes = slice_range bytes from end
 text_in p bytes = []
 
--- what is behind the text
+-- the layout byte behind a text's end is taken too; a % there begins what follows
+abbrev pub behind_layout : List ℕ → List ℕ
+behind_layout [] = []
+behind_layout (b ∷ s) = if is_layout b then s else b ∷ s
+
+-- what is left behind the text
 abbrev pub rest_in : Piece → List ℕ → List ℕ
-rest_in (Text from end) bytes = drop end bytes
+rest_in (Text from end) bytes = behind_layout (drop end bytes)
 rest_in p bytes = bytes
 
 abbrev pub IsText : Piece → Type 0

@@ -1,8 +1,8 @@
 ghost use Rattle.std.specs.Prelude.{◌≡◌};
 ghost use Rattle.op_token.specs.Class.{class_of as the_class, mark_of as the_mark};
 
-use crate::set::Set;
 use crate::token::TokenKind;
+use op_base::characters::{is_capital, is_digit, is_layout, is_small, is_symbol};
 
 /// What a byte may begin.
 #[derive(Clone, Copy)]
@@ -30,15 +30,15 @@ impl Class {
     pub fn of(byte: u8) -> Class
         ensures { result ≡ the_class byte }
     {
-        if byte == b' ' || (byte >= 9 && byte <= 13) {
+        if is_layout(byte) {
             Class::Layout
         } else if byte == b'%' {
             Class::Percent
-        } else if byte >= b'a' && byte <= b'z' {
+        } else if is_small(byte) {
             Class::Small
-        } else if (byte >= b'A' && byte <= b'Z') || byte == b'_' {
+        } else if is_capital(byte) || byte == b'_' {
             Class::Capital
-        } else if byte >= b'0' && byte <= b'9' {
+        } else if is_digit(byte) {
             Class::Digit
         } else if byte == b'\'' {
             Class::SingleQuote
@@ -48,7 +48,7 @@ impl Class {
             Class::Slash
         } else if byte == b'.' {
             Class::Dot
-        } else if Set::Symbol.has(byte) {
+        } else if is_symbol(byte) {
             Class::Symbol
         } else if byte == b'!' || byte == b';' {
             Class::Solo

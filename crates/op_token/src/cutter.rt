@@ -6,6 +6,7 @@ use crate::kind::Kind;
 use crate::piece::Piece;
 use crate::walk::Walk;
 use op_base::Memory;
+use op_base::characters::is_layout;
 use std::alloc::Global;
 use std::marker::Model;
 
@@ -79,7 +80,8 @@ impl Cutter {
         }
     }
 
-    /// Goes on behind the text that ended. The byte that showed its end is the first of what follows.
+    /// Goes on behind the text that ended. The byte that showed its end is taken with it where it is layout; a `%` is the first byte
+    /// of what follows.
     pub fn restart(&mut self)
         requires { IsFollowed self.old }
         ensures rest { self.new ≡ rest_in (cut_of self.old) self.old }
@@ -87,9 +89,14 @@ impl Cutter {
     {
         let last = self.bytes.len() - 1;
         let byte = self.bytes[last];
-        self.bytes[0] = byte;
-        self.bytes.truncate(1);
-        self.walk = Walk::new().step(Kind::of(byte));
+        if is_layout(byte) {
+            self.bytes.clear();
+            self.walk = Walk::new();
+        } else {
+            self.bytes[0] = byte;
+            self.bytes.truncate(1);
+            self.walk = Walk::new().step(Kind::of(byte));
+        }
     }
 }
 

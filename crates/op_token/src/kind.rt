@@ -1,5 +1,7 @@
 ghost use Rattle.std.specs.Prelude.{◌≡◌};
-ghost use Rattle.op_token.specs.Kind.{kind_of as the_kind, is_layout as the_layout, is_letter as the_letter, is_sign as the_sign, is_word as word_kind, is_symbol as symbol_kind, is_gap as gap_kind};
+ghost use Rattle.op_token.specs.Kind.{kind_of as the_kind, is_word as word_kind, is_symbol as symbol_kind, is_gap as gap_kind};
+
+use op_base::characters::{is_layout, is_symbol, is_word};
 
 /// The two bytes that enclose quoted text.
 #[derive(Clone, Copy)]
@@ -28,39 +30,6 @@ pub enum Kind {
     Other,
 }
 
-fn is_layout(byte: u8) -> bool
-    ensures { result ≡ the_layout byte }
-{
-    byte == b' ' || byte == b'\t' || byte == b'\r' || byte == 11 || byte == 12
-}
-
-fn is_letter(byte: u8) -> bool
-    ensures { result ≡ the_letter byte }
-{
-    (byte >= b'a' && byte <= b'z')
-        || (byte >= b'A' && byte <= b'Z')
-        || (byte >= b'1' && byte <= b'9')
-        || byte == b'_'
-}
-
-fn is_sign(byte: u8) -> bool
-    ensures { result ≡ the_sign byte }
-{
-    byte == b'+'
-        || byte == b'-'
-        || byte == b'^'
-        || byte == b'<'
-        || byte == b'>'
-        || byte == b'='
-        || byte == b'~'
-        || byte == b':'
-        || byte == b'?'
-        || byte == b'@'
-        || byte == b'#'
-        || byte == b'&'
-        || byte == b'$'
-}
-
 impl Kind {
     /// The kind of a byte.
     pub fn of(byte: u8) -> Kind
@@ -86,9 +55,9 @@ impl Kind {
             Kind::Quote(Mark::Double)
         } else if byte == b'0' {
             Kind::Zero
-        } else if is_letter(byte) {
+        } else if is_word(byte) {
             Kind::Word
-        } else if is_sign(byte) {
+        } else if is_symbol(byte) {
             Kind::Sign
         } else {
             Kind::Other

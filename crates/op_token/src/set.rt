@@ -1,6 +1,8 @@
 ghost use Rattle.std.specs.Prelude.{◌≡◌, ◌+◌, ◌≤◌, length};
 ghost use Rattle.op_token.specs.Set.{has as the_has, run as the_run};
 
+use op_base::characters::{is_digit, is_symbol, is_word};
+
 /// A set of bytes of which spellings have runs.
 #[derive(Clone, Copy)]
 pub enum Set {
@@ -21,11 +23,9 @@ impl Set {
         match self {
             Set::Word => is_word(byte),
             Set::Symbol => is_symbol(byte),
-            Set::Decimal => byte >= b'0' && byte <= b'9',
+            Set::Decimal => is_digit(byte),
             Set::Hexadecimal => {
-                (byte >= b'0' && byte <= b'9')
-                    || (byte >= b'a' && byte <= b'f')
-                    || (byte >= b'A' && byte <= b'F')
+                is_digit(byte) || (byte >= b'a' && byte <= b'f') || (byte >= b'A' && byte <= b'F')
             }
             Set::Octal => byte >= b'0' && byte <= b'7',
             Set::Binary => byte >= b'0' && byte <= b'1',
@@ -44,35 +44,4 @@ impl Set {
         }
         rest.len()
     }
-}
-
-fn is_word(byte: u8) -> bool
-    ensures { result ≡ the_has Set.Word byte }
-{
-    (byte >= b'a' && byte <= b'z')
-        || (byte >= b'A' && byte <= b'Z')
-        || (byte >= b'0' && byte <= b'9')
-        || byte == b'_'
-}
-
-fn is_symbol(byte: u8) -> bool
-    ensures { result ≡ the_has Set.Symbol byte }
-{
-    byte == b'+'
-        || byte == b'-'
-        || byte == b'*'
-        || byte == b'/'
-        || byte == b'\\'
-        || byte == b'^'
-        || byte == b'<'
-        || byte == b'>'
-        || byte == b'='
-        || byte == b'~'
-        || byte == b':'
-        || byte == b'.'
-        || byte == b'?'
-        || byte == b'@'
-        || byte == b'#'
-        || byte == b'&'
-        || byte == b'$'
 }

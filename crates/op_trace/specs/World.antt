@@ -89,7 +89,8 @@ abbrev pub has_head : Term Text → Term Text → Bool
 has_head (node f ts) (node g us) = text_eq f g && (arity ts == arity us)
 has_head _ _ = false
 
--- the clauses of a goal's procedure, in order: those whose head has its name and arity
+-- the clauses of a goal's procedure, in order: those whose head has its name and arity. That a goal which has no procedure fails is
+-- provisional: its error (ISO/IEC 13211-1, 7.7.7) comes with exceptions
 abbrev pub procedure : List Clause → Term Text → List Clause
 procedure cs g = filter (λ (c : Clause). has_head g c.head) cs
 

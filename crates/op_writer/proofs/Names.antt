@@ -1,7 +1,7 @@
 -- Names that are not empty.
 use Rattle.std.proofs.Common.{◌≡◌, ◌<◌, ℕ, ◌&&◌, List, [], ◌∷◌, length, drop, get_or, refl, arith}
 use Rattle.std.specs.List.{list_all}
-use Rattle.op_writer.specs.Signs.{is_symbol, is_word, is_small}
+use Rattle.op_base.specs.Characters.{is_symbol, is_word, is_small}
 use Rattle.op_writer.specs.Spelling.{is_symbolic, is_word_name}
 
 pub symbolic-some : (name : List ℕ) → 0 < length name → list_all is_symbol name ≡ is_symbolic name

@@ -1,4 +1,3 @@
-pub mod Signs
 pub mod Spelling
 pub mod Pieces
 pub mod Text

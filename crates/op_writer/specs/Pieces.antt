@@ -1,7 +1,7 @@
 -- The pieces of a text, and the spaces between them.
 use Rattle.std.specs.Prelude.{ℕ, ◌-◌, ◌==◌, ◌||◌, Bool, false, List, [], ◌∷◌, ◌++◌, length, slice_get, if◌then◌else◌, codes, bytes_eq}
 use Rattle.std.specs.Option.{option_map_or}
-use Rattle.op_writer.specs.Signs.{is_symbol, is_word, is_digit}
+use Rattle.op_base.specs.Characters.{is_symbol, is_word, is_digit}
 use Rattle.op_writer.specs.declared.edge.Edge.{Edge}
 use Rattle.op_writer.specs.declared.edge.Edge.TheVariants.{Other, Word, Symbol, Prefix, Minus}
 

@@ -1,8 +1,8 @@
 -- How a name is spelt (ISO/IEC 13211-1, 6.4.2).
-use Rattle.std.specs.Prelude.{ℕ, ◌+◌, ◌/◌, ◌%◌, Bool, false, not, ◌||◌, ◌&&◌, ◌==◌, nat_lt, List, [], ◌∷◌, ◌++◌, take, if◌then◌else◌, codes, bytes_eq, encode_utf8}
+use Rattle.std.specs.Prelude.{ℕ, ◌+◌, ◌/◌, ◌%◌, Bool, false, not, ◌||◌, ◌&&◌, ◌==◌, nat_le, nat_lt, List, [], ◌∷◌, ◌++◌, take, if◌then◌else◌, codes, bytes_eq, encode_utf8}
 use Rattle.std.specs.List.{list_all, flat_map}
 use Rattle.std.specs.Str.{chars}
-use Rattle.op_writer.specs.Signs.{is_symbol, is_word, is_small, is_control}
+use Rattle.op_base.specs.Characters.{is_symbol, is_word, is_small}
 use Rattle.op_writer.specs.declared.style.Style.{Style}
 use Rattle.op_writer.specs.declared.style.Style.TheVariants.{Plain, Quoted, Canonical}
 
@@ -27,6 +27,10 @@ is_other_token name = bytes_eq name (codes ".") || bytes_eq (take 2 name) (codes
 -- a name that needs no quotes
 abbrev pub is_unquoted : List ℕ → Bool
 is_unquoted name = is_word_name name || is_solo name || (is_symbolic name && not (is_other_token name))
+
+-- a control character: U+0000 to U+001F and U+007F to U+009F
+abbrev pub is_control : ℕ → Bool
+is_control c = nat_lt c 32 || (nat_le 127 c && nat_lt c 160)
 
 -- a digit to base 16
 abbrev pub digit : ℕ → ℕ

@@ -3,10 +3,8 @@
 use Rattle.std.specs.Prelude.{ℕ, pos, ◌≤◌, ◌+◌, ◌-◌, ◌/◌, ◌%◌, ◌==◌, ◌||◌, ◌&&◌, nat_lt, nat_le, Bool, true, false, not, List, [], ◌∷◌, ◌++◌, if◌then◌else◌, Option, Some, None, is_some, codes, bytes_eq, decimal}
 use Rattle.std.specs.Fmt.{signed_decimal}
 use Rattle.op_logic.specs.Term.{Term, var, int, node, Args, no_args, arg, arity}
-use Rattle.op_term.specs.declared.ops.OpKind.{OpKind}
-use Rattle.op_term.specs.declared.ops.OpKind.TheVariants.{Xfy, Yfx, Fy, Yf}
 use Rattle.op_term.specs.declared.ops.Meaning.{Meaning}
-use Rattle.op_term.specs.Ops.{Table, prefix_in, infix_in, postfix_in}
+use Rattle.op_term.specs.Ops.{Table, prefix_in, infix_in, postfix_in, is_y_left, is_y_right}
 use Rattle.op_writer.specs.declared.style.Style.{Style}
 use Rattle.op_writer.specs.declared.style.Style.TheVariants.{Canonical}
 use Rattle.op_writer.specs.declared.bound.Bound.{Bound}
@@ -19,28 +17,18 @@ use Rattle.op_writer.specs.Pieces.{Piece, plain, prefix_operator, spaced}
 
 -- whether a term whose operator has this priority and kind stands without brackets where a bound is: of equal priority alone on the left
 -- side where both are yfx or yf, and on the right side where both are xfy or fy
-abbrev pub is_left : OpKind → Bool
-is_left Yfx = true
-is_left Yf = true
-is_left _ = false
-
-abbrev pub is_right : OpKind → Bool
-is_right Xfy = true
-is_right Fy = true
-is_right _ = false
-
 abbrev pub fits : Bound → Meaning → Bool
 fits (Whole p) m = nat_le m.priority p
 fits (Operand p) m = nat_le m.priority p
-fits (Left p) m = nat_lt m.priority p || (m.priority == p && is_left m.kind)
-fits (Right p) m = nat_lt m.priority p || (m.priority == p && is_right m.kind)
+fits (Left p) m = nat_lt m.priority p || (m.priority == p && is_y_left m.kind)
+fits (Right p) m = nat_lt m.priority p || (m.priority == p && is_y_right m.kind)
 
 -- the bounds of an operator's operands
 abbrev pub left_of : Meaning → Bound
-left_of m = if is_left m.kind then Left m.priority else Operand (m.priority - 1)
+left_of m = if is_y_left m.kind then Left m.priority else Operand (m.priority - 1)
 
 abbrev pub right_of : Meaning → Bound
-right_of m = if is_right m.kind then Right m.priority else Operand (m.priority - 1)
+right_of m = if is_y_right m.kind then Right m.priority else Operand (m.priority - 1)
 
 abbrev pub is_operand : Bound → Bool
 is_operand (Whole p) = false

@@ -1,7 +1,7 @@
 ghost use Rattle.std.specs.Prelude.{◌≡◌, ◌≤◌, not, if◌then◌else◌};
-ghost use Rattle.op_writer.specs.Text.{fits as the_fit, is_left as the_left, is_right as the_right, left_of, right_of, is_operand as operand};
+ghost use Rattle.op_writer.specs.Text.{fits as the_fit, left_of, right_of, is_operand as operand};
 
-use op_term::{Meaning, OpKind};
+use op_term::Meaning;
 
 /// The greatest priority of a term where it stands: as a whole, an argument or an element; as an operand; and as the left or right
 /// operand of an operator that may have an operand of its own priority there.
@@ -11,24 +11,6 @@ pub enum Bound {
     Operand(u32),
     Left(u32),
     Right(u32),
-}
-
-fn is_left(kind: OpKind) -> bool
-    ensures { result ≡ the_left kind }
-{
-    match kind {
-        OpKind::Yfx | OpKind::Yf => true,
-        _ => false,
-    }
-}
-
-fn is_right(kind: OpKind) -> bool
-    ensures { result ≡ the_right kind }
-{
-    match kind {
-        OpKind::Xfy | OpKind::Fy => true,
-        _ => false,
-    }
 }
 
 impl Bound {
@@ -48,7 +30,7 @@ impl Bound {
         requires { 1 ≤ m.priority }
         ensures { result ≡ left_of m }
     {
-        if is_left(m.kind) {
+        if m.kind.is_y_left() {
             Bound::Left(m.priority)
         } else {
             Bound::Operand(m.priority - 1)
@@ -60,7 +42,7 @@ impl Bound {
         requires { 1 ≤ m.priority }
         ensures { result ≡ right_of m }
     {
-        if is_right(m.kind) {
+        if m.kind.is_y_right() {
             Bound::Right(m.priority)
         } else {
             Bound::Operand(m.priority - 1)
@@ -73,8 +55,8 @@ impl Bound {
     {
         match self {
             Bound::Whole(p) | Bound::Operand(p) => m.priority <= p,
-            Bound::Left(p) => m.priority < p || (m.priority == p && is_left(m.kind)),
-            Bound::Right(p) => m.priority < p || (m.priority == p && is_right(m.kind)),
+            Bound::Left(p) => m.priority < p || (m.priority == p && m.kind.is_y_left()),
+            Bound::Right(p) => m.priority < p || (m.priority == p && m.kind.is_y_right()),
         }
     }
 

@@ -1,7 +1,7 @@
 ghost use Rattle.std.specs.Prelude.{◌≡◌, if◌then◌else◌};
 ghost use Rattle.op_writer.specs.Pieces.{edge_at, edge_of, prefix_edge, is_apart as apart};
 
-use crate::signs::{is_digit, is_symbol, is_word};
+use op_base::characters::{is_digit, is_symbol, is_word};
 
 /// What a text ends with: a letter, a digit or `_`; a symbol character; a prefix operator of symbol characters; the prefix operator `-`.
 #[derive(Clone, Copy)]

@@ -12,7 +12,6 @@ mod item;
 mod notation;
 mod rest;
 mod setting;
-mod signs;
 mod spelling;
 mod stack;
 mod style;

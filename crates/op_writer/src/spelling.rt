@@ -1,13 +1,13 @@
 ghost use Rattle.std.specs.Prelude.{◌≡◌, ◌<◌, ◌≤◌, ◌++◌, OnOk, codes, bytes_eq, take, true, false, length};
 ghost use Rattle.std.specs.List.{list_all};
 ghost use Rattle.op_writer.specs.Cut.{front_of};
-ghost use Rattle.op_writer.specs.Signs.{is_symbol as symbol, is_word as word};
-ghost use Rattle.op_writer.specs.Spelling.{is_symbolic as symbolic, is_word_name as word_name, is_solo as solo, is_unquoted as unquoted, hexadecimal, escaped, quoted, digit as hexadecimal_digit, name_text};
+ghost use Rattle.op_base.specs.Characters.{is_symbol as symbol, is_word as word};
+ghost use Rattle.op_writer.specs.Spelling.{is_symbolic as symbolic, is_word_name as word_name, is_solo as solo, is_unquoted as unquoted, is_control as control, hexadecimal, escaped, quoted, digit as hexadecimal_digit, name_text};
 
 use crate::front::Front;
-use crate::signs::{is_control, is_small, is_symbol, is_word};
 use crate::style::Style;
 use op_base::Memory;
+use op_base::characters::{is_small, is_symbol, is_word};
 use op_desk::Bytes;
 use std::alloc::Global;
 
@@ -67,6 +67,14 @@ pub fn has_quotes(style: Style, name: &str) -> bool
         Style::Plain => false,
         _ => !is_unquoted(name),
     }
+}
+
+// A control character.
+fn is_control(c: char) -> bool
+    ensures { result ≡ control c }
+{
+    let code = c as u32;
+    code < 32 || (code >= 127 && code < 160)
 }
 
 fn digit(d: u32) -> u8
