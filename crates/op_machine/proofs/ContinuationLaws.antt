@@ -7,7 +7,7 @@ use Rattle.op_trace.specs.World.{head_number}
 use Rattle.op_machine.specs.declared.continuations.Item.{Item}
 use Rattle.op_machine.specs.declared.continuations.Item.TheVariants as item
 use Rattle.op_machine.specs.declared.continuations.Cell.{Cell}
-use Rattle.op_machine.specs.Continuations.{continuation_in, only_empty, continuations_after, continuations_of, opened, AreLinked, Begins}
+use Rattle.op_machine.specs.inner.Continuations.{continuation_in, only_empty, continuations_after, continuations_of, opened, AreLinked, Begins}
 
 abbrev pub joined : List (List Item) → Cell → List (List Item)
 joined L c = L ++ (c.item ∷ continuation_in L c.rest) ∷ []

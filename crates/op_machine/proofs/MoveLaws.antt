@@ -9,8 +9,8 @@ use Rattle.op_trace.specs.World.{Text, text_eq, Clause, World, Setup, same_barri
 use Rattle.op_trace.specs.Visit.{Verdict, Failed, CutTo, Stopped, Spent, Visited, gives, with_turns, and_then, event_of, with_event, pays, reaches, cut, shows, Control, TrueGoal, FailGoal, CutGoal, Conjunction, Disjunction, IfThenElse, BoxedGoal, control, entered, Choice, Redo, Branch, More, Fail, Condition, matched, tries, alternatives, branches, after, boxed, selected, solved, visit, visit_with}
 use Rattle.op_trace.proofs.Agree.{visit_rows}
 use Rattle.op_trace.proofs.Only.{Only, visit-only}
-use Rattle.op_machine.specs.Resume.{resume, keep, with_more, State, Forward, Backward, Over, owed, Moved, silent, paid, invoked, chosen, met, tried, branched, at_solution, move, world_of}
-use Rattle.op_machine.specs.Scope.{Behind, InStep}
+use Rattle.op_machine.specs.Resume.{resume, keep, with_more, State, Forward, Backward, Over, owed, Moved, silent, paid, invoked, chosen, head_unified, tried, branched, at_solution, move, world_of}
+use Rattle.op_machine.specs.inner.Barriers.{Behind, InStep}
 
 -- a walk that leads to another, and then to a third
 pub and_then-assoc : (v : Visited) (h i : Verdict → World → Visited)
@@ -90,7 +90,7 @@ paid-row true s n w h m K e = e
 paid-row false s n w h m K e = resume-Spent s K _
 
 pub matched-row : (s : Setup) (c : Clause) (k : ℕ) (g : Term Text) (J : List Item) (w : World) (o : Option (Result Text)) (K : List Choice)
-    → and_then (matched (visit s) s c k g J w o) (resume s K) ≡ comes s (met s c k g J K w o)
+    → and_then (matched (visit s) s c k g J w o) (resume s K) ≡ comes s (head_unified s c k g J K w o)
 unfolding owed
 matched-row s c k g J w None K = resume-Spent s K _
 matched-row s c k g J w (Some (None, left)) K = refl
@@ -105,7 +105,7 @@ tried-row s c k g σ J w K =
     let pairs : World → List (Term Text × Term Text) = λ u. (g, shift u.variables c.head) ∷ [] in
     paid-row (nat_le (w.steps + 1) s.budget) s 1 w
     (λ u. matched (visit s) s c k g J u (unify text_eq (s.budget - u.steps) σ ((g, shift u.variables c.head) ∷ [])))
-    (λ u. met s c k g J K u (unify text_eq (s.budget - u.steps) σ ((g, shift u.variables c.head) ∷ []))) K
+    (λ u. head_unified s c k g J K u (unify text_eq (s.budget - u.steps) σ ((g, shift u.variables c.head) ∷ []))) K
     (matched-row s c k g J (record w { steps = w.steps + 1 }) (unify text_eq (s.budget - (w.steps + 1)) σ ((g, shift w.variables c.head) ∷ [])) K)
 
 -- a walk whose row makes a choice point

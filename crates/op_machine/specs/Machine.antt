@@ -5,7 +5,7 @@ use Rattle.op_trace.specs.Run.{Run, ran}
 use Rattle.op_trace.specs.Ending as ending
 use Rattle.op_machine.specs.declared.continuations.Item.{Item}
 use Rattle.op_frames.specs.Frames.{Framed}
-use Rattle.op_machine.specs.declared.held.Held.{Held}
+use Rattle.op_machine.specs.declared.choice_points.Held.{Held}
 use Rattle.op_machine.specs.declared.core_state.Core.{Core}
 use Rattle.op_machine.specs.declared.core_state.Mode.{Mode}
 use Rattle.op_machine.specs.declared.core_state.Seen.{Seen}
@@ -18,7 +18,8 @@ use Rattle.op_machine.specs.declared.turn.Turn.TheVariants as turn
 use Rattle.op_store.specs.Stored.{Stored}
 use Rattle.op_machine.specs.Program.{clauses}
 use Rattle.op_bind.specs.State as bind
-use Rattle.op_machine.specs.Core.{IsSeen, Level, level_of, bindings_in, state_with, event_seen}
+use Rattle.op_machine.specs.Meaning.{Level, level_of, bindings_in, state_with, event_seen}
+use Rattle.op_machine.specs.inner.Invariant.{IsSeen}
 use Rattle.op_machine.specs.Resume.{State, owed}
 
 -- what a caller sees of what a machine keeps: but the last event, no turn that was or is to come is among it

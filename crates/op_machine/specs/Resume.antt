@@ -99,16 +99,16 @@ chosen (Disjunction a b) t m J K σ w = silent (Forward (Goal a m ∷ J) (Branch
 chosen (IfThenElse c a b) t m J K σ w = if_then_else_chosen c a b m J K σ w
 chosen BoxedGoal t m J K σ w = invoked t J K σ w
 
-abbrev pub met : Setup → Clause → ℕ → Term Text → List Item → List Choice → World → Option (Result Text) → Moved
-met s c k g J K w None = silent (Over Spent (record w { steps = s.budget }))
-met s c k g J K w (Some (None, left)) = silent (Backward K (record w { steps = s.budget - left }))
-met s c k g J K w (Some (Some τ, left)) =
+abbrev pub head_unified : Setup → Clause → ℕ → Term Text → List Item → List Choice → World → Option (Result Text) → Moved
+head_unified s c k g J K w None = silent (Over Spent (record w { steps = s.budget }))
+head_unified s c k g J K w (Some (None, left)) = silent (Backward K (record w { steps = s.budget - left }))
+head_unified s c k g J K w (Some (Some τ, left)) =
     pay s c.variables (record w { steps = s.budget - left }) (λ u. silent (Forward (entered w.variables c k g J) K τ (record u { variables = u.variables + c.variables })))
 
 -- a clause is tried, with these choice points below it
 abbrev pub tried : Setup → Clause → ℕ → Term Text → Bindings Text → List Item → List Choice → World → Moved
 tried s c k g σ J K w =
-    pay s 1 w (λ u. met s c k g J K u (unify text_eq (s.budget - u.steps) σ ((g, shift u.variables c.head) ∷ [])))
+    pay s 1 w (λ u. head_unified s c k g J K u (unify text_eq (s.budget - u.steps) σ ((g, shift u.variables c.head) ∷ [])))
 
 abbrev pub at_solution : Setup → List Choice → Bindings Text → World → Moved
 at_solution s K σ w =

@@ -4,7 +4,7 @@ use Rattle.op_logic.specs.Names.{named, HaveNames}
 use Rattle.op_bind.specs.State.{State, resolved, value_of}
 use Rattle.op_trace.specs.World.{Event}
 use Rattle.op_machine.specs.declared.core_state.Seen.{Seen}
-use Rattle.op_machine.specs.Core.{IsGoal, AreValues}
+use Rattle.op_machine.specs.inner.Invariant.{IsGoal, AreValues}
 
 -- an event that is shown, with the bindings and the names of its moment
 pub record Showing : Type 0 where

@@ -41,7 +41,7 @@ impl Model for Machine {
     ghost view = { λ m. kept_of m.core m.last m.faulted };
 
     ghost use Rattle.std.specs.Prelude.{◌≡◌, false};
-    ghost use Rattle.op_machine.specs.Core.{IsSound};
+    ghost use Rattle.op_machine.specs.inner.Invariant.{IsSound};
     ghost use Rattle.op_machine.specs.Machine.{CanLook};
 
     ghost invariant = { λ m. m.faulted ≡ false → IsSound m.core × CanLook m.last m.core };

@@ -3,7 +3,7 @@ ghost use Rattle.op_logic.specs.Term.{var};
 ghost use Rattle.op_logic.specs.Names.{named, HasNames, HaveNames};
 ghost use Rattle.op_term.specs.Places.{term_at};
 ghost use Rattle.op_bind.specs.State.{value_of, resolved};
-ghost use Rattle.op_machine.specs.Core.{IsGoal, AreValues};
+ghost use Rattle.op_machine.specs.inner.Invariant.{IsGoal, AreValues};
 
 use crate::core_state::Seen;
 use op_bind::{Bindings, Ref};

@@ -1,5 +1,5 @@
 use Rattle.std.proofs.Common.{◌≡◌, ◌≤◌, length, take, reverse}
-use Rattle.op_machine.specs.Kept.{keep_frames}
+use Rattle.op_machine.specs.inner.Cuts.{keep_frames}
 use Rattle.op_machine.proofs.choice_points.kept_by.Given as goal
 
 -- the choice points behind the first n are dropped

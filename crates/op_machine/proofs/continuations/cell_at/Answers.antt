@@ -1,6 +1,6 @@
 use Rattle.std.proofs.Common.{arith, subst, sym, ◌≡◌, ℕ, []}
 use Rattle.op_machine.specs.declared.continuations.Cell.{Cell}
-use Rattle.op_machine.specs.Continuations.{continuation_in, continuations_of, Begins}
+use Rattle.op_machine.specs.inner.Continuations.{continuation_in, continuations_of, Begins}
 use Rattle.op_machine.proofs.ContinuationLaws.{length_continuations_of, first_list, continuation_begins}
 use Rattle.op_machine.proofs.continuations.cell_at.Goals as goal
 

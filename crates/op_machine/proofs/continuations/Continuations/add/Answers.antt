@@ -1,7 +1,7 @@
 use Rattle.std.proofs.Common.{◌<◌, List, [], ◌∷◌, ◌++◌, length, ap, sym, ◌∙◌, subst, arith}
 use Rattle.op_machine.specs.declared.continuations.Item.{Item}
 use Rattle.op_machine.specs.declared.continuations.Cell.{Cell}
-use Rattle.op_machine.specs.Continuations.{continuation_in, continuations_of, only_empty, AreLinked}
+use Rattle.op_machine.specs.inner.Continuations.{continuation_in, continuations_of, only_empty, AreLinked}
 use Rattle.op_machine.proofs.ContinuationLaws.{AreLinked-push, continuations_after-push, length_continuations_of}
 use Rattle.op_machine.proofs.continuations.Continuations.add.Goals as goal
 

@@ -1,7 +1,7 @@
 use Rattle.std.proofs.Common.{◌-◌, ◌≤◌, length, List, take, sym, ◌∙◌, ap, subst}
 use Rattle.op_machine.specs.declared.continuations.Item.{Item}
 use Rattle.op_machine.specs.declared.continuations.Cell.{Cell}
-use Rattle.op_machine.specs.Continuations.{AreLinked, only_empty, continuations_of}
+use Rattle.op_machine.specs.inner.Continuations.{AreLinked, only_empty, continuations_of}
 use Rattle.op_machine.proofs.ContinuationLaws.{continuations-cut, linked-cut}
 use Rattle.op_machine.proofs.continuations.Continuations.cut.Goals as goal
 

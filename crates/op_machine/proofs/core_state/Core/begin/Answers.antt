@@ -1,7 +1,7 @@
 use Rattle.std.proofs.Common.{length, refl}
 use Rattle.op_machine.specs.declared.core_state.Core.{Core}
-use Rattle.op_machine.specs.declared.parts.Parts.{Parts}
-use Rattle.op_machine.proofs.Beginning.{core_of, first-core, first-begun, first-sound}
+use Rattle.op_machine.specs.declared.start.Parts.{Parts}
+use Rattle.op_machine.proofs.StartLaws.{core_of, first-core, first-begun, first-sound}
 use Rattle.op_machine.proofs.core_state.Core.begin.Goals as goal
 
 pub returns-clause-begun : goal.returns-clause-begun

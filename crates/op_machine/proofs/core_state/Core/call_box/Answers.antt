@@ -1,12 +1,12 @@
 use Rattle.std.proofs.Common.{◌+◌, refl, sym, subst, arith}
 use Rattle.op_frames.specs.Frames.{Framed}
 use Rattle.op_frames.specs.declared.boxes.BoxFrame.{BoxFrame}
-use Rattle.op_machine.specs.declared.held.Held.{Held}
+use Rattle.op_machine.specs.declared.choice_points.Held.{Held}
 use Rattle.op_machine.specs.declared.core_state.Core.{Core}
-use Rattle.op_machine.specs.Core.{IsGood}
-use Rattle.op_machine.specs.Boxes.{IsCalled}
-use Rattle.op_machine.proofs.Boxing.{pushed-called}
-use Rattle.op_machine.proofs.Adding.{called-good}
+use Rattle.op_machine.specs.inner.Invariant.{IsGood}
+use Rattle.op_machine.specs.inner.Boxes.{IsCalled}
+use Rattle.op_machine.proofs.BoxLaws.{pushed-called}
+use Rattle.op_machine.proofs.InvariantLaws.{called-good}
 use Rattle.op_machine.proofs.core_state.Core.call_box.Goals as goal
 
 pub push_box-requires : goal.push_box-requires

@@ -1,10 +1,10 @@
 use Rattle.std.proofs.Common.{◌≡◌, List, reverse, take, ap, ◌∙◌, subst, refl}
 use Rattle.op_frames.specs.Frames.{Framed}
 use Rattle.op_machine.specs.declared.core_state.Core.{Core}
-use Rattle.op_machine.specs.declared.held.Held.{Held}
-use Rattle.op_machine.specs.Core.{Frame}
-use Rattle.op_machine.specs.Kept.{keep_frames}
-use Rattle.op_machine.proofs.Keeping.{cut_moved-choice_points, cut_moved-good}
+use Rattle.op_machine.specs.declared.choice_points.Held.{Held}
+use Rattle.op_machine.specs.Meaning.{Frame}
+use Rattle.op_machine.specs.inner.Cuts.{keep_frames}
+use Rattle.op_machine.proofs.CutLaws.{cut_moved-choice_points, cut_moved-good}
 use Rattle.op_machine.proofs.core_state.Core.make_cut.Goals as goal
 
 pub returns-clause-choices : goal.returns-clause-choices

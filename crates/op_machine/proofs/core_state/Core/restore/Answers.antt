@@ -1,6 +1,6 @@
 use Rattle.std.proofs.Common.{◌≡◌, ℕ, ◌+◌, ◌<◌, subst}
 use Rattle.op_frames.specs.Frames.{Framed, open_from}
-use Rattle.op_machine.specs.declared.held.Held.{Held}
+use Rattle.op_machine.specs.declared.choice_points.Held.{Held}
 use Rattle.op_machine.specs.declared.core_state.Core.{Core}
 use Rattle.op_machine.proofs.core_state.Core.restore.Goals as goal
 

@@ -1,8 +1,8 @@
 use Rattle.std.proofs.Common.{refl, subst}
 use Rattle.op_frames.specs.declared.choice.ChoiceKind.{ChoiceKind}
 use Rattle.op_machine.specs.declared.core_state.Core.{Core}
-use Rattle.op_machine.specs.Boxes.{IsTried}
-use Rattle.op_machine.proofs.Boxing.{called-along}
+use Rattle.op_machine.specs.inner.Boxes.{IsTried}
+use Rattle.op_machine.proofs.BoxLaws.{called-along}
 use Rattle.op_machine.proofs.core_state.Core.resume.Goals as goal
 
 pub go_on-requires-clause-called : goal.go_on-requires-clause-called

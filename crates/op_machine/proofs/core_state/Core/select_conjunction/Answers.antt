@@ -1,7 +1,7 @@
 use Rattle.std.proofs.Common.{length, sym, subst}
 use Rattle.op_machine.specs.declared.core_state.Core.{Core}
-use Rattle.op_machine.specs.Core.{IsGoal}
-use Rattle.op_machine.proofs.Splitting.{argument-goal, select_conjunction-advances}
+use Rattle.op_machine.specs.inner.Invariant.{IsGoal}
+use Rattle.op_machine.proofs.GoalArguments.{argument-goal, select_conjunction-advances}
 use Rattle.op_machine.proofs.core_state.Core.select_conjunction.Goals as goal
 
 pub add-requires-clause-item : goal.add-requires-clause-item

@@ -1,5 +1,5 @@
 use Rattle.std.proofs.Common.{length}
-use Rattle.op_machine.proofs.Splitting.{argument-goal}
+use Rattle.op_machine.proofs.GoalArguments.{argument-goal}
 use Rattle.op_machine.proofs.core_state.Core.select_if_then.Goals as goal
 
 pub select_if_then_else-requires-clause-condition : goal.select_if_then_else-requires-clause-condition

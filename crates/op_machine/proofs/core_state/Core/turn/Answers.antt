@@ -1,8 +1,8 @@
 use Rattle.std.proofs.Common.{refl, subst}
 use Rattle.op_machine.specs.declared.core_state.Step.{Step}
 use Rattle.op_machine.specs.declared.core_state.Step.TheVariants as step
-use Rattle.op_machine.specs.Rows.{Advances}
-use Rattle.op_machine.proofs.Turning.{moved_from, ended-at, walked-on, showed-on, lighter-on}
+use Rattle.op_machine.specs.inner.Moves.{Advances}
+use Rattle.op_machine.proofs.TurnLaws.{moved_from, ended-at, walked-on, showed-on, lighter-on}
 use Rattle.op_machine.proofs.core_state.Core.turn.Goals as goal
 
 pub returns-in-Over-clause-turned : goal.returns-in-Over-clause-turned

@@ -1,7 +1,7 @@
 use Rattle.std.proofs.Common.{Bool, false, sym, subst}
 use Rattle.op_machine.specs.declared.turn.Last.{Last}
 use Rattle.op_machine.specs.Machine.{Kept, kept_of, Answers}
-use Rattle.op_machine.proofs.Answering.{turned-answers}
+use Rattle.op_machine.proofs.AnswerLaws.{turned-answers}
 use Rattle.op_machine.proofs.machine.Machine.next.Goals as goal
 
 pub returns-in-Ok-clause-answers : goal.returns-in-Ok-clause-answers

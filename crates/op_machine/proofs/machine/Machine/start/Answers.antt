@@ -1,6 +1,6 @@
 use Rattle.std.proofs.Common.{false}
 use Rattle.op_machine.specs.declared.turn.Last.TheVariants as last
-use Rattle.op_machine.proofs.Answering.{begun-run}
+use Rattle.op_machine.proofs.AnswerLaws.{begun-run}
 use Rattle.op_machine.proofs.machine.Machine.start.Goals as goal
 
 pub returns-clause-run : goal.returns-clause-run

@@ -5,7 +5,7 @@ use Rattle.op_logic.proofs.Having.{apply-names}
 use Rattle.op_term.specs.Places.{term_at}
 use Rattle.op_bind.specs.State.{value_of}
 use Rattle.op_machine.specs.View.{Solving}
-use Rattle.op_machine.proofs.Valuing.{value-at, values-length}
+use Rattle.op_machine.proofs.NamedVariables.{value-at, values-length}
 use Rattle.op_machine.proofs.view.SolutionView.value.Goals as goal
 
 pub ref_at-requires : goal.ref_at-requires
