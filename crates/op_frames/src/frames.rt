@@ -47,7 +47,9 @@ impl<T: Drop> Frames<T> {
         mark: Mark,
     ) -> Result<(), Memory>
         requires rises { All (λ (b : BoxFrame). b.number < number) self.old.boxes }
-        ensures ok { OnOk result (self.new ≡ record self.old { boxes = self.old.boxes ++ record { number = number; parent = parent; goal = goal; mark = mark } ∷ [] }) }
+        ensures ok { OnOk result (self.new ≡ record self.old {
+          boxes = self.old.boxes ++ record { number = number; parent = parent; goal = goal; mark = mark } ∷ [];
+        }) }
         ensures err { OnErr result (self.new ≡ self.old) }
     {
         self.boxes.push(BoxFrame {

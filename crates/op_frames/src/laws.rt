@@ -6,11 +6,13 @@ ghost use Rattle.op_frames.specs.Frames.{open_from, AreRising};
 
 /// A box that is pushed comes before its parent and the boxes around it, and the chain of a lesser number stays.
 pub fn chains_grow()
-    ensures begins { (B : List BoxFrame) (b : BoxFrame) → 0 < b.number → open_from (B ++ b ∷ []) b.number ≡ (b.number, b.goal) ∷ open_from B b.parent }
+    ensures begins { (B : List BoxFrame) (b : BoxFrame) → 0 < b.number → open_from (B ++ b ∷ []) b.number
+        ≡ (b.number, b.goal) ∷ open_from B b.parent }
     ensures stays { (B : List BoxFrame) (b : BoxFrame) (n : ℕ) → n < b.number → open_from (B ++ b ∷ []) n ≡ open_from B n }
 {}
 
 /// The chain of a number stays where boxes of greater numbers are dropped.
 pub fn chains_stay()
-    ensures { (B : List BoxFrame) (d n : ℕ) → AreRising B → n < d → open_from (filter (λ (b : BoxFrame). nat_lt b.number d) B) n ≡ open_from B n }
+    ensures { (B : List BoxFrame) (d n : ℕ) → AreRising B → n < d → open_from (filter (λ (b : BoxFrame). nat_lt b.number d) B) n
+        ≡ open_from B n }
 {}

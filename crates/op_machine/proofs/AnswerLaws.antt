@@ -20,7 +20,8 @@ use Rattle.op_machine.specs.Machine.{kept_of, to_come, only_ending, ending_for, 
 use Rattle.op_machine.specs.inner.Turns.{Turned, IsBegun}
 
 -- at the top a cut is an end without alternatives
-ended : (ts : List Turn) (r : Verdict) (w : World) → ran (with_turns ts (at_top r w)) ≡ record { turns = ts; ending = ending_of r; world = w }
+ended : (ts : List Turn) (r : Verdict) (w : World) → ran (with_turns ts (at_top r w))
+    ≡ record { turns = ts; ending = ending_of r; world = w }
 ended ts Failed w = ap (λ (x : List Turn). record { turns = x; ending = ending.Failed; world = w }) (append-nil ts)
 ended ts (CutTo m) w = ap (λ (x : List Turn). record { turns = x; ending = ending.Failed; world = w }) (append-nil ts)
 ended ts Stopped w = ap (λ (x : List Turn). record { turns = x; ending = ending.Stopped; world = w }) (append-nil ts)
@@ -30,7 +31,8 @@ resume-none : (s : Setup) (v : Visited) → ran (and_then v (resume s [])) ≡ r
 unfolding resume
 resume-none s v = ended v.turns v.verdict v.world
 
-pub begun-run : (t : Stored) (g : Term ℕ) (n : ℕ) (names : List (List ℕ × ℕ)) (b w : ℕ) (c : Core) (l : Last) (f : Bool) → IsBegun t g n names b w c
+pub begun-run : (t : Stored) (g : Term ℕ) (n : ℕ) (names : List (List ℕ × ℕ)) (b w : ℕ) (c : Core) (l : Last) (f : Bool)
+    → IsBegun t g n names b w c
     → to_come (kept_of c l f) ≡ run (record { budget = b; wanted = w }) (goal_named t g) n (loaded (clauses t))
 unfolding to_come owed
 begun-run t g n names b w c l f h =
@@ -47,8 +49,16 @@ ending-same outcome.Spent = refl
 only-ending : (e : Ending) (w : World) → ran (gives (verdict_of e) w) ≡ only_ending e w
 only-ending e w = ap (λ (x : ending.Ending). record { turns = []; ending = x; world = w }) (ending-same e)
 
-pub turned-answers : (old new : Core) (l : Last) (f : Bool) (t : declared.Turn) → Turned old new t → Answers t (kept_of old l f) (kept_of new (last_after t) false)
+pub turned-answers : (old new : Core) (l : Last) (f : Bool) (t : declared.Turn) → Turned old new t
+    → Answers t (kept_of old l f) (kept_of new (last_after t) false)
 unfolding to_come
 turned-answers old new l f turn.Event h = (ap ran h.0.owed, refl, h.0.count)
 turned-answers old new l f turn.Solution h = (ap ran h.owed, refl, h.count)
-turned-answers old new l f (turn.Ended e) h = (ap ran h.owed ∙ only-ending e (world_in new), sym (ap ran h.walked.owed), refl, refl, h.walked.count)
+turned-answers old new l f (turn.Ended e) h = (
+  ap ran h.owed
+      ∙ only-ending e (world_in new),
+  sym (ap ran h.walked.owed),
+  refl,
+  refl,
+  h.walked.count,
+)

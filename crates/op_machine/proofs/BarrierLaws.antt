@@ -1,13 +1,16 @@
 -- Each move keeps barriers and choice points in step.
-use Rattle.std.proofs.Common.{◌≡◌, inl, inr, ℕ, ◌+◌, ◌-◌, ◌<◌, ◌≤◌, ◌==◌, nat_le, Bool, true, false, List, [], ◌∷◌, Option, Some, None, refl, sym, ap, ◌∙◌, subst, arith, if◌then◌else◌}
+use Rattle.std.proofs.Common.{◌≡◌, inl, inr, ℕ, ◌+◌, ◌-◌, ◌<◌, ◌≤◌, ◌==◌, nat_le, Bool, true, false, List, [], ◌∷◌, Option, Some, None}
+use Rattle.std.proofs.Common.{refl, sym, ap, ◌∙◌, subst, arith, if◌then◌else◌}
 use Rattle.std.proofs.lemmas.Bool.Decides.{nat_tests}
 use Rattle.op_logic.specs.Term.{Term, shift}
 use Rattle.op_logic.specs.Bind.{Bindings, Solved as Result}
 use Rattle.op_trace.specs.declared.barrier.Barrier.{Barrier}
 use Rattle.op_trace.specs.declared.barrier.Barrier.TheVariants.{Call, InCondition, AtSuccess}
 use Rattle.op_trace.specs.World.{Text, Clause, World, Setup, Item, Goal, Cut, Exit, Has, procedure}
-use Rattle.op_trace.specs.Visit.{Stopped, Control, TrueGoal, FailGoal, CutGoal, Conjunction, Disjunction, IfThenElse, BoxedGoal, control, is_true, entered, Choice, Redo, Branch, More, Fail, Condition}
-use Rattle.op_machine.specs.Resume.{stays, goes, keep, with_more, State, Forward, Backward, Over, Moved, paid, chosen, head_unified, tried, branched, move}
+use Rattle.op_trace.specs.Visit.{Stopped, Control, TrueGoal, FailGoal, CutGoal, Conjunction, Disjunction, IfThenElse, BoxedGoal, control}
+use Rattle.op_trace.specs.Visit.{is_true, entered, Choice, Redo, Branch, More, Fail, Condition}
+use Rattle.op_machine.specs.Resume.{stays, goes, keep, with_more, State, Forward, Backward, Over, Moved, paid, chosen, head_unified, tried}
+use Rattle.op_machine.specs.Resume.{branched, move}
 use Rattle.op_machine.specs.inner.Barriers.{Behind, Scoped, IsGiven, IsGoalBarrier, AreGiven, AreScoped, InStep}
 
 -- no choice point is dropped as the last by a cut of a goal
@@ -60,7 +63,8 @@ goal-given c d (AtSuccess n) h = absurd h
 
 pub has-given : (c d : ℕ) (I : List Item) (m : Barrier) → AreGiven c d I → Has m I → IsGiven c d m
 has-given c d [] m a h = absurd h
-has-given c d (Goal t b ∷ J) m a h = elim h [ inl e ↦ subst (IsGiven c d) (sym e) (goal-given c d b a.0) | inr r ↦ has-given c d J m a.1 r ]
+has-given c d (Goal t b ∷ J) m a h =
+    elim h [ inl e ↦ subst (IsGiven c d) (sym e) (goal-given c d b a.0) | inr r ↦ has-given c d J m a.1 r ]
 has-given c d (Cut b ∷ J) m a h = elim h [ inl e ↦ subst (IsGiven c d) (sym e) a.0 | inr r ↦ has-given c d J m a.1 r ]
 has-given c d (Exit k g ∷ J) m a h = has-given c d J m a h
 
@@ -108,7 +112,8 @@ keep-fresh c d k (Call m) g σ J K low high =
 keep-fresh c d k (InCondition m) g σ J K low high = refl
 keep-fresh c d k (AtSuccess m) g σ J K low high = refl
 
-pub keep-own : (k : ℕ) (g : Term Text) (σ : Bindings Text) (J : List Item) (K : List Choice) → keep (Call k) (Fail k g σ J ∷ K) ≡ Fail k g σ J ∷ K
+pub keep-own : (k : ℕ) (g : Term Text) (σ : Bindings Text) (J : List Item) (K : List Choice) → keep (Call k) (Fail k g σ J ∷ K)
+    ≡ Fail k g σ J ∷ K
 keep-own k g σ J K =
     let e : (k == k) ≡ true = grind (arith, nat_tests) in
     ap (λ (b : Bool). if b then Fail k g σ J ∷ K else keep (Call k) K) e
@@ -130,7 +135,8 @@ keep-within n b t σ J K =
     let e : (n == n) ≡ true = grind (arith, nat_tests) in
     ap (λ (a : Bool). if a then Condition n t b σ J ∷ K else keep (InCondition n) K) e
 
-pub keep-past : (n : ℕ) (b : Barrier) (t : Term Text) (σ : Bindings Text) (J : List Item) (K : List Choice) → keep (AtSuccess n) (Condition n t b σ J ∷ K) ≡ K
+pub keep-past : (n : ℕ) (b : Barrier) (t : Term Text) (σ : Bindings Text) (J : List Item) (K : List Choice)
+    → keep (AtSuccess n) (Condition n t b σ J ∷ K) ≡ K
 keep-past n b t σ J K =
     let e : (n == n) ≡ true = grind (arith, nat_tests) in
     ap (λ (a : Bool). if a then K else keep (AtSuccess n) K) e
@@ -141,7 +147,8 @@ more-scoped c d [] k g σ J K own s h a all = all
 more-scoped c d (x ∷ cs) k g σ J K own s h a all = ((own, s, h, a), all)
 
 -- the goals of a conjunction, or a branch, with the barrier of the whole
-pub again-behind : (c d : ℕ) (m : Barrier) (K : List Choice) (t : Term Text) (J : List Item) → IsGoalBarrier c d m → Behind m K J → Behind m K (Goal t m ∷ J)
+pub again-behind : (c d : ℕ) (m : Barrier) (K : List Choice) (t : Term Text) (J : List Item) → IsGoalBarrier c d m → Behind m K J
+    → Behind m K (Goal t m ∷ J)
 again-behind c d m K t J h b n has =
     elim has [ inl e ↦ subst (λ (i : Barrier). keep i (keep m K) ≡ keep i K) (sym e) (keep-keep c d m K h) | inr r ↦ b n r ]
 
@@ -170,7 +177,8 @@ chosen-in_step (IfThenElse c x y) t m J K σ w b s h a all =
     let more : w.conditions ≤ w.conditions + 1 = omega arith in
     let fresh : w.conditions < n = omega arith in
     let last : n ≤ n = omega arith in
-    let given : AreGiven w.calls (w.conditions + 1) (Goal x m ∷ J) = given-more w.calls w.conditions w.calls (w.conditions + 1) same more (Goal x m ∷ J) (h, a) in (
+    let given : AreGiven w.calls (w.conditions + 1) (Goal x m ∷ J) =
+    given-more w.calls w.conditions w.calls (w.conditions + 1) same more (Goal x m ∷ J) (h, a) in (
       if_then_else_chosen-scoped w.calls w.conditions n c x y m σ J K h a fresh (b, s),
       (last, (last, given)),
       (((b, s), given), scoped-more w.calls w.conditions w.calls (w.conditions + 1) same more K all),
@@ -183,11 +191,13 @@ chosen-in_step BoxedGoal t m J K σ w b s h a all =
     let fresh : w.calls < k = omega arith in
     let given : AreGiven (w.calls + 1) w.conditions J = given-more w.calls w.conditions (w.calls + 1) w.conditions more same J a in
     more-scoped (w.calls + 1) w.conditions (procedure w.clauses t) k t σ J L (keep-own k t σ J K)
-    (scoped-along K L J (λ n has. keep-fresh w.calls w.conditions k n t σ J K (has-given w.calls w.conditions J n a has) fresh) s) (omega arith) given
+    (scoped-along K L J (λ n has. keep-fresh w.calls w.conditions k n t σ J K (has-given w.calls w.conditions J n a has) fresh) s)
+    (omega arith) given
     (tt, scoped-more w.calls w.conditions (w.calls + 1) w.conditions more same K all)
 
 pub entered-in_step : (f : ℕ) (c : Clause) (k : ℕ) (g : Term Text) (J : List Item) (L : List Choice) (τ : Bindings Text) (u : World)
-    → ((n : Barrier) → Has n J → keep n (keep (Call k) L) ≡ keep n L) → Scoped L J → k ≤ u.calls → AreGiven u.calls u.conditions J → AreScoped u.calls u.conditions L
+    → ((n : Barrier) → Has n J → keep n (keep (Call k) L) ≡ keep n L) → Scoped L J → k ≤ u.calls → AreGiven u.calls u.conditions J
+    → AreScoped u.calls u.conditions L
     → InStep (Forward (entered f c k g J) L τ u)
 entered-in_step f c k g J L τ u b s h a all = go (is_true c.body)
   where
@@ -195,20 +205,24 @@ entered-in_step f c k g J L τ u b s h a all = go (is_true c.body)
     go true = (s, a, all)
     go false = ((b, s), (h, a), all)
 
-pub paid-in_step : (t : Bool) (s : Setup) (n : ℕ) (w : World) (h : World → Moved) → InStep (h (record w { steps = w.steps + n })).state → InStep (paid t s n w h).state
+pub paid-in_step : (t : Bool) (s : Setup) (n : ℕ) (w : World) (h : World → Moved) → InStep (h (record w { steps = w.steps + n })).state
+    → InStep (paid t s n w h).state
 paid-in_step true s n w h i = i
 paid-in_step false s n w h i = tt
 
 pub met-in_step : (s : Setup) (c : Clause) (k : ℕ) (g : Term Text) (J : List Item) (L : List Choice) (w : World) (o : Option (Result Text))
-    → ((n : Barrier) → Has n J → keep n (keep (Call k) L) ≡ keep n L) → Scoped L J → k ≤ w.calls → AreGiven w.calls w.conditions J → AreScoped w.calls w.conditions L
+    → ((n : Barrier) → Has n J → keep n (keep (Call k) L) ≡ keep n L) → Scoped L J → k ≤ w.calls → AreGiven w.calls w.conditions J
+    → AreScoped w.calls w.conditions L
     → InStep (head_unified s c k g J L w o).state
 met-in_step s c k g J L w None b sc h a all = tt
 met-in_step s c k g J L w (Some (None, left)) b sc h a all = all
 met-in_step s c k g J L w (Some (Some τ, left)) b sc h a all =
     paid-in_step (nat_le (s.budget - left + c.variables) s.budget) s c.variables (record w { steps = s.budget - left }) _
-    (entered-in_step w.variables c k g J L τ (record w { steps = s.budget - left + c.variables; variables = w.variables + c.variables }) b sc h a all)
+    (entered-in_step w.variables c k g J L τ (record w { steps = s.budget - left + c.variables; variables = w.variables + c.variables })
+    b sc h a all)
 
-pub tried-in_step : (s : Setup) (c : Clause) (cs : List Clause) (k : ℕ) (g : Term Text) (σ : Bindings Text) (J : List Item) (K : List Choice) (w : World)
+pub tried-in_step : (s : Setup) (c : Clause) (cs : List Clause) (k : ℕ) (g : Term Text) (σ : Bindings Text) (J : List Item)
+    (K : List Choice) (w : World)
     → keep (Call k) K ≡ K → Scoped K J → k ≤ w.calls → AreGiven w.calls w.conditions J → AreScoped w.calls w.conditions K
     → InStep (tried s c k g σ J (with_more cs k g σ J K) w).state
 tried-in_step s c cs k g σ J K w own sc h a all =
@@ -219,13 +233,15 @@ tried-in_step s c cs k g σ J K w own sc h a all =
     (scoped-along K L J (λ n has. keep-with_more n cs k g σ J K) sc) h a (more-scoped w.calls w.conditions cs k g σ J K own sc h a all))
 
 pub branched-in_step : (s : Setup) (t : Term Text) (m : Barrier) (σ : Bindings Text) (J : List Item) (K : List Choice) (w : World)
-    → Scoped K (Goal t m ∷ J) → AreGiven w.calls w.conditions (Goal t m ∷ J) → AreScoped w.calls w.conditions K → InStep (branched s t m σ J K w).state
+    → Scoped K (Goal t m ∷ J) → AreGiven w.calls w.conditions (Goal t m ∷ J) → AreScoped w.calls w.conditions K
+    → InStep (branched s t m σ J K w).state
 branched-in_step s t m σ J K w sc a all = paid-in_step (nat_le (w.steps + 1) s.budget) s 1 w _ (sc, a, all)
 
 pub move-in_step : (s : Setup) (t : State) → InStep t → InStep (move s t).state
 move-in_step s (Forward [] K σ w) h = go (w.solutions + 1 == s.wanted)
   where
-    go : (b : Bool) → InStep (if b then Over Stopped (record w { solutions = w.solutions + 1 }) else Backward K (record w { solutions = w.solutions + 1 }))
+    go : (b : Bool) → InStep (if b then Over Stopped (record w { solutions = w.solutions + 1 }) else Backward K
+        (record w { solutions = w.solutions + 1 }))
     go true = tt
     go false = h.2
 move-in_step s (Forward (Exit k g ∷ J) K σ w) h =

@@ -1,14 +1,17 @@
 -- Each move keeps the bounds on what a machine counts.
-use Rattle.std.proofs.Common.{◌≡◌, ℕ, suc, ◌+◌, ◌-◌, ◌*◌, ◌^◌, ◌<◌, ◌≤◌, ◌==◌, nat_le, Bool, true, false, List, [], ◌∷◌, length, Option, Some, None, refl, subst, arith, if◌then◌else◌}
+use Rattle.std.proofs.Common.{◌≡◌, ℕ, suc, ◌+◌, ◌-◌, ◌*◌, ◌^◌, ◌<◌, ◌≤◌, ◌==◌, nat_le, Bool, true, false, List, [], ◌∷◌, length, Option}
+use Rattle.std.proofs.Common.{Some, None, refl, subst, arith, if◌then◌else◌}
 use Rattle.std.proofs.lemmas.Bool.Decides.{nat_tests}
 use Rattle.op_logic.specs.Term.{Term, shift}
 use Rattle.op_logic.specs.Bind.{Bindings, solve, unify, Solved as Result}
 use Rattle.op_trace.specs.declared.barrier.Barrier.{Barrier}
 use Rattle.op_trace.specs.declared.barrier.Barrier.TheVariants.{Call}
 use Rattle.op_trace.specs.World.{Text, text_eq, Clause, World, Setup, Item, Goal, Cut, Exit, open_boxes, procedure}
-use Rattle.op_trace.specs.Visit.{Stopped, Control, TrueGoal, FailGoal, CutGoal, Conjunction, Disjunction, IfThenElse, BoxedGoal, control, is_true, entered, Choice, Redo, Branch, More, Fail, Condition}
+use Rattle.op_trace.specs.Visit.{Stopped, Control, TrueGoal, FailGoal, CutGoal, Conjunction, Disjunction, IfThenElse, BoxedGoal, control}
+use Rattle.op_trace.specs.Visit.{is_true, entered, Choice, Redo, Branch, More, Fail, Condition}
 use Rattle.op_trace.proofs.Later.{IsLess, within-less}
-use Rattle.op_machine.specs.Resume.{stays, goes, keep, with_more, State, Forward, Backward, Over, Moved, paid, chosen, head_unified, tried, branched, move}
+use Rattle.op_machine.specs.Resume.{stays, goes, keep, with_more, State, Forward, Backward, Over, Moved, paid, chosen, head_unified, tried}
+use Rattle.op_machine.specs.Resume.{branched, move}
 use Rattle.op_machine.specs.inner.Bounds.{pending, IsNested, AreNested, event_bound, Counts, Counted}
 
 -- the bound rises with the steps
@@ -87,20 +90,26 @@ pub paid-counted : (t : Bool) (s : Setup) (n : ℕ) (w : World) (h : World → M
     → Counted s (paid t s n w h).state
 paid-counted true s n w h test c e q k = let fits : w.steps + n ≤ s.budget = grind (arith, nat_tests) in k fits
 paid-counted false s n w h test c e q k =
-    let more : event_bound w.steps ≤ event_bound s.budget = bound-same w.steps s.budget c.steps in
-    (record { steps = omega arith; calls = omega (arith, c.steps, c.calls); conditions = omega (arith, c.steps, c.conditions) }, omega arith, omega (arith, c.steps))
+    let more : event_bound w.steps ≤ event_bound s.budget = bound-same w.steps s.budget c.steps in (
+      record { steps = omega arith; calls = omega (arith, c.steps, c.calls); conditions = omega (arith, c.steps, c.conditions) },
+      omega
+          arith,
+      omega (arith, c.steps),
+    )
 
 pub more-nested : (n : ℕ) (cs : List Clause) (k : ℕ) (g : Term Text) (σ : Bindings Text) (J : List Item) (K : List Choice)
     → IsNested n (Exit k g ∷ J) → AreNested n K → AreNested n (with_more cs k g σ J K)
 more-nested n [] k g σ J K i a = a
 more-nested n (c ∷ cs) k g σ J K i a = (i, a)
 
-pub more-pending : (cs : List Clause) (k : ℕ) (g : Term Text) (σ : Bindings Text) (J : List Item) (K : List Choice) → pending (with_more cs k g σ J K) ≡ pending K
+pub more-pending : (cs : List Clause) (k : ℕ) (g : Term Text) (σ : Bindings Text) (J : List Item) (K : List Choice)
+    → pending (with_more cs k g σ J K) ≡ pending K
 more-pending [] k g σ J K = refl
 more-pending (c ∷ cs) k g σ J K = refl
 
 -- a goal of which a step was paid, from n steps
-pub chosen-counted : (q : Control) (s : Setup) (n : ℕ) (t : Term Text) (m : Barrier) (J : List Item) (K : List Choice) (σ : Bindings Text) (w : World)
+pub chosen-counted : (q : Control) (s : Setup) (n : ℕ) (t : Term Text) (m : Barrier) (J : List Item) (K : List Choice) (σ : Bindings Text)
+    (w : World)
     → w.steps ≡ n + 1 → w.steps ≤ s.budget → w.calls ≤ n → w.conditions ≤ n → w.solutions ≤ n
     → w.events + (2 * length (open_boxes J) + pending K) ≤ event_bound n → IsNested w.calls J → AreNested w.calls K
     → Counted s (chosen q t m J K σ w).state
@@ -112,37 +121,69 @@ chosen-counted q s n t m J K σ w e below c con sol ev nest all = go q
     go : (q : Control) → Counted s (chosen q t m J K σ w).state
     go TrueGoal = (record { steps = below; calls = omega arith; conditions = omega arith }, omega (arith, up), omega arith, nest, all)
     go FailGoal = (record { steps = below; calls = omega arith; conditions = omega arith }, omega (arith, up), omega arith, all)
-    go CutGoal = (record { steps = below; calls = omega arith; conditions = omega arith }, omega (arith, up, keep-pending m K), omega arith, nest, keep-nested w.calls m K all)
-    go (Disjunction a b) = (record { steps = below; calls = omega arith; conditions = omega arith }, omega (arith, up), omega arith, nest, (nest, all))
-    go (IfThenElse x a b) = (record { steps = below; calls = omega arith; conditions = omega arith }, omega (arith, up), omega arith, (tt, nest), (nest, all))
-    go (Conjunction a b) = (record { steps = below; calls = omega arith; conditions = omega arith }, omega (arith, up), omega arith, nest, all)
+    go CutGoal = (
+      record { steps = below; calls = omega arith; conditions = omega arith },
+      omega
+          (arith, up, keep-pending m K),
+      omega arith,
+      nest,
+      keep-nested w.calls m K all,
+    )
+    go (Disjunction a b) = (
+      record { steps = below; calls = omega arith; conditions = omega arith },
+      omega (arith, up),
+      omega arith,
+      nest,
+      (nest, all),
+    )
+    go (IfThenElse x a b) = (
+      record { steps = below; calls = omega arith; conditions = omega arith },
+      omega (arith, up),
+      omega arith,
+      (tt, nest),
+      (nest, all),
+    )
+    go (Conjunction a b) = (
+      record { steps = below; calls = omega arith; conditions = omega arith },
+      omega
+          (arith, up),
+      omega arith,
+      nest,
+      all,
+    )
     go BoxedGoal =
         let more : w.calls ≤ w.calls + 1 = omega arith in
         let deep : length (open_boxes J) ≤ w.calls = nested-length w.calls J nest in
-        let this : IsNested (w.calls + 1) (Exit (w.calls + 1) t ∷ J) = (omega arith, omega arith, nested-more w.calls (w.calls + 1) J more nest) in
+        let this : IsNested (w.calls + 1) (Exit (w.calls + 1) t ∷ J) =
+        (omega arith, omega arith, nested-more w.calls (w.calls + 1) J more nest) in
         let cs : List Clause = procedure w.clauses t in (
           record { steps = below; calls = omega arith; conditions = omega arith },
           omega (arith, up, more-pending cs (w.calls + 1) t σ J (Fail (w.calls + 1) t σ J ∷ K)),
           omega arith,
-          more-nested (w.calls + 1) cs (w.calls + 1) t σ J (Fail (w.calls + 1) t σ J ∷ K) this (this, all-nested-more w.calls (w.calls + 1) K more all),
+          more-nested (w.calls + 1) cs (w.calls + 1) t σ J (Fail (w.calls + 1) t σ J ∷ K) this
+              (this, all-nested-more w.calls (w.calls + 1) K more all),
         )
 
-pub entered-nested : (f : ℕ) (c : Clause) (k : ℕ) (g : Term Text) (J : List Item) (n : ℕ) → IsNested n (Exit k g ∷ J) → IsNested n (entered f c k g J)
+pub entered-nested : (f : ℕ) (c : Clause) (k : ℕ) (g : Term Text) (J : List Item) (n : ℕ) → IsNested n (Exit k g ∷ J)
+    → IsNested n (entered f c k g J)
 entered-nested f c k g J n i = go (is_true c.body)
   where
     go : (b : Bool) → IsNested n (if b then Exit k g ∷ J else Goal (shift f c.body) (Call k) ∷ Exit k g ∷ J)
     go true = i
     go false = i
 
-pub entered-open : (f : ℕ) (c : Clause) (k : ℕ) (g : Term Text) (J : List Item) → length (open_boxes (entered f c k g J)) ≡ suc (length (open_boxes J))
+pub entered-open : (f : ℕ) (c : Clause) (k : ℕ) (g : Term Text) (J : List Item) → length (open_boxes (entered f c k g J))
+    ≡ suc (length (open_boxes J))
 entered-open f c k g J = go (is_true c.body)
   where
-    go : (b : Bool) → length (open_boxes (if b then Exit k g ∷ J else Goal (shift f c.body) (Call k) ∷ Exit k g ∷ J)) ≡ suc (length (open_boxes J))
+    go : (b : Bool) → length (open_boxes (if b then Exit k g ∷ J else Goal (shift f c.body) (Call k) ∷ Exit k g ∷ J))
+        ≡ suc (length (open_boxes J))
     go true = refl
     go false = refl
 
 -- a clause that was tried, from n steps, with one step paid
-pub met-counted : (s : Setup) (n : ℕ) (c : Clause) (k : ℕ) (g : Term Text) (J : List Item) (K : List Choice) (w : World) (o : Option (Result Text))
+pub met-counted : (s : Setup) (n : ℕ) (c : Clause) (k : ℕ) (g : Term Text) (J : List Item) (K : List Choice) (w : World)
+    (o : Option (Result Text))
     → w.steps ≡ n + 1 → w.steps ≤ s.budget → w.calls ≤ n → w.conditions ≤ n → w.solutions ≤ suc n → w.events + pending K ≤ event_bound n
     → IsNested w.calls (Exit k g ∷ J) → AreNested w.calls K → IsLess (s.budget - w.steps) o
     → Counted s (head_unified s c k g J K w o).state
@@ -157,9 +198,16 @@ met-counted s n c k g J K w (Some (Some τ, left)) e below cal con sol ev nest a
     paid-counted (nat_le (s.budget - left + c.variables) s.budget) s c.variables (record w { steps = s.budget - left }) _ refl
     (record { steps = omega arith; calls = omega arith; conditions = omega arith }) (omega (arith, here)) (omega arith)
     (λ fits.
-    let up : event_bound n + (4 * n + 6) ≤ event_bound (s.budget - left + c.variables) = bound-up n (s.budget - left + c.variables) (omega arith) in
-    let deep : length (open_boxes J) < n + 1 = omega (arith, nest.0, nest.1) in
-    (record { steps = fits; calls = omega arith; conditions = omega arith }, omega (arith, up, entered-open w.variables c k g J), omega arith, entered-nested w.variables c k g J w.calls nest, all))
+    let up : event_bound n + (4 * n + 6) ≤ event_bound (s.budget - left + c.variables) =
+    bound-up n (s.budget - left + c.variables) (omega arith) in
+    let deep : length (open_boxes J) < n + 1 = omega (arith, nest.0, nest.1) in (
+      record { steps = fits; calls = omega arith; conditions = omega arith },
+      omega
+          (arith, up, entered-open w.variables c k g J),
+      omega arith,
+      entered-nested w.variables c k g J w.calls nest,
+      all,
+    ))
 
 pub tried-counted : (s : Setup) (c : Clause) (k : ℕ) (g : Term Text) (σ : Bindings Text) (J : List Item) (K : List Choice) (w : World)
     → Counts s w → w.solutions ≤ suc w.steps → w.events + pending K ≤ event_bound w.steps
@@ -168,8 +216,10 @@ pub tried-counted : (s : Setup) (c : Clause) (k : ℕ) (g : Term Text) (σ : Bin
 tried-counted s c k g σ J K w counts sol ev nest all =
     paid-counted (nat_le (w.steps + 1) s.budget) s 1 w _ refl counts (omega arith) sol
     (λ fits. met-counted s w.steps c k g J K (record w { steps = w.steps + 1 })
-    (unify text_eq (s.budget - (w.steps + 1)) σ ((g, shift w.variables c.head) ∷ [])) refl fits counts.calls counts.conditions sol ev nest all
-    (within-less {A = Option (Bindings Text)} (s.budget - (w.steps + 1)) (solve text_eq (s.budget - (w.steps + 1)) σ ((g, shift {N = Text} w.variables c.head) ∷ []))))
+    (unify text_eq (s.budget - (w.steps + 1)) σ ((g, shift w.variables c.head) ∷ []))
+    refl fits counts.calls counts.conditions sol ev nest all
+    (within-less {A = Option (Bindings Text)} (s.budget - (w.steps + 1))
+    (solve text_eq (s.budget - (w.steps + 1)) σ ((g, shift {N = Text} w.variables c.head) ∷ []))))
 
 -- another branch that is tried
 pub branched-counted : (s : Setup) (t : Term Text) (m : Barrier) (σ : Bindings Text) (J : List Item) (K : List Choice) (w : World)
@@ -180,13 +230,20 @@ branched-counted s t m σ J K w counts sol ev nest all =
     paid-counted (nat_le (w.steps + 1) s.budget) s 1 w _ refl counts (omega arith) sol
     (λ fits.
     let up : event_bound w.steps + (4 * w.steps + 6) ≤ event_bound (w.steps + 1) = bound-up w.steps (w.steps + 1) (omega arith) in
-    let deep : length (open_boxes J) ≤ w.calls = nested-length w.calls J nest in
-    (record { steps = fits; calls = omega (arith, counts.calls); conditions = omega (arith, counts.conditions) }, omega (arith, up, deep, counts.calls), omega arith, nest, all))
+    let deep : length (open_boxes J) ≤ w.calls = nested-length w.calls J nest in (
+      record { steps = fits; calls = omega (arith, counts.calls); conditions = omega (arith, counts.conditions) },
+      omega
+          (arith, up, deep, counts.calls),
+      omega arith,
+      nest,
+      all,
+    ))
 
 pub move-counted : (s : Setup) (t : State) → Counted s t → Counted s (move s t).state
 move-counted s (Forward [] K σ w) h = go (w.solutions + 1 == s.wanted)
   where
-    go : (b : Bool) → Counted s (if b then Over Stopped (record w { solutions = w.solutions + 1 }) else Backward K (record w { solutions = w.solutions + 1 }))
+    go : (b : Bool) → Counted s (if b then Over Stopped (record w { solutions = w.solutions + 1 }) else Backward K
+        (record w { solutions = w.solutions + 1 }))
     go true = (record { steps = h.0.steps; calls = h.0.calls; conditions = h.0.conditions }, omega arith, omega arith)
     go false = (record { steps = h.0.steps; calls = h.0.calls; conditions = h.0.conditions }, omega arith, omega arith, h.4)
 move-counted s (Forward (Exit k g ∷ J) K σ w) h =
@@ -194,12 +251,18 @@ move-counted s (Forward (Exit k g ∷ J) K σ w) h =
 move-counted s (Forward (Cut m ∷ J) K σ w) h = (h.0, omega (arith, h.1, keep-pending m K), h.2, h.3.1, keep-nested w.calls m K h.4)
 move-counted s (Forward (Goal t m ∷ J) K σ w) h =
     paid-counted (nat_le (w.steps + 1) s.budget) s 1 w _ refl h.0 (omega arith) (omega arith)
-    (λ fits. chosen-counted (control t) s w.steps t m J K σ (record w { steps = w.steps + 1 }) refl fits h.0.calls h.0.conditions h.2 h.1 h.3 h.4)
+    (λ fits. chosen-counted (control t) s w.steps t m J K σ (record w { steps = w.steps + 1 })
+    refl fits h.0.calls h.0.conditions h.2 h.1 h.3 h.4)
 move-counted s (Backward [] w) h = (record { steps = h.0.steps; calls = h.0.calls; conditions = h.0.conditions }, omega arith, h.2)
-move-counted s (Backward (Redo k g σ J ∷ K) w) h = (record { steps = h.0.steps; calls = h.0.calls; conditions = h.0.conditions }, omega arith, h.2, h.3.1)
+move-counted s (Backward (Redo k g σ J ∷ K) w) h =
+    (record { steps = h.0.steps; calls = h.0.calls; conditions = h.0.conditions }, omega arith, h.2, h.3.1)
 move-counted s (Backward (Branch t m σ J ∷ K) w) h = branched-counted s t m σ J K w h.0 h.2 h.1 h.3.0 h.3.1
 move-counted s (Backward (Condition n t m σ J ∷ K) w) h = branched-counted s t m σ J K w h.0 h.2 h.1 h.3.0 h.3.1
-move-counted s (Backward (Fail k g σ J ∷ K) w) h = (record { steps = h.0.steps; calls = h.0.calls; conditions = h.0.conditions }, omega arith, h.2, h.3.1)
-move-counted s (Backward (More [] k g σ J ∷ K) w) h = (record { steps = h.0.steps; calls = h.0.calls; conditions = h.0.conditions }, h.1, h.2, h.3.1)
-move-counted s (Backward (More (c ∷ cs) k g σ J ∷ K) w) h = tried-counted s c k g σ J (with_more cs k g σ J K) w h.0 h.2 (omega (arith, h.1, more-pending cs k g σ J K)) h.3.0 (more-nested w.calls cs k g σ J K h.3.0 h.3.1)
+move-counted s (Backward (Fail k g σ J ∷ K) w) h =
+    (record { steps = h.0.steps; calls = h.0.calls; conditions = h.0.conditions }, omega arith, h.2, h.3.1)
+move-counted s (Backward (More [] k g σ J ∷ K) w) h =
+    (record { steps = h.0.steps; calls = h.0.calls; conditions = h.0.conditions }, h.1, h.2, h.3.1)
+move-counted s (Backward (More (c ∷ cs) k g σ J ∷ K) w) h =
+    tried-counted s c k g σ J (with_more cs k g σ J K) w h.0 h.2 (omega (arith, h.1, more-pending cs k g σ J K)) h.3.0
+    (more-nested w.calls cs k g σ J K h.3.0 h.3.1)
 move-counted s (Over r w) h = h

@@ -1,5 +1,6 @@
 -- The boxes that a machine keeps, as continuations and boxes are added, and a choice point is returned to.
-use Rattle.std.proofs.Common.{◌≡◌, ℕ, zero, suc, ◌+◌, ◌<◌, ◌≤◌, Bool, true, false, List, [], ◌∷◌, ◌++◌, length, take, nat_lt, All, refl, sym, ap, ◌∙◌, subst, arith, if◌then◌else◌, length-append}
+use Rattle.std.proofs.Common.{◌≡◌, ℕ, zero, suc, ◌+◌, ◌<◌, ◌≤◌, Bool, true, false, List, [], ◌∷◌, ◌++◌, length, take, nat_lt, All, refl}
+use Rattle.std.proofs.Common.{sym, ap, ◌∙◌, subst, arith, if◌then◌else◌, length-append}
 use Rattle.std.proofs.lemmas.List.{get_or-take, get_or_append_left, length-take-le}
 use Rattle.std.proofs.lemmas.List.Elements.{All-filter, All-append}
 use Rattle.std.proofs.Math.Seq.{get_or-append_seam}
@@ -19,14 +20,16 @@ use Rattle.op_machine.specs.inner.Continuations.{continuation_in}
 use Rattle.op_machine.specs.inner.Boxes.{boxes_before, exits, innermost, IsCalled, IsEntered, AreBoxes, IsTried, AreBoxed}
 
 -- a box that was called stays so, where its chain and its continuation stay
-pub called-along : (B C : List BoxFrame) (L M : List (List Item)) (c d k g n : ℕ) → c ≤ d → continuation_in M n ≡ continuation_in L n → open_from C k ≡ open_from B k
+pub called-along : (B C : List BoxFrame) (L M : List (List Item)) (c d k g n : ℕ) → c ≤ d → continuation_in M n ≡ continuation_in L n
+    → open_from C k ≡ open_from B k
     → IsCalled B c L k g n → IsCalled C d M k g n
 called-along B C L M c d k g n h l o a = record {
   given = omega (arith, a.given);
   chain = o ∙ (a.chain ∙ ap (λ (I : List Item). (k, g) ∷ exits I) (sym l));
 }
 
-tried-along : (B C : List BoxFrame) (L M : List (List Item)) (q : ChoiceKind) (x : Held) (n : ℕ) → continuation_in M n ≡ continuation_in L n
+tried-along : (B C : List BoxFrame) (L M : List (List Item)) (q : ChoiceKind) (x : Held) (n : ℕ) → continuation_in M n
+    ≡ continuation_in L n
     → ((k : ℕ) → k ≤ x.calls → open_from C k ≡ open_from B k) → IsTried B L q x n → IsTried C M q x n
 tried-along B C L M (kind.Redo k) x n l o a = tt
 tried-along B C L M (kind.Branch p) x n l o a = tt
@@ -51,22 +54,27 @@ boxed-along B C L M c d l m (f ∷ F) hc hl ls os a =
         given = λ n h. subst (λ (I : List Item). innermost I ≤ f.kept.calls) (sym (ls n (omega arith))) (a.0.given n h);
         tried = tried-along B C L M f.kind f.kept f.rest (ls f.rest (omega (arith, a.0.rest))) (λ k h. os k (omega arith)) a.0.tried;
       },
-      boxed-along B C L M f.kept.calls f.kept.calls f.kept.continuations f.kept.continuations F (omega arith) (omega arith) (λ n h. ls n (omega arith)) (λ k h. os k (omega arith)) a.1,
+      boxed-along B C L M f.kept.calls f.kept.calls f.kept.continuations f.kept.continuations F (omega arith) (omega arith)
+          (λ n h. ls n (omega arith)) (λ k h. os k (omega arith)) a.1,
     )
 
 -- also where more boxes were called and more continuations are there
-pub boxed-more : (B : List BoxFrame) (L : List (List Item)) (c d l m : ℕ) (F : List Frame) → c ≤ d → l ≤ m → AreBoxed B L c l F → AreBoxed B L d m F
+pub boxed-more : (B : List BoxFrame) (L : List (List Item)) (c d l m : ℕ) (F : List Frame) → c ≤ d → l ≤ m → AreBoxed B L c l F
+    → AreBoxed B L d m F
 boxed-more B L c d l m F hc hl a = boxed-along B B L L c d l m F hc hl (λ n h. refl) (λ k h. refl) a
 
 -- and so do those that a cut keeps
-pub keep-boxed : (B : List BoxFrame) (L : List (List Item)) (c l : ℕ) (F : List Frame) (m : Barrier) → AreBoxed B L c l F → AreBoxed B L c l (keep_frames m F)
+pub keep-boxed : (B : List BoxFrame) (L : List (List Item)) (c l : ℕ) (F : List Frame) (m : Barrier) → AreBoxed B L c l F
+    → AreBoxed B L c l (keep_frames m F)
 keep-boxed B L c l [] m a = tt
 keep-boxed B L c l (f ∷ F) m a = go (frame_stays f m) (frame_goes f m) (keep-boxed B L f.kept.calls f.kept.continuations F m a.1)
   where
-    go : (p q : Bool) → AreBoxed B L f.kept.calls f.kept.continuations (keep_frames m F) → AreBoxed B L c l (if p then f ∷ F else (if q then F else keep_frames m F))
+    go : (p q : Bool) → AreBoxed B L f.kept.calls f.kept.continuations (keep_frames m F)
+        → AreBoxed B L c l (if p then f ∷ F else (if q then F else keep_frames m F))
     go true q below = a
     go false true below = boxed-more B L f.kept.calls c f.kept.continuations l F a.0.calls_there a.0.continuations_there a.1
-    go false false below = boxed-more B L f.kept.calls c f.kept.continuations l (keep_frames m F) a.0.calls_there a.0.continuations_there below
+    go false false below = boxed-more B L f.kept.calls c f.kept.continuations l (keep_frames m F)
+        a.0.calls_there a.0.continuations_there below
 
 -- a further continuation
 abbrev pub longer : List (List Item) → Item → ℕ → List (List Item)
@@ -87,7 +95,8 @@ entered-chain B c L (item.Goal g m) n a h e = a.chains n h
 entered-chain B c L (item.Cut m) n a h e = a.chains n h
 entered-chain B c L (item.Exit k g) n a h e = e.chain
 
-pub longer-boxes : (B : List BoxFrame) (c : ℕ) (L : List (List Item)) (i : Item) (n : ℕ) → AreBoxes B c L → n < length L → IsEntered B c L i n
+pub longer-boxes : (B : List BoxFrame) (c : ℕ) (L : List (List Item)) (i : Item) (n : ℕ) → AreBoxes B c L → n < length L
+    → IsEntered B c L i n
     → AreBoxes B c (longer L i n)
 longer-boxes B c L i n a h e =
     let I : List Item = i ∷ continuation_in L n in
@@ -114,7 +123,8 @@ longer-boxes B c L i n a h e =
 abbrev pub with_box : List BoxFrame → BoxFrame → List BoxFrame
 with_box B b = B ++ b ∷ []
 
-pub pushed-boxes : (B : List BoxFrame) (c : ℕ) (L : List (List Item)) (b : BoxFrame) → b.number ≡ c + 1 → AreBoxes B c L → AreBoxes (with_box B b) (c + 1) L
+pub pushed-boxes : (B : List BoxFrame) (c : ℕ) (L : List (List Item)) (b : BoxFrame) → b.number ≡ c + 1 → AreBoxes B c L
+    → AreBoxes (with_box B b) (c + 1) L
 pushed-boxes B c L b e a = record {
   numbers = All-append (λ (x : BoxFrame). x.number ≤ c + 1) B (b ∷ []) (λ i d h. let l : _ = a.numbers i d h in omega arith) (one e);
   given = λ n h. omega (arith, a.given n h);
@@ -125,7 +135,8 @@ pushed-boxes B c L b e a = record {
     one e zero d h = omega arith
     one e (suc i) d h = absurd (omega arith)
 
-pub pushed-called : (B : List BoxFrame) (c : ℕ) (L : List (List Item)) (b : BoxFrame) (n : ℕ) → b.number ≡ c + 1 → b.parent ≡ innermost (continuation_in L n) → n < length L
+pub pushed-called : (B : List BoxFrame) (c : ℕ) (L : List (List Item)) (b : BoxFrame) (n : ℕ) → b.number ≡ c + 1 → b.parent
+    ≡ innermost (continuation_in L n) → n < length L
     → AreBoxes B c L → IsCalled (with_box B b) (c + 1) L (c + 1) b.goal n
 pushed-called B c L b n e p h a = record {
   given = omega arith;
@@ -143,7 +154,8 @@ pub restored-boxes : (B : List BoxFrame) (c : ℕ) (L : List (List Item)) (F : L
     → AreBoxes (boxes_before (f.kept.calls + 1) B) c (take f.kept.continuations L)
 restored-boxes B c L F f stay a b =
     let calls : f.kept.calls ≤ c = b.0.calls_there in
-    let len : length (take f.kept.continuations L) ≡ f.kept.continuations = length-take-le f.kept.continuations L b.0.continuations_there in
+    let len : length (take f.kept.continuations L)
+    ≡ f.kept.continuations = length-take-le f.kept.continuations L b.0.continuations_there in
     let P : List Item → Type 0 = λ J. innermost J ≤ c in
     let Q : List Item → Type 0 = λ J. open_from (boxes_before (f.kept.calls + 1) B) (innermost J) ≡ exits J in
     record {
@@ -151,7 +163,8 @@ restored-boxes B c L F f stay a b =
       given = λ n h. subst P (sym (taken-same L f.kept.continuations n (omega arith))) (omega (arith, b.0.given n (omega arith)));
       chains = λ n h.
           subst Q (sym (taken-same L f.kept.continuations n (omega arith)))
-          (stay (innermost (continuation_in L n)) (omega (arith, b.0.given n (omega arith))) ∙ a.chains n (omega (arith, b.0.continuations_there)));
+          (stay (innermost (continuation_in L n)) (omega (arith, b.0.given n (omega arith)))
+          ∙ a.chains n (omega (arith, b.0.continuations_there)));
     }
 
 pub restored-boxed : (B : List BoxFrame) (c : ℕ) (L : List (List Item)) (F : List Frame) (f : Frame)
@@ -159,8 +172,10 @@ pub restored-boxed : (B : List BoxFrame) (c : ℕ) (L : List (List Item)) (F : L
     → AreBoxed B L c (length L) (f ∷ F)
     → AreBoxed (boxes_before (f.kept.calls + 1) B) (take f.kept.continuations L) c (length (take f.kept.continuations L)) F
 restored-boxed B c L F f stay b =
-    let len : length (take f.kept.continuations L) ≡ f.kept.continuations = length-take-le f.kept.continuations L b.0.continuations_there in
-    boxed-along B (boxes_before (f.kept.calls + 1) B) L (take f.kept.continuations L) f.kept.calls c f.kept.continuations (length (take f.kept.continuations L)) F b.0.calls_there (omega arith)
+    let len : length (take f.kept.continuations L)
+    ≡ f.kept.continuations = length-take-le f.kept.continuations L b.0.continuations_there in
+    boxed-along B (boxes_before (f.kept.calls + 1) B) L (take f.kept.continuations L) f.kept.calls c f.kept.continuations
+    (length (take f.kept.continuations L)) F b.0.calls_there (omega arith)
     (λ n h. taken-same L f.kept.continuations n h) (λ k h. stay k (omega arith)) b.1
 
 -- the clauses that it tries are those of a box that is still kept
@@ -169,4 +184,5 @@ pub restored-tried : (B : List BoxFrame) (c : ℕ) (L : List (List Item)) (F : L
     → AreBoxed B L c (length L) (f ∷ F)
     → IsTried (boxes_before (f.kept.calls + 1) B) (take f.kept.continuations L) f.kind f.kept f.rest
 restored-tried B c L F f stay b =
-    tried-along B (boxes_before (f.kept.calls + 1) B) L (take f.kept.continuations L) f.kind f.kept f.rest (taken-same L f.kept.continuations f.rest b.0.rest) (λ k h. stay k (omega arith)) b.0.tried
+    tried-along B (boxes_before (f.kept.calls + 1) B) L (take f.kept.continuations L) f.kind f.kept f.rest
+    (taken-same L f.kept.continuations f.rest b.0.rest) (λ k h. stay k (omega arith)) b.0.tried

@@ -1,5 +1,6 @@
 -- Moments that follow one another: what was there is still there, so earlier choice points mean what they meant.
-use Rattle.std.proofs.Common.{◌≡◌, ℕ, ◌+◌, ◌-◌, ◌<◌, ◌≤◌, List, [], ◌∷◌, ◌++◌, length, take, drop, map, All, pos, refl, sym, ap, ◌∙◌, subst, arith, length-append}
+use Rattle.std.proofs.Common.{◌≡◌, ℕ, ◌+◌, ◌-◌, ◌<◌, ◌≤◌, List, [], ◌∷◌, ◌++◌, length, take, drop, map, All, pos, refl, sym, ap, ◌∙◌}
+use Rattle.std.proofs.Common.{subst, arith, length-append}
 use Rattle.std.proofs.lemmas.List.{get_or-take, get_or_append_left}
 use Rattle.std.proofs.Math.Seq.{take-length, get_or-append_seam}
 use Rattle.op_logic.proofs.Tests.{by_order}
@@ -64,7 +65,8 @@ level_at-rises v w f r e =
     let b : oldest f.mark.bound w.bound ≡ oldest f.mark.bound v.bound =
     sym (oldest-oldest f.mark.bound (length v.bound) w.bound e.bound_there r.bound_there) ∙ ap (oldest f.mark.bound) r.bound in
     let l : take f.kept.continuations w.continuations ≡ take f.kept.continuations v.continuations =
-    sym (take-within f.kept.continuations (length v.continuations) w.continuations e.continuations_there) ∙ ap (take f.kept.continuations) r.continuations in
+    sym (take-within f.kept.continuations (length v.continuations) w.continuations e.continuations_there)
+    ∙ ap (take f.kept.continuations) r.continuations in
     cc
 
 pub earlier-rises : (v w : Level) (f : Frame) → Rises v w → IsEarlier f v → IsEarlier f w
@@ -79,7 +81,8 @@ earlier-rises v w f r e =
     }
 
 -- choice points that were there mean what they meant
-pub choice_points-rise : (t : Stored) (floor : ℕ) (v w : Level) (F : List Frame) → Rises v w → AreFrames t floor v F → choice_points_of t w F ≡ choice_points_of t v F
+pub choice_points-rise : (t : Stored) (floor : ℕ) (v w : Level) (F : List Frame) → Rises v w → AreFrames t floor v F
+    → choice_points_of t w F ≡ choice_points_of t v F
 choice_points-rise t floor v w [] r a = refl
 choice_points-rise t floor v w (f ∷ F) r a =
     ap (λ (u : Level). choice_point_of t u f ∷ choice_points_of t u F) (level_at-rises v w f r a.0)
@@ -112,7 +115,8 @@ is-item-rises n v w (item.Goal r m) h a = goal-rises n v w r h a
 is-item-rises n v w (item.Cut m) h a = tt
 is-item-rises n v w (item.Exit k r) h a = goal-rises n v w r h a
 
-pub items-rise : (n : ℕ) (t : Stored) (v w : Level) (I : List Item) → Rises v w → AreItems n v.terms I → map (item_term t w) I ≡ map (item_term t v) I
+pub items-rise : (n : ℕ) (t : Stored) (v w : Level) (I : List Item) → Rises v w → AreItems n v.terms I → map (item_term t w) I
+    ≡ map (item_term t v) I
 items-rise n t v w [] h a = refl
 items-rise n t v w (i ∷ I) h a =
     let first : item_term t w i ≡ item_term t v i = item-rises n t v w i h a.0 in
@@ -123,13 +127,16 @@ pub are-items-rise : (n : ℕ) (v w : Level) (I : List Item) → Rises v w → A
 are-items-rise n v w [] h a = tt
 are-items-rise n v w (i ∷ I) h a = (is-item-rises n v w i h a.0, are-items-rise n v w I h a.1)
 
-pub continuation-rises : (v w : Level) (m : ℕ) → Rises v w → m < length v.continuations → continuation_in w.continuations m ≡ continuation_in v.continuations m
+pub continuation-rises : (v w : Level) (m : ℕ) → Rises v w → m < length v.continuations → continuation_in w.continuations m
+    ≡ continuation_in v.continuations m
 continuation-rises v w m h l =
     sym (get_or-take (length v.continuations) w.continuations m [] l) ∙ ap (λ (L : List (List Item)). continuation_in L m) h.continuations
 
-pub items_in-rise : (t : Stored) (floor : ℕ) (v w : Level) (m : ℕ) → Rises v w → IsLevel t floor v → m < length v.continuations → items_in t w m ≡ items_in t v m
+pub items_in-rise : (t : Stored) (floor : ℕ) (v w : Level) (m : ℕ) → Rises v w → IsLevel t floor v → m < length v.continuations
+    → items_in t w m ≡ items_in t v m
 items_in-rise t floor v w m h lev l =
-    ap (map (item_term t w)) (continuation-rises v w m h l) ∙ items-rise (length t.names) t v w (continuation_in v.continuations m) h (lev.continuations m l)
+    ap (map (item_term t w)) (continuation-rises v w m h l)
+    ∙ items-rise (length t.names) t v w (continuation_in v.continuations m) h (lev.continuations m l)
 
 pub values-rise : (floor : ℕ) (v w : Level) (rs : List ℕ) (ps : List (List ℕ × ℕ)) → Rises v w → floor ≤ length v.terms
     → AreValues (take floor v.terms) rs ps → AreValues (take floor w.terms) rs ps
@@ -137,22 +144,26 @@ values-rise floor v w rs ps h f a =
     let e : take floor w.terms ≡ take floor v.terms = sym (take-within floor (length v.terms) w.terms f) ∙ ap (take floor) h.terms in
     subst (λ (ts : List (Term ℕ)). AreValues ts rs ps) (sym e) a
 
-pub failure-rises : (floor : ℕ) (v w : Level) (r : ℕ) → Rises v w → floor ≤ length v.terms → IsFailure (take floor v.terms) r → IsFailure (take floor w.terms) r
+pub failure-rises : (floor : ℕ) (v w : Level) (r : ℕ) → Rises v w → floor ≤ length v.terms → IsFailure (take floor v.terms) r
+    → IsFailure (take floor w.terms) r
 failure-rises floor v w r h f a =
     let e : take floor w.terms ≡ take floor v.terms = sym (take-within floor (length v.terms) w.terms f) ∙ ap (take floor) h.terms in
     subst (λ (ts : List (Term ℕ)). IsFailure ts r) (sym e) a
 
 -- a level that has further bindings and terms, but the same continuations
-pub level-bindings : (t : Stored) (floor : ℕ) (s u : bind.State) (L : List (List Item)) → Grows s u → HaveNames (length t.names) (bindings u)
+pub level-bindings : (t : Stored) (floor : ℕ) (s u : bind.State) (L : List (List Item)) → Grows s u
+    → HaveNames (length t.names) (bindings u)
     → IsLevel t floor (level_of s L) → IsLevel t floor (level_of u L)
 level-bindings t floor s u L g names lev = record {
-  continuations = λ m l. are-items-rise (length t.names) (level_of s L) (level_of u L) (continuation_in L m) (rises-bindings s u L g) (lev.continuations m l);
+  continuations = λ m l. are-items-rise (length t.names) (level_of s L) (level_of u L) (continuation_in L m) (rises-bindings s u L g)
+      (lev.continuations m l);
   bound = names;
   floor_there = omega (arith, lev.floor_there, g.terms_there);
 }
 
 -- a level with a further continuation
-pub level-continuations : (t : Stored) (floor : ℕ) (s : bind.State) (L : List (List Item)) (i : Item) (n : ℕ) → IsLevel t floor (level_of s L)
+pub level-continuations : (t : Stored) (floor : ℕ) (s : bind.State) (L : List (List Item)) (i : Item) (n : ℕ)
+    → IsLevel t floor (level_of s L)
     → IsItem (length t.names) s.terms i → n < length L → IsLevel t floor (level_of s (L ++ (i ∷ continuation_in L n) ∷ []))
 level-continuations t floor s L i n lev it h =
     let I : List Item = i ∷ continuation_in L n in
@@ -170,12 +181,19 @@ level-continuations t floor s L i n lev it h =
     }
 
 -- a choice point that is made now is made at this level
-pub level-now : (s : bind.State) (L : List (List Item)) (f : Frame) → f.mark ≡ mark_of s → f.kept.continuations ≡ length L → level_at f (level_of s L) ≡ level_of s L
+pub level-now : (s : bind.State) (L : List (List Item)) (f : Frame) → f.mark ≡ mark_of s → f.kept.continuations ≡ length L
+    → level_at f (level_of s L) ≡ level_of s L
 level-now s L f m l =
     let t : take f.mark.terms s.terms ≡ s.terms = ap (λ (k : bind.Marked). take k.terms s.terms) m ∙ take-length s.terms in
     let b : oldest f.mark.bound s.bound ≡ s.bound = ap (λ (k : bind.Marked). oldest k.bound s.bound) m ∙ oldest-all s.bound in
     let n : take f.kept.continuations L ≡ L = ap (λ (k : ℕ). take k L) l ∙ take-length L in
     cc
 
-pub earlier-now : (s : bind.State) (L : List (List Item)) (f : Frame) → IsGoodMark s f.mark → f.kept.continuations ≡ length L → IsEarlier f (level_of s L)
-earlier-now s L f g l = record { terms_there = g.terms_there; bound_there = g.bound_there; bound_below = g.bound_below; continuations_there = omega arith }
+pub earlier-now : (s : bind.State) (L : List (List Item)) (f : Frame) → IsGoodMark s f.mark → f.kept.continuations ≡ length L
+    → IsEarlier f (level_of s L)
+earlier-now s L f g l = record {
+  terms_there = g.terms_there;
+  bound_there = g.bound_there;
+  bound_below = g.bound_below;
+  continuations_there = omega arith;
+}

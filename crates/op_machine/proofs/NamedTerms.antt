@@ -1,5 +1,6 @@
 -- A machine's terms over texts.
-use Rattle.std.proofs.Common.{◌≡◌, ℕ, ◌+◌, ◌-◌, ◌≤◌, nat_le, Bool, true, false, [], ◌∷◌, Option, Some, None, refl, sym, ap, ◌∙◌, subst, arith, if◌then◌else◌}
+use Rattle.std.proofs.Common.{◌≡◌, ℕ, ◌+◌, ◌-◌, ◌≤◌, nat_le, Bool, true, false, [], ◌∷◌, Option, Some, None, refl, sym, ap, ◌∙◌, subst}
+use Rattle.std.proofs.Common.{arith, if◌then◌else◌}
 use Rattle.std.proofs.lemmas.Bool.Decides.{nat_tests}
 use Rattle.op_logic.specs.Term.{Term, var, int, node, no_args, arg, shift}
 use Rattle.op_logic.specs.Bind.{Bindings, Solved, apply, unify}
@@ -17,7 +18,8 @@ use Rattle.op_trace.specs.Visit.{is_true}
 use Rattle.op_store.specs.Stored.{Stored}
 use Rattle.op_machine.specs.Program.{goal_named}
 
-pub value-named : (t : Stored) (s : bind.State) (r : ℕ) → goal_named t (value_of s r) ≡ apply (rename_bindings (name_at t.names) (bindings s)) (goal_named t (term_at s.terms r))
+pub value-named : (t : Stored) (s : bind.State) (r : ℕ) → goal_named t (value_of s r)
+    ≡ apply (rename_bindings (name_at t.names) (bindings s)) (goal_named t (term_at s.terms r))
 value-named t s r = sym (apply-rename (name_at t.names) (bindings s) (term_at s.terms r))
 
 pub shift-named : (t : Stored) (n : ℕ) (b : Term ℕ) → goal_named t (shift n b) ≡ shift n (goal_named t b)
@@ -31,7 +33,8 @@ is_true-shift n (node f (arg t ts)) = refl
 
 -- a head is unified over texts as over numbers
 pub unified-named : (t : Stored) (left : ℕ) (s : bind.State) (g h : Term ℕ) → IsTable t.names
-    → unify text_eq left (rename_bindings (name_at t.names) (bindings s)) ((goal_named t g, goal_named t h) ∷ []) ≡ rename_solved (name_at t.names) (unified left s g h)
+    → unify text_eq left (rename_bindings (name_at t.names) (bindings s)) ((goal_named t g, goal_named t h) ∷ [])
+    ≡ rename_solved (name_at t.names) (unified left s g h)
 unified-named t left s g h table = unify-named t.names table left (bindings s) ((g, h) ∷ [])
 
 some-same : (x y : Solved ℕ) → Some x ≡ Some y → x ≡ y
@@ -56,7 +59,8 @@ abbrev paid : ℕ → Bindings ℕ → ℕ → Bool → Option (Solved ℕ)
 paid n τ left b = if b then Some (found τ (left - n)) else None
 
 -- what paying for the variables says of the unification
-pub paid-found : (n : ℕ) (u : Option (Solved ℕ)) (σ : Bindings ℕ) (after : ℕ) → with_variables n u ≡ Some (found σ after) → u ≡ Some (found σ (after + n))
+pub paid-found : (n : ℕ) (u : Option (Solved ℕ)) (σ : Bindings ℕ) (after : ℕ) → with_variables n u ≡ Some (found σ after) → u
+    ≡ Some (found σ (after + n))
 paid-found n None σ after e = cc
 paid-found n (Some (None, left)) σ after e = no-found σ left after e
 paid-found n (Some (Some τ, left)) σ after e = go (nat_le n left) refl e
@@ -81,6 +85,7 @@ paid-none n (Some (Some τ, left)) after e = go (nat_le n left) e
     go false f = cc
 
 -- the names of what was found
-pub found-names : (n left : ℕ) (s : bind.State) (g h : Term ℕ) (σ : Bindings ℕ) (after : ℕ) → HaveNames n (bindings s) → HasNames n g → HasNames n h
+pub found-names : (n left : ℕ) (s : bind.State) (g h : Term ℕ) (σ : Bindings ℕ) (after : ℕ) → HaveNames n (bindings s) → HasNames n g
+    → HasNames n h
     → unified left s g h ≡ Some (Some σ, after) → HaveNames n σ
 found-names n left s g h σ after hs hg hh e = subst (FoundHasNames n) e (unify-names n left (bindings s) ((g, h) ∷ []) hs (hg, hh, tt))

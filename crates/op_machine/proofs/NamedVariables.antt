@@ -1,5 +1,6 @@
 -- Refs to the variables that have names.
-use Rattle.std.proofs.Common.{◌≡◌, ℕ, zero, suc, ◌+◌, ◌<◌, ◌≤◌, List, [], ◌∷◌, ◌++◌, length, take, get_or, pos, refl, sym, ap, ◌∙◌, subst, arith}
+use Rattle.std.proofs.Common.{◌≡◌, ℕ, zero, suc, ◌+◌, ◌<◌, ◌≤◌, List, [], ◌∷◌, ◌++◌, length, take, get_or, pos, refl, sym, ap, ◌∙◌, subst}
+use Rattle.std.proofs.Common.{arith}
 use Rattle.std.proofs.lemmas.List.{take_more, get_or-take, length-take-le}
 use Rattle.op_logic.specs.Term.{Term, var, int}
 use Rattle.op_term.specs.Places.{term_at}
@@ -15,20 +16,24 @@ values-stay a b [] (p ∷ ps) g v = v
 values-stay a b (r ∷ rs) [] g v = v
 values-stay a b (r ∷ rs) (p ∷ ps) g v = (omega (arith, v.0, g.terms_there), term-stays a b g r v.0 ∙ v.1, values-stay a b rs ps g v.2)
 
-values-push-one : (ts : List (Term ℕ)) (rs : List ℕ) (ps : List (List ℕ × ℕ)) (r : ℕ) (p : List ℕ × ℕ) → AreValues ts rs ps → r < length ts → term_at ts r ≡ var p.1 → AreValues ts (rs ++ r ∷ []) (ps ++ p ∷ [])
+values-push-one : (ts : List (Term ℕ)) (rs : List ℕ) (ps : List (List ℕ × ℕ)) (r : ℕ) (p : List ℕ × ℕ) → AreValues ts rs ps → r < length ts
+    → term_at ts r ≡ var p.1 → AreValues ts (rs ++ r ∷ []) (ps ++ p ∷ [])
 values-push-one ts [] [] r p v there value = (there, value, tt)
 values-push-one ts [] (q ∷ ps) r p v there value = absurd v
 values-push-one ts (s ∷ rs) [] r p v there value = absurd v
 values-push-one ts (s ∷ rs) (q ∷ ps) r p v there value = (v.0, v.1, values-push-one ts rs ps r p v.2 there value)
 
 -- one more
-pub values-push : (a b : State) (rs : List ℕ) (ps : List (List ℕ × ℕ)) (i r : ℕ) → Grows a b → AreValues a.terms rs (take i ps) → i < length ps → r < length b.terms → term_at b.terms r ≡ var (get_or ps i ([], 0)).1
+pub values-push : (a b : State) (rs : List ℕ) (ps : List (List ℕ × ℕ)) (i r : ℕ) → Grows a b → AreValues a.terms rs (take i ps)
+    → i < length ps → r < length b.terms → term_at b.terms r ≡ var (get_or ps i ([], 0)).1
     → AreValues b.terms (rs ++ r ∷ []) (take (i + 1) ps)
 values-push a b rs ps i r g v inside there value =
-    subst (AreValues b.terms (rs ++ r ∷ [])) (sym (take_more ps i ([], 0) inside)) (values-push-one b.terms rs (take i ps) r (get_or ps i ([], 0)) (values-stay a b rs (take i ps) g v) there value)
+    subst (AreValues b.terms (rs ++ r ∷ [])) (sym (take_more ps i ([], 0) inside))
+    (values-push-one b.terms rs (take i ps) r (get_or ps i ([], 0)) (values-stay a b rs (take i ps) g v) there value)
 
 -- the variable at a place
-pub value-at : (ts : List (Term ℕ)) (rs : List ℕ) (ps : List (List ℕ × ℕ)) (i d : ℕ) → AreValues ts rs ps → i < length ps → (i < length rs) × (get_or rs i d < length ts) × (term_at ts (get_or rs i d) ≡ var (get_or ps i ([], 0)).1)
+pub value-at : (ts : List (Term ℕ)) (rs : List ℕ) (ps : List (List ℕ × ℕ)) (i d : ℕ) → AreValues ts rs ps → i < length ps → (i < length rs)
+    × (get_or rs i d < length ts) × (term_at ts (get_or rs i d) ≡ var (get_or ps i ([], 0)).1)
 value-at ts [] [] i d v h = absurd (omega arith)
 value-at ts [] (p ∷ ps) i d v h = absurd v
 value-at ts (r ∷ rs) [] i d v h = absurd v
@@ -42,7 +47,8 @@ values-length ts (r ∷ rs) [] v = absurd v
 values-length ts (r ∷ rs) (p ∷ ps) v = ap suc (values-length ts rs ps v.2)
 
 -- what holds of the first terms holds of all
-pub values-all : (ts : List (Term ℕ)) (n : ℕ) (rs : List ℕ) (ps : List (List ℕ × ℕ)) → n ≤ length ts → AreValues (take n ts) rs ps → AreValues ts rs ps
+pub values-all : (ts : List (Term ℕ)) (n : ℕ) (rs : List ℕ) (ps : List (List ℕ × ℕ)) → n ≤ length ts → AreValues (take n ts) rs ps
+    → AreValues ts rs ps
 values-all ts n [] [] h v = tt
 values-all ts n [] (p ∷ ps) h v = v
 values-all ts n (r ∷ rs) [] h v = v

@@ -1,13 +1,16 @@
 -- What a move does to the counts: each turn is counted, steps never fall, and a silent move takes a step or ends the walk.
-use Rattle.std.proofs.Common.{◌≡◌, ℕ, ◌+◌, ◌-◌, ◌*◌, ◌<◌, ◌≤◌, ◌==◌, nat_le, Bool, true, false, List, [], ◌∷◌, length, Option, Some, None, refl, arith, if◌then◌else◌}
+use Rattle.std.proofs.Common.{◌≡◌, ℕ, ◌+◌, ◌-◌, ◌*◌, ◌<◌, ◌≤◌, ◌==◌, nat_le, Bool, true, false, List, [], ◌∷◌, length, Option, Some, None}
+use Rattle.std.proofs.Common.{refl, arith, if◌then◌else◌}
 use Rattle.std.proofs.lemmas.Bool.Decides.{nat_tests}
 use Rattle.op_logic.specs.Term.{Term, shift}
 use Rattle.op_logic.specs.Bind.{Bindings, solve, unify, Solved as Result}
 use Rattle.op_trace.specs.declared.barrier.Barrier.{Barrier}
 use Rattle.op_trace.specs.World.{Text, text_eq, Clause, World, Setup, Item, Goal, Cut, Exit, Solved}
-use Rattle.op_trace.specs.Visit.{Stopped, Control, TrueGoal, FailGoal, CutGoal, Conjunction, Disjunction, IfThenElse, BoxedGoal, control, entered, Choice, Redo, Branch, More, Fail, Condition}
+use Rattle.op_trace.specs.Visit.{Stopped, Control, TrueGoal, FailGoal, CutGoal, Conjunction, Disjunction, IfThenElse, BoxedGoal, control}
+use Rattle.op_trace.specs.Visit.{entered, Choice, Redo, Branch, More, Fail, Condition}
 use Rattle.op_trace.proofs.Later.{IsLess, within-less}
-use Rattle.op_machine.specs.Resume.{keep, with_more, State, Forward, Backward, Over, Moved, silent, paid, pay, chosen, head_unified, tried, branched, move, world_of}
+use Rattle.op_machine.specs.Resume.{keep, with_more, State, Forward, Backward, Over, Moved, silent, paid, pay, chosen, head_unified, tried}
+use Rattle.op_machine.specs.Resume.{branched, move, world_of}
 use Rattle.op_machine.specs.inner.Bounds.{IsGoalFirst, Counted}
 
 abbrev pub count_in : State → ℕ
@@ -26,7 +29,8 @@ paid-onward true s n w h test below k =
     record { count = (k fits).count; steps = omega (arith, (k fits).steps) }
 paid-onward false s n w h test below k = record { count = omega arith; steps = below }
 
-pub chosen-onward : (q : Control) (s : Setup) (t : Term Text) (m : Barrier) (J : List Item) (K : List Choice) (σ : Bindings Text) (w : World)
+pub chosen-onward : (q : Control) (s : Setup) (t : Term Text) (m : Barrier) (J : List Item) (K : List Choice) (σ : Bindings Text)
+    (w : World)
     → IsOnward s w (chosen q t m J K σ w)
 chosen-onward TrueGoal s t m J K σ w = record { count = omega arith; steps = omega arith }
 chosen-onward FailGoal s t m J K σ w = record { count = omega arith; steps = omega arith }
@@ -54,7 +58,8 @@ tried-onward s c k g σ J K w below =
     paid-onward (nat_le (w.steps + 1) s.budget) s 1 w _ refl below
     (λ fits. met-onward s c k g J K (record w { steps = w.steps + 1 })
     (unify text_eq (s.budget - (w.steps + 1)) σ ((g, shift w.variables c.head) ∷ [])) fits
-    (within-less {A = Option (Bindings Text)} (s.budget - (w.steps + 1)) (solve text_eq (s.budget - (w.steps + 1)) σ ((g, shift {N = Text} w.variables c.head) ∷ []))))
+    (within-less {A = Option (Bindings Text)} (s.budget - (w.steps + 1))
+    (solve text_eq (s.budget - (w.steps + 1)) σ ((g, shift {N = Text} w.variables c.head) ∷ []))))
 
 pub branched-onward : (s : Setup) (t : Term Text) (m : Barrier) (σ : Bindings Text) (J : List Item) (K : List Choice) (w : World)
     → w.steps ≤ s.budget → IsOnward s w (branched s t m σ J K w)
@@ -64,13 +69,19 @@ branched-onward s t m σ J K w below =
 pub move-onward : (s : Setup) (t : State) → (world_of t).steps ≤ s.budget → IsOnward s (world_of t) (move s t)
 move-onward s (Forward [] K σ w) below = go (w.solutions + 1 == s.wanted)
   where
-    go : (b : Bool) → IsOnward s w (record { turns = Solved σ (record w { solutions = w.solutions + 1 }) ∷ []; state = if b then Over Stopped (record w { solutions = w.solutions + 1 }) else Backward K (record w { solutions = w.solutions + 1 }) })
+    go : (b : Bool) → IsOnward s w
+        (record {
+          turns = Solved σ (record w { solutions = w.solutions + 1 }) ∷ [];
+          state =
+              if b then Over Stopped (record w { solutions = w.solutions + 1 }) else Backward K (record w { solutions = w.solutions + 1 });
+        })
     go true = record { count = omega arith; steps = omega arith }
     go false = record { count = omega arith; steps = omega arith }
 move-onward s (Forward (Exit k g ∷ J) K σ w) below = record { count = omega arith; steps = omega arith }
 move-onward s (Forward (Cut m ∷ J) K σ w) below = record { count = omega arith; steps = omega arith }
 move-onward s (Forward (Goal t m ∷ J) K σ w) below =
-    paid-onward (nat_le (w.steps + 1) s.budget) s 1 w _ refl below (λ fits. chosen-onward (control t) s t m J K σ (record w { steps = w.steps + 1 }))
+    paid-onward (nat_le (w.steps + 1) s.budget) s 1 w _ refl below
+    (λ fits. chosen-onward (control t) s t m J K σ (record w { steps = w.steps + 1 }))
 move-onward s (Backward [] w) below = record { count = omega arith; steps = omega arith }
 move-onward s (Backward (Redo k g σ J ∷ K) w) below = record { count = omega arith; steps = omega arith }
 move-onward s (Backward (Branch t m σ J ∷ K) w) below = branched-onward s t m σ J K w below
@@ -125,13 +136,15 @@ first-live (Cut m ∷ J) K σ w h = absurd h
 first-live (Exit k g ∷ J) K σ w h = absurd h
 
 -- a silent move that isn't at the end makes the state lighter
-pub move-lighter : (s : Setup) (t : State) → (world_of t).steps ≤ s.budget → (IsOver t → ⊥) → HasClauses t → Counted s t → (move s t).turns ≡ []
+pub move-lighter : (s : Setup) (t : State) → (world_of t).steps ≤ s.budget → (IsOver t → ⊥) → HasClauses t → Counted s t → (move s t).turns
+    ≡ []
     → weight s (move s t).state < weight s t
 move-lighter s (Forward [] K σ w) below live has counted e = cc
 move-lighter s (Forward (Exit k g ∷ J) K σ w) below live has counted e = cc
 move-lighter s (Forward (Cut m ∷ J) K σ w) below live has counted e = omega (arith, first-live J (keep m K) σ w counted.3.0)
 move-lighter s (Forward (Goal t m ∷ J) K σ w) below live has counted e =
-    paid-lighter (nat_le (w.steps + 1) s.budget) s 1 w _ refl below (λ fits. chosen-onward (control t) s t m J K σ (record w { steps = w.steps + 1 }))
+    paid-lighter (nat_le (w.steps + 1) s.budget) s 1 w _ refl below
+    (λ fits. chosen-onward (control t) s t m J K σ (record w { steps = w.steps + 1 }))
 move-lighter s (Backward [] w) below live has counted e = omega arith
 move-lighter s (Backward (Redo k g σ J ∷ K) w) below live has counted e = cc
 move-lighter s (Backward (Branch t m σ J ∷ K) w) below live has counted e =
@@ -144,5 +157,6 @@ move-lighter s (Backward (More (c ∷ cs) k g σ J ∷ K) w) below live has coun
     paid-lighter (nat_le (w.steps + 1) s.budget) s 1 w _ refl below
     (λ fits. met-onward s c k g J (with_more cs k g σ J K) (record w { steps = w.steps + 1 })
     (unify text_eq (s.budget - (w.steps + 1)) σ ((g, shift w.variables c.head) ∷ [])) fits
-    (within-less {A = Option (Bindings Text)} (s.budget - (w.steps + 1)) (solve text_eq (s.budget - (w.steps + 1)) σ ((g, shift {N = Text} w.variables c.head) ∷ []))))
+    (within-less {A = Option (Bindings Text)} (s.budget - (w.steps + 1))
+    (solve text_eq (s.budget - (w.steps + 1)) σ ((g, shift {N = Text} w.variables c.head) ∷ []))))
 move-lighter s (Over r w) below live has counted e = absurd (live tt)

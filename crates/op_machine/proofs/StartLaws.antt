@@ -1,5 +1,6 @@
 -- A machine that has made no move.
-use Rattle.std.proofs.Common.{◌≡◌, ℕ, zero, suc, ◌+◌, ◌<◌, ◌≤◌, List, [], ◌∷◌, ◌++◌, length, map, take, reverse, refl, sym, ap, ◌∙◌, subst, arith}
+use Rattle.std.proofs.Common.{◌≡◌, ℕ, zero, suc, ◌+◌, ◌<◌, ◌≤◌, List, [], ◌∷◌, ◌++◌, length, map, take, reverse, refl, sym, ap, ◌∙◌, subst}
+use Rattle.std.proofs.Common.{arith}
 use Rattle.op_logic.specs.Term.{Term, shift, atom}
 use Rattle.op_logic.specs.Bind.{Bindings}
 use Rattle.op_logic.specs.Laws.{rename_bindings}
@@ -22,7 +23,8 @@ use Rattle.op_store.specs.declared.goal.Goal.{Goal}
 use Rattle.op_store.specs.Queries.{IsSoundGoal}
 use Rattle.op_store.specs.Stored.{Stored}
 use Rattle.op_machine.specs.Program.{clauses, goal_named}
-use Rattle.op_machine.specs.Meaning.{Level, level_in, setup_of, world_in, state_with, state_of, items_in, item_term, bindings_in, choice_points_of, Frame}
+use Rattle.op_machine.specs.Meaning.{Level, level_in, setup_of, world_in, state_with, state_of, items_in, item_term, bindings_in}
+use Rattle.op_machine.specs.Meaning.{choice_points_of, Frame}
 use Rattle.op_machine.specs.inner.Invariant.{IsGood, IsGoal, AreContinuations, AreFrames, AreValues, IsFailure, IsMode, IsSound}
 use Rattle.op_machine.specs.inner.Continuations.{continuation_in}
 use Rattle.op_frames.specs.declared.boxes.BoxFrame.{BoxFrame}
@@ -59,9 +61,11 @@ begun t q = Forward (world.Goal (goal_named t q.body) (Call 0) ∷ []) [] [] (st
 
 abbrev numbered : Stored → ℕ → ℕ → ℕ → ℕ → ℕ → ℕ → World
 numbered t variables calls conditions steps events solutions =
-    record (loaded (clauses t)) { variables = variables; calls = calls; conditions = conditions; steps = steps; events = events; solutions = solutions }
+    record (loaded (clauses t))
+    { variables = variables; calls = calls; conditions = conditions; steps = steps; events = events; solutions = solutions }
 
-first-world : (c : Core) (q : Goal) (body n : ℕ) → IsSoundGoal n q → IsFirst c q body → world_in c ≡ started q.vars (loaded (clauses c.store))
+first-world : (c : Core) (q : Goal) (body n : ℕ) → IsSoundGoal n q → IsFirst c q body → world_in c
+    ≡ started q.vars (loaded (clauses c.store))
 first-world c q body n query f =
     let v : c.bindings.count ≡ q.vars = f.count in
     let a = f.numbers.0 in
@@ -81,15 +85,18 @@ first-state c q body n query f =
     let t : Stored = c.store in
     let v : Level = level_in c in
     let items : items_in t v 1 ≡ world.Goal (goal_named t q.body) (Call 0) ∷ [] =
-    ap (λ (L : List (List Item)). map (item_term t v) (continuation_in L 1)) f.continuations ∙ ap (λ (x : Term ℕ). world.Goal (goal_named t x) (Call 0) ∷ []) f.value in
-    let bound : bindings_in t v ≡ [] = ap (λ (ps : List (ℕ × ℕ)). rename_bindings (name_at t.names) (resolved c.bindings.terms ps)) f.bound in
+    ap (λ (L : List (List Item)). map (item_term t v) (continuation_in L 1)) f.continuations
+    ∙ ap (λ (x : Term ℕ). world.Goal (goal_named t x) (Call 0) ∷ []) f.value in
+    let bound : bindings_in t v ≡ [] = ap (λ (ps : List (ℕ × ℕ)). rename_bindings (name_at t.names) (resolved c.bindings.terms ps))
+    f.bound in
     ap (state_with t v c.frames.choices (world_in c)) f.mode
     ∙ (ap (λ (F : List Frame). Forward (items_in t v 1) (choice_points_of t v (reverse F)) (bindings_in t v) (world_in c)) f.frames
     ∙ (ap (λ I. Forward I [] (bindings_in t v) (world_in c)) items
     ∙ (ap (λ (σ : Bindings Text). Forward (world.Goal (goal_named t q.body) (Call 0) ∷ []) [] σ (world_in c)) bound
     ∙ ap (λ (w : World). Forward (world.Goal (goal_named t q.body) (Call 0) ∷ []) [] [] w) (first-world c q body n query f))))
 
-pub first-begun : (c : Core) (q : Goal) (body n budget wanted : ℕ) → IsSoundGoal n q → IsFirst c q body → c.budget ≡ budget → c.wanted ≡ wanted → IsBegun c.store q.body q.vars q.names budget wanted c
+pub first-begun : (c : Core) (q : Goal) (body n budget wanted : ℕ) → IsSoundGoal n q → IsFirst c q body → c.budget ≡ budget → c.wanted
+    ≡ wanted → IsBegun c.store q.body q.vars q.names budget wanted c
 first-begun c q body n budget wanted query f b w = record {
   state = first-state c q body n query f;
   names = f.names;
@@ -129,24 +136,29 @@ first-good c q body query f =
     let goal : IsGoal n c.bindings.terms body = (f.there, subst (HasNames n) (sym f.value) query.names) in
     record {
       level = record {
-        continuations = subst (AreContinuations n c.bindings.terms) (sym f.continuations) (first-continuations-good n c.bindings.terms body goal);
+        continuations = subst (AreContinuations n c.bindings.terms) (sym f.continuations)
+            (first-continuations-good n c.bindings.terms body goal);
         bound = subst (λ (ps : List (ℕ × ℕ)). HaveNames n (resolved c.bindings.terms ps)) (sym f.bound) tt;
         floor_there = f.floor_there;
       };
       frames = subst (λ (F : List Frame). AreFrames c.store c.floor.terms (level_in c) (reverse F)) (sym f.frames) tt;
-      mode = subst (λ (q : Mode). IsMode (length c.continuations) q) (sym f.mode) (subst (λ (L : List (List Item)). 1 < length L) (sym f.continuations) (omega arith));
+      mode = subst (λ (q : Mode). IsMode (length c.continuations) q) (sym f.mode)
+          (subst (λ (L : List (List Item)). 1 < length L) (sym f.continuations) (omega arith));
       values = subst (AreValues (take c.floor.terms c.bindings.terms) c.values.items) (sym f.names) f.values;
       failure = f.failure;
       boxes = first-boxes c q body f;
-      boxed = subst (λ (F : List Frame). AreBoxed c.frames.boxes c.continuations c.calls (length c.continuations) (reverse F)) (sym f.frames) tt;
+      boxed = subst (λ (F : List Frame). AreBoxed c.frames.boxes c.continuations c.calls (length c.continuations) (reverse F))
+          (sym f.frames) tt;
     }
 
-pub first-sound : (c : Core) (q : Goal) (body : ℕ) → IsSoundGoal (length c.store.names) q → IsFirst c q body → c.budget ≤ 1000000000 → IsSound c
+pub first-sound : (c : Core) (q : Goal) (body : ℕ) → IsSoundGoal (length c.store.names) q → IsFirst c q body → c.budget ≤ 1000000000
+    → IsSound c
 first-sound c q body query f limit =
     let s : state_of c ≡ begun c.store q = first-state c q body (length c.store.names) query f in
     record {
       good = first-good c q body query f;
-      counted = subst (Counted (setup_of c)) (sym s) (record { steps = omega arith; calls = omega arith; conditions = omega arith }, omega arith, omega arith, tt, tt);
+      counted = subst (Counted (setup_of c)) (sym s)
+          (record { steps = omega arith; calls = omega arith; conditions = omega arith }, omega arith, omega arith, tt, tt);
       in_step = subst InStep (sym s) ((λ n h. absurd h, tt), (omega arith, tt), tt);
       limit = limit;
     }
@@ -173,7 +185,8 @@ core_of t f p budget wanted = record {
   wanted = wanted;
 }
 
-pub first-core : (t : Stored) (f : Framed Held) (p : Parts) (q : Goal) (budget wanted : ℕ) → IsMade q p → f.choices ≡ [] → f.boxes ≡ [] → IsFirst (core_of t f p budget wanted) q p.body
+pub first-core : (t : Stored) (f : Framed Held) (p : Parts) (q : Goal) (budget wanted : ℕ) → IsMade q p → f.choices ≡ [] → f.boxes ≡ []
+    → IsFirst (core_of t f p budget wanted) q p.body
 first-core t f p q budget wanted made choices boxes = record {
   continuations = made.continuations;
   mode = ap mode.Forward made.items;
@@ -194,7 +207,8 @@ first-core t f p q budget wanted made choices boxes = record {
 pub parts-made : (p : Parts) (q : Goal) (first : ℕ) (none given valued failed : bind.State) (empty : List (List Item))
     → none ≡ record { terms = []; bound = []; count = 0 } → first ≡ none.count → given ≡ record none { count = none.count + q.vars }
     → valued.bound ≡ given.bound → valued.count ≡ given.count → AreValues valued.terms p.values.items q.names
-    → failed.bound ≡ valued.bound → failed.count ≡ valued.count → Grows valued failed → p.failure < length failed.terms → term_at failed.terms p.failure ≡ atom 1
+    → failed.bound ≡ valued.bound → failed.count ≡ valued.count → Grows valued failed → p.failure < length failed.terms
+    → term_at failed.terms p.failure ≡ atom 1
     → p.floor ≡ bind.mark_of failed → p.body < length p.bindings.terms → term_at p.bindings.terms p.body ≡ shift first q.body
     → p.bindings.bound ≡ failed.bound → p.bindings.count ≡ failed.count → Grows failed p.bindings
     → empty ≡ [] ∷ [] → p.items ≡ length empty → p.continuations ≡ empty ++ (item.Goal p.body (Call 0) ∷ continuation_in empty 0) ∷ []
@@ -211,7 +225,8 @@ parts-made p q first none given valued failed empty en ef eg vb vc vv fb fc more
       value = value ∙ (ap (λ (k : ℕ). shift k q.body) start ∙ shift-none q.body);
       count = cc_ ∙ (fc ∙ (vc ∙ (ap (λ (s : bind.State). s.count) eg ∙ ap (λ (s : bind.State). s.count + q.vars) en ∙ omega arith)));
       names = names;
-      values = subst (λ (ts : List (Term ℕ)). AreValues ts p.values.items q.names) (sym front) (values-stay valued failed p.values.items q.names more vv);
+      values = subst (λ (ts : List (Term ℕ)). AreValues ts p.values.items q.names) (sym front)
+          (values-stay valued failed p.values.items q.names more vv);
       failure = subst (λ (ts : List (Term ℕ)). IsFailure ts p.failure) (sym front) (inside, fail);
       floor_there = omega (arith, at, grows.terms_there);
     }

@@ -13,7 +13,8 @@ use Rattle.op_frames.specs.declared.choice.ChoiceKind.{ChoiceKind}
 use Rattle.op_frames.specs.declared.choice.ChoiceKind.TheVariants as kind
 use Rattle.op_store.specs.Snapshots.{snapshot_clauses}
 use Rattle.op_store.specs.Stored.{Stored}
-use Rattle.op_machine.specs.Meaning.{Level, level_at, level_in, setup_of, world_in, state_of, state_with, items_in, term_in, bindings_in, choice_points_of, choice_point_by}
+use Rattle.op_machine.specs.Meaning.{Level, level_at, level_in, setup_of, world_in, state_of, state_with, items_in, term_in, bindings_in}
+use Rattle.op_machine.specs.Meaning.{choice_points_of, choice_point_by}
 use Rattle.op_machine.specs.inner.Invariant.{IsSound, AreFrames, IsKind}
 use Rattle.op_machine.specs.inner.Bounds.{Counted, event_bound}
 use Rattle.op_machine.specs.Resume.{State, Forward, Backward, Over, Moved, owed, move, world_of}
@@ -44,7 +45,9 @@ pub record Fits (c : Core) : Type 0 where
   pub turns : turns_in c < 2 ^ 63
 
 pub counted-numbers : (s : Setup) (t : State) → s.budget ≤ 1000000000 → Counted s t
-    → ((world_of t).steps ≤ s.budget) × ((world_of t).events ≤ event_bound (world_of t).steps) × ((world_of t).solutions ≤ suc (world_of t).steps) × ((world_of t).calls ≤ (world_of t).steps) × ((world_of t).conditions ≤ (world_of t).steps)
+    → ((world_of t).steps ≤ s.budget) × ((world_of t).events ≤ event_bound (world_of t).steps)
+    × ((world_of t).solutions ≤ suc (world_of t).steps) × ((world_of t).calls ≤ (world_of t).steps)
+    × ((world_of t).conditions ≤ (world_of t).steps)
 counted-numbers s (Forward I K σ w) b h = (h.0.steps, omega arith, omega arith, h.0.calls, h.0.conditions)
 counted-numbers s (Backward K w) b h = (h.0.steps, omega arith, omega arith, h.0.calls, h.0.conditions)
 counted-numbers s (Over r w) b h = (h.0.steps, omega arith, omega arith, h.0.calls, h.0.conditions)
@@ -53,7 +56,8 @@ pub bound-top : (n : ℕ) → n ≤ 1000000000 → event_bound n ≤ 20000000040
 bound-top n h = bound-same n 1000000000 h
 
 pub numbers-fit : (c : Core) (w : World) → world_of (state_of c) ≡ w → c.budget ≤ 1000000000
-    → (w.steps ≤ c.budget) × (w.events ≤ event_bound w.steps) × (w.solutions ≤ suc w.steps) × (w.calls ≤ w.steps) × (w.conditions ≤ w.steps) → w ≡ world_in c → Fits c
+    → (w.steps ≤ c.budget) × (w.events ≤ event_bound w.steps) × (w.solutions ≤ suc w.steps) × (w.calls ≤ w.steps)
+    × (w.conditions ≤ w.steps) → w ≡ world_in c → Fits c
 numbers-fit c w e b h same =
     let s : w.steps ≡ c.steps = ap (λ (x : World). x.steps) same in
     let ev : w.events ≡ c.events = ap (λ (x : World). x.events) same in
@@ -61,10 +65,19 @@ numbers-fit c w e b h same =
     let ca : w.calls ≡ c.calls = ap (λ (x : World). x.calls) same in
     let co : w.conditions ≡ c.conditions = ap (λ (x : World). x.conditions) same in
     let top : event_bound w.steps ≤ 2000000004000000000 = bound-top w.steps (omega (arith, h.0)) in
-    record { steps = omega (arith, h.0); events = omega (arith, h.1, top); solutions = omega (arith, h.0, h.2); calls = omega (arith, h.0, h.3); conditions = omega (arith, h.0, h.4); turns = omega (arith, h.0, h.1, h.2, top) }
+    record {
+      steps = omega (arith, h.0);
+      events = omega (arith, h.1, top);
+      solutions = omega (arith, h.0, h.2);
+      calls =
+          omega (arith, h.0, h.3);
+      conditions = omega (arith, h.0, h.4);
+      turns = omega (arith, h.0, h.1, h.2, top);
+    }
 
 pub sound-fits : (c : Core) → IsSound c → Fits c
-sound-fits c s = numbers-fit c (world_of (state_of c)) refl s.limit (counted-numbers (setup_of c) (state_of c) s.limit s.counted) (world-is c)
+sound-fits c s = numbers-fit c (world_of (state_of c)) refl s.limit (counted-numbers (setup_of c) (state_of c) s.limit s.counted)
+    (world-is c)
 
 abbrev pub moved_from : Core → Moved
 moved_from c = move (setup_of c) (state_of c)
@@ -88,10 +101,12 @@ advance-sound old new s h a = record {
 pub advance-onward : (old new : Core) (s : Step) → IsSound old → Advances old new (moved_from old) s
     → (turns_in new ≡ turns_in old + length (turns_of s new)) × (old.steps ≤ new.steps)
 advance-onward old new s h a =
-    let on : IsOnward (setup_of old) (world_of (state_of old)) (moved_from old) = move-onward (setup_of old) (state_of old) (below-budget old h) in
+    let on : IsOnward (setup_of old) (world_of (state_of old)) (moved_from old) =
+    move-onward (setup_of old) (state_of old) (below-budget old h) in
     let before : world_of (state_of old) ≡ world_in old = world-is old in
     let after : world_of (moved_from old).state ≡ world_in new = ap world_of (sym a.state) ∙ world-is new in
-    let be : (world_of (state_of old)).events + (world_of (state_of old)).solutions ≡ turns_in old = ap (λ (w : World). w.events + w.solutions) before in
+    let be : (world_of (state_of old)).events + (world_of (state_of old)).solutions
+    ≡ turns_in old = ap (λ (w : World). w.events + w.solutions) before in
     let ae : count_in (moved_from old).state ≡ turns_in new = ap (λ (w : World). w.events + w.solutions) after in
     let n : length (turns_of s new) ≡ length (moved_from old).turns = ap length a.turns in
     let bs : (world_of (state_of old)).steps ≡ old.steps = ap (λ (w : World). w.steps) before in
@@ -123,10 +138,12 @@ walked-on first mid new w a = record {
   count = omega (arith, w.count, (advance-onward mid new step.Silent w.follows.sound a).0);
 }
 
-pub showed-on : (first mid new : Core) (s : Step) (t : Turn) → turns_of s new ≡ t ∷ [] → Walked first mid → Advances mid new (moved_from mid) s → Showed first new t
+pub showed-on : (first mid new : Core) (s : Step) (t : Turn) → turns_of s new ≡ t ∷ [] → Walked first mid
+    → Advances mid new (moved_from mid) s → Showed first new t
 showed-on first mid new s t one w a = record {
   follows = follows-on first mid new s w.follows a;
-  owed = w.owed ∙ (advance-owed mid new s w.follows.sound a ∙ ap (λ (ts : List Turn). with_turns ts (owed (setup_of new) (state_of new))) one);
+  owed = w.owed ∙ (advance-owed mid new s w.follows.sound a
+      ∙ ap (λ (ts : List Turn). with_turns ts (owed (setup_of new) (state_of new))) one);
   count = omega (arith, w.count, (advance-onward mid new s w.follows.sound a).0, ap length one);
 }
 
@@ -145,37 +162,46 @@ walked-self c s = record {
 }
 
 -- choice points of clauses have some
-pub frames-clauses : (t : Stored) (floor : ℕ) (v : Level) (F : List Frame) (w : World) → AreFrames t floor v F → HasClauses (Backward (choice_points_of t v F) w)
+pub frames-clauses : (t : Stored) (floor : ℕ) (v : Level) (F : List Frame) (w : World) → AreFrames t floor v F
+    → HasClauses (Backward (choice_points_of t v F) w)
 frames-clauses t floor v [] w a = tt
 frames-clauses t floor v (f ∷ F) w a = go f.kind a.2.kind
   where
     u : Level
     u = level_at f v
 
-    go : (q : ChoiceKind) → IsKind (length t.names) q f.kept → HasClauses (Backward (choice_point_by t u q f.kept f.rest ∷ choice_points_of t u F) w)
+    go : (q : ChoiceKind) → IsKind (length t.names) q f.kept
+        → HasClauses (Backward (choice_point_by t u q f.kept f.rest ∷ choice_points_of t u F) w)
     go (kind.Redo c) k = tt
     go (kind.Branch p) k = tt
-    go (kind.More c) k = subst (λ (cs : List Clause). HasClauses (Backward (More cs c (term_in t u f.kept.goal) (bindings_in t u) (items_in t u f.rest) ∷ choice_points_of t u F) w)) (sym (clauses_from-some t (snapshot_clauses f.kept.snapshot) f.kept.next k.0).1.1) tt
+    go (kind.More c) k = subst (λ (cs : List Clause).
+        HasClauses (Backward (More cs c (term_in t u f.kept.goal) (bindings_in t u) (items_in t u f.rest) ∷ choice_points_of t u F) w))
+        (sym (clauses_from-some t (snapshot_clauses f.kept.snapshot) f.kept.next k.0).1.1) tt
     go (kind.Fail c) k = tt
     go (kind.Condition p) k = tt
     go (kind.Catch c) k = absurd k
     go (kind.Findall c) k = absurd k
 
-pub has-clauses : (t : Stored) (floor : ℕ) (v : Level) (F : List Frame) (w : World) (q : Mode) → AreFrames t floor v (reverse F) → HasClauses (state_with t v F w q)
+pub has-clauses : (t : Stored) (floor : ℕ) (v : Level) (F : List Frame) (w : World) (q : Mode) → AreFrames t floor v (reverse F)
+    → HasClauses (state_with t v F w q)
 has-clauses t floor v F w (mode.Forward i) a = tt
 has-clauses t floor v F w mode.Backward a = frames-clauses t floor v (reverse F) w a
 has-clauses t floor v F w (mode.Over e) a = tt
 
-pub not-over : (t : Stored) (v : Level) (F : List Frame) (w : World) (q : Mode) → ((e : Ending) → q ≡ mode.Over e → ⊥) → IsOver (state_with t v F w q) → ⊥
+pub not-over : (t : Stored) (v : Level) (F : List Frame) (w : World) (q : Mode) → ((e : Ending) → q ≡ mode.Over e → ⊥)
+    → IsOver (state_with t v F w q) → ⊥
 not-over t v F w (mode.Forward i) no_end o = o
 not-over t v F w mode.Backward no_end o = o
 not-over t v F w (mode.Over e) no_end o = no_end e refl
 
-pub lighter-on : (mid new : Core) → IsSound mid → ((e : Ending) → mid.mode ≡ mode.Over e → ⊥) → Advances mid new (moved_from mid) step.Silent
+pub lighter-on : (mid new : Core) → IsSound mid → ((e : Ending) → mid.mode ≡ mode.Over e → ⊥)
+    → Advances mid new (moved_from mid) step.Silent
     → weight (setup_of new) (state_of new) < weight (setup_of mid) (state_of mid)
 lighter-on mid new s no_end a =
     let l : weight (setup_of mid) (moved_from mid).state < weight (setup_of mid) (state_of mid) =
-    move-lighter (setup_of mid) (state_of mid) (below-budget mid s) (not-over mid.store (level_in mid) mid.frames.choices (world_in mid) mid.mode no_end)
-    (has-clauses mid.store mid.floor.terms (level_in mid) mid.frames.choices (world_in mid) mid.mode s.good.frames) s.counted (sym a.turns) in
+    move-lighter (setup_of mid) (state_of mid) (below-budget mid s)
+    (not-over mid.store (level_in mid) mid.frames.choices (world_in mid) mid.mode no_end)
+    (has-clauses mid.store mid.floor.terms (level_in mid) mid.frames.choices (world_in mid) mid.mode s.good.frames) s.counted
+    (sym a.turns) in
     subst (λ (x : Setup). weight x (state_of new) < weight (setup_of mid) (state_of mid)) (setup-same mid new a.budget a.wanted)
     (subst (λ (t : State). weight (setup_of mid) t < weight (setup_of mid) (state_of mid)) (sym a.state) l)

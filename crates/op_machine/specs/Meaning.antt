@@ -58,7 +58,8 @@ items_in t v n = map (item_term t v) (continuation_in v.continuations n)
 abbrev pub choice_point_by : Stored → Level → ChoiceKind → Held → ℕ → visit.Choice
 choice_point_by t v (kind.Redo k) h n = visit.Redo k (term_in t v h.goal) (bindings_in t v) (items_in t v n)
 choice_point_by t v (kind.Branch p) h n = visit.Branch (term_in t v h.goal) h.barrier (bindings_in t v) (items_in t v n)
-choice_point_by t v (kind.More k) h n = visit.More (clauses_from t (snapshot_clauses h.snapshot) h.next) k (term_in t v h.goal) (bindings_in t v) (items_in t v n)
+choice_point_by t v (kind.More k) h n = visit.More (clauses_from t (snapshot_clauses h.snapshot) h.next) k (term_in t v h.goal)
+    (bindings_in t v) (items_in t v n)
 choice_point_by t v (kind.Fail k) h n = visit.Fail k (term_in t v h.goal) (bindings_in t v) (items_in t v n)
 choice_point_by t v (kind.Condition p) h n = visit.Condition h.condition (term_in t v h.goal) h.barrier (bindings_in t v) (items_in t v n)
 choice_point_by t v (kind.Catch k) h n = visit.Fail k (term_in t v h.goal) (bindings_in t v) (items_in t v n)
@@ -69,7 +70,12 @@ choice_point_of t v f = choice_point_by t v f.kind f.kept f.rest
 
 -- the moment at which a choice point was made, which is the beginning of a later one
 abbrev pub level_at : Frame → Level → Level
-level_at f v = record { terms = take f.mark.terms v.terms; bound = oldest f.mark.bound v.bound; continuations = take f.kept.continuations v.continuations }
+level_at f v = record {
+  terms = take f.mark.terms v.terms;
+  bound = oldest f.mark.bound v.bound;
+  continuations =
+      take f.kept.continuations v.continuations;
+}
 
 -- the last first
 abbrev pub choice_points_of : Stored → Level → List Frame → List visit.Choice
@@ -80,7 +86,15 @@ abbrev pub setup_of : Core → Setup
 setup_of c = record { budget = c.budget; wanted = c.wanted }
 
 abbrev pub world_in : Core → World
-world_in c = record (loaded (clauses c.store)) { variables = c.bindings.count; calls = c.calls; conditions = c.conditions; steps = c.steps; events = c.events; solutions = c.solutions }
+world_in c = record (loaded (clauses c.store)) {
+  variables = c.bindings.count;
+  calls = c.calls;
+  conditions = c.conditions;
+  steps = c.steps;
+  events = c.events;
+  solutions =
+      c.solutions;
+}
 
 abbrev pub level_of : bind.State → List (List Item) → Level
 level_of s L = record { terms = s.terms; bound = s.bound; continuations = L }
@@ -114,4 +128,11 @@ abbrev pub state_of : Core → State
 state_of c = state_with c.store (level_in c) c.frames.choices (world_in c) c.mode
 
 abbrev pub event_seen : Stored → bind.State → Seen → Event
-event_seen t s e = record { chrono = e.chrono; call = e.call; parent = e.parent; depth = e.depth; port = e.port; goal = goal_named t (value_of s e.goal) }
+event_seen t s e = record {
+  chrono = e.chrono;
+  call = e.call;
+  parent = e.parent;
+  depth = e.depth;
+  port = e.port;
+  goal = goal_named t (value_of s e.goal);
+}

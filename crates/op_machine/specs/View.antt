@@ -13,7 +13,15 @@ pub record Showing : Type 0 where
   pub names : List (List ℕ)
 
 abbrev pub event_in : Showing → Event
-event_in v = record { chrono = v.seen.chrono; call = v.seen.call; parent = v.seen.parent; depth = v.seen.depth; port = v.seen.port; goal = named v.names (value_of v.state v.seen.goal) }
+event_in v = record {
+  chrono = v.seen.chrono;
+  call = v.seen.call;
+  parent = v.seen.parent;
+  depth = v.seen.depth;
+  port = v.seen.port;
+  goal =
+      named v.names (value_of v.state v.seen.goal);
+}
 
 -- its goal is there, and all names are
 pub record IsShowing (v : Showing) : Type 0 where

@@ -1,5 +1,6 @@
 ghost use Rattle.std.specs.Prelude.{◌≡◌, ◌<◌, ◌≤◌, ◌^◌, ◌∷◌, length, IfOk};
-ghost use Rattle.op_machine.specs.Meaning.{world_in, level_in, items_now, bindings_now, choice_points_in, setup_of, state_of, choice_point_of, item_term};
+ghost use Rattle.op_machine.specs.Meaning.{world_in, level_in, items_now, bindings_now, choice_points_in, setup_of, state_of};
+ghost use Rattle.op_machine.specs.Meaning.{choice_point_of, item_term};
 ghost use Rattle.op_machine.specs.inner.Invariant.{IsGood, IsItem, IsFrame, IsSound};
 ghost use Rattle.op_machine.specs.inner.Moves.{Keeps, Advances};
 ghost use Rattle.op_machine.specs.inner.Boxes.{IsTried};
@@ -81,7 +82,8 @@ impl Core {
         requires conditions { self.old.conditions < 2 ^ 63 }
         requires steps { self.old.steps ≤ self.old.budget }
         ensures advances { IfOk result (Advances self.old self.new (move (setup_of self.old)
-            (Forward (item_term self.old.store (level_in self.old) item ∷ items_now self.old rest) (choice_points_in self.old) (bindings_now self.old) (world_in self.old)))) }
+            (Forward (item_term self.old.store (level_in self.old) item ∷ items_now self.old rest) (choice_points_in self.old)
+            (bindings_now self.old) (world_in self.old)))) }
         ensures keeps { Keeps self.old self.new }
     {
         match item {
@@ -102,7 +104,8 @@ impl Core {
         requires events { self.old.events < 2 ^ 63 }
         requires calls { self.old.calls < 2 ^ 63 }
         requires steps { self.old.steps ≤ self.old.budget }
-        ensures advances { IfOk result (Advances self.old self.new (move (setup_of self.old) (Backward (choice_points_in self.old) (world_in self.old)))) }
+        ensures advances { IfOk result (Advances self.old self.new
+            (move (setup_of self.old) (Backward (choice_points_in self.old) (world_in self.old)))) }
         ensures keeps { Keeps self.old self.new }
     {
         match self.pop_choice_point() {
@@ -157,7 +160,8 @@ impl Core {
     pub(crate) fn show_solution(&mut self) -> Step
         requires good { IsGood self.old }
         requires fits { self.old.solutions < 2 ^ 63 }
-        ensures advances { Advances self.old self.new (at_solution (setup_of self.old) (choice_points_in self.old) (bindings_now self.old) (world_in self.old)) result }
+        ensures advances { Advances self.old self.new
+            (at_solution (setup_of self.old) (choice_points_in self.old) (bindings_now self.old) (world_in self.old)) result }
         ensures keeps { Keeps self.old self.new }
     {
         self.solutions += 1;

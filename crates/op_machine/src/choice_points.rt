@@ -92,7 +92,8 @@ impl Core {
         requires kind { IsKind (length self.old.store.names) kind kept }
         requires calls { kept.calls ≡ self.old.calls }
         requires tried { IsTried self.old.frames.boxes self.old.continuations kind kept rest }
-        ensures choices { OnOk result (choice_points_in self.new ≡ choice_point_by self.old.store (level_in self.old) kind kept rest ∷ choice_points_in self.old) }
+        ensures choices { OnOk result (choice_points_in self.new
+            ≡ choice_point_by self.old.store (level_in self.old) kind kept rest ∷ choice_points_in self.old) }
         ensures good { OnOk result (IsGood self.new) }
         ensures rest { self.new ≡ record self.old { frames = self.new.frames } }
         ensures boxes { self.new.frames.boxes ≡ self.old.frames.boxes }
@@ -112,7 +113,8 @@ impl Core {
         requires good { IsGood self.old }
         requires there { rest < length self.old.continuations }
         requires goal { IsGoal (length self.old.store.names) self.old.bindings.terms goal }
-        ensures choices { OnOk result (choice_points_in self.new ≡ visit.Redo call (goal_now self.old goal) (bindings_now self.old) (items_now self.old rest) ∷ choice_points_in self.old) }
+        ensures choices { OnOk result (choice_points_in self.new
+            ≡ visit.Redo call (goal_now self.old goal) (bindings_now self.old) (items_now self.old rest) ∷ choice_points_in self.old) }
         ensures good { OnOk result (IsGood self.new) }
         ensures rest { self.new ≡ record self.old { frames = self.new.frames } }
         ensures boxes { self.new.frames.boxes ≡ self.old.frames.boxes }
@@ -139,7 +141,8 @@ impl Core {
         requires good { IsGood self.old }
         requires there { rest < length self.old.continuations }
         requires goal { IsGoal (length self.old.store.names) self.old.bindings.terms goal }
-        ensures choices { OnOk result (choice_points_in self.new ≡ visit.Fail call (goal_now self.old goal) (bindings_now self.old) (items_now self.old rest) ∷ choice_points_in self.old) }
+        ensures choices { OnOk result (choice_points_in self.new
+            ≡ visit.Fail call (goal_now self.old goal) (bindings_now self.old) (items_now self.old rest) ∷ choice_points_in self.old) }
         ensures good { OnOk result (IsGood self.new) }
         ensures rest { self.new ≡ record self.old { frames = self.new.frames } }
         ensures boxes { self.new.frames.boxes ≡ self.old.frames.boxes }
@@ -175,7 +178,8 @@ impl Core {
         requires goal { IsGoal (length self.old.store.names) self.old.bindings.terms goal }
         requires known { AreKnown (length self.old.store.names) snapshot.now }
         requires called { IsCalled self.old.frames.boxes self.old.calls self.old.continuations call goal rest }
-        ensures choices { OnOk result (choice_points_in self.new ≡ with_more (clauses_from self.old.store snapshot.now next) call (goal_now self.old goal)
+        ensures choices { OnOk result (choice_points_in self.new
+            ≡ with_more (clauses_from self.old.store snapshot.now next) call (goal_now self.old goal)
             (bindings_now self.old) (items_now self.old rest) (choice_points_in self.old)) }
         ensures good { OnOk result (IsGood self.new) }
         ensures rest { self.new ≡ record self.old { frames = self.new.frames } }
@@ -209,7 +213,9 @@ impl Core {
         requires good { IsGood self.old }
         requires there { rest < length self.old.continuations }
         requires goal { IsGoal (length self.old.store.names) self.old.bindings.terms goal }
-        ensures choices { OnOk result (choice_points_in self.new ≡ visit.Branch (goal_now self.old goal) barrier (bindings_now self.old) (items_now self.old rest) ∷ choice_points_in self.old) }
+        ensures choices { OnOk result (choice_points_in self.new
+            ≡ visit.Branch (goal_now self.old goal) barrier (bindings_now self.old) (items_now self.old rest) ∷ choice_points_in self.old)
+                }
         ensures good { OnOk result (IsGood self.new) }
         ensures rest { self.new ≡ record self.old { frames = self.new.frames } }
         ensures boxes { self.new.frames.boxes ≡ self.old.frames.boxes }
@@ -242,7 +248,9 @@ impl Core {
         requires good { IsGood self.old }
         requires there { rest < length self.old.continuations }
         requires goal { IsGoal (length self.old.store.names) self.old.bindings.terms goal }
-        ensures choices { OnOk result (choice_points_in self.new ≡ visit.Condition condition (goal_now self.old goal) barrier (bindings_now self.old) (items_now self.old rest) ∷ choice_points_in self.old) }
+        ensures choices { OnOk result (choice_points_in self.new
+            ≡ visit.Condition condition (goal_now self.old goal) barrier (bindings_now self.old) (items_now self.old rest)
+            ∷ choice_points_in self.old) }
         ensures good { OnOk result (IsGood self.new) }
         ensures rest { self.new ≡ record self.old { frames = self.new.frames } }
         ensures boxes { self.new.frames.boxes ≡ self.old.frames.boxes }
@@ -266,7 +274,8 @@ impl Core {
 
     // The last choice point, which is dropped.
     pub(crate) fn pop_choice_point(&mut self) -> Option<Choice<Held>>
-        ensures frames { MatchOption result (reverse self.old.frames.choices ≡ []) (λ f. reverse self.old.frames.choices ≡ f ∷ reverse self.new.frames.choices) }
+        ensures frames { MatchOption result (reverse self.old.frames.choices ≡ [])
+            (λ f. reverse self.old.frames.choices ≡ f ∷ reverse self.new.frames.choices) }
         ensures empty { IfNone result (reverse self.new.frames.choices ≡ []) }
         ensures rest { self.new ≡ record self.old { frames = self.new.frames } }
         ensures boxes { self.new.frames.boxes ≡ self.old.frames.boxes }

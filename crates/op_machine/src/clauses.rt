@@ -43,7 +43,8 @@ impl Core {
         requires there { rest < length self.old.continuations }
         requires goal { IsGoal (length self.old.store.names) self.old.bindings.terms goal }
         requires called { IsCalled self.old.frames.boxes self.old.calls self.old.continuations call goal rest }
-        ensures choices { OnOk result (choice_points_in self.new ≡ with_more (procedure (clauses self.old.store) (goal_now self.old goal)) call (goal_now self.old goal)
+        ensures choices { OnOk result (choice_points_in self.new
+            ≡ with_more (procedure (clauses self.old.store) (goal_now self.old goal)) call (goal_now self.old goal)
             (bindings_now self.old) (items_now self.old rest) (choice_points_in self.old)) }
         ensures good { OnOk result (IsGood self.new) }
         ensures rest { self.new ≡ record self.old { frames = self.new.frames } }
@@ -57,7 +58,8 @@ impl Core {
     // The clauses of a goal's procedure at this moment, or None where there is no such procedure.
     fn clauses_of(&self, goal: Ref) -> Result<Option<Snapshot>, Memory>
         requires { goal < length self.now.bindings.terms }
-        ensures clauses { IfOk result (λ o. procedure (clauses self.now.store) (goal_now self.now goal) ≡ clauses_from self.now.store (snapshot_clauses o) 0) }
+        ensures clauses { IfOk result (λ o. procedure (clauses self.now.store) (goal_now self.now goal)
+            ≡ clauses_from self.now.store (snapshot_clauses o) 0) }
         ensures known { IfOk result (λ o. AreKnown (length self.now.store.names) (snapshot_clauses o)) }
     {
         match pi_of(self.bindings.outline(&goal)) {
@@ -75,7 +77,8 @@ impl Core {
         requires known { AreKnown (length self.old.store.names) (snapshot_clauses kept.now.snapshot) }
         requires called { IsCalled self.old.frames.boxes self.old.calls self.old.continuations call kept.now.goal rest }
         requires steps { self.old.steps ≤ self.old.budget }
-        ensures advances { IfOk result (Advances self.old self.new (clauses_tried self.old (snapshot_clauses kept.now.snapshot) kept.now.next call kept.now.goal rest)) }
+        ensures advances { IfOk result (Advances self.old self.new
+            (clauses_tried self.old (snapshot_clauses kept.now.snapshot) kept.now.next call kept.now.goal rest)) }
         ensures keeps { Keeps self.old self.new }
     {
         match &kept.snapshot {

@@ -98,7 +98,8 @@ impl Continuations {
     /// The first item of a continuation, and the number of the continuation behind it.
     pub fn first(&self, n: u64) -> Option<(Item, u64)>
         requires { n < length self.now }
-        ensures there { MatchOption result (continuation_in self.now n ≡ []) (λ p. continuation_in self.now n ≡ p.0 ∷ continuation_in self.now p.1) }
+        ensures there { MatchOption result (continuation_in self.now n ≡ [])
+            (λ p. continuation_in self.now n ≡ p.0 ∷ continuation_in self.now p.1) }
         ensures within { IfSome result (λ p. p.1 < n) }
     {
         match cell_at(&self.cells, n) {
@@ -174,7 +175,8 @@ impl Core {
         requires there { rest < length self.old.continuations }
         requires entered { IsEntered self.old.frames.boxes self.old.calls self.old.continuations item rest }
         ensures within { IfOk result (λ n. n < length self.new.continuations) }
-        ensures items { IfOk result (λ n. items_now self.new n ≡ item_term self.old.store (level_in self.old) item ∷ items_now self.old rest) }
+        ensures items { IfOk result (λ n. items_now self.new n
+            ≡ item_term self.old.store (level_in self.old) item ∷ items_now self.old rest) }
         ensures choices { OnOk result (choice_points_in self.new ≡ choice_points_in self.old) }
         ensures good { OnOk result (IsGood self.new) }
         ensures rest { self.new ≡ record self.old { continuations = self.new.continuations } }

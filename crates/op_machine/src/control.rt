@@ -8,7 +8,8 @@ ghost use Rattle.op_machine.specs.Meaning.{world_in, items_now, goal_now, bindin
 ghost use Rattle.op_machine.specs.inner.Invariant.{IsGood, IsGoal};
 ghost use Rattle.op_machine.specs.Program.{goal_named};
 ghost use Rattle.op_machine.specs.Resume.{chosen, silent, Forward};
-ghost use Rattle.op_machine.specs.inner.Moves.{Keeps, Advances, branch_tried, disjunction_before, if_then_else_before, chosen_now, goal_moved, conjunction_before};
+ghost use Rattle.op_machine.specs.inner.Moves.{Keeps, Advances, branch_tried, disjunction_before, if_then_else_before, chosen_now};
+ghost use Rattle.op_machine.specs.inner.Moves.{goal_moved, conjunction_before};
 ghost use Rattle.op_machine.specs.declared.core_state.Step.TheVariants as step;
 
 use crate::continuations::Item;
@@ -45,7 +46,8 @@ impl Core {
         requires fits { self.old.events < 2 ^ 63 }
         requires calls { self.old.calls < 2 ^ 63 }
         requires conditions { self.old.conditions < 2 ^ 63 }
-        ensures advances { IfOk result (Advances self.old self.new (chosen_now self.old (goal_now self.old goal) barrier rest (world_in self.old))) }
+        ensures advances { IfOk result (Advances self.old self.new
+            (chosen_now self.old (goal_now self.old goal) barrier rest (world_in self.old))) }
         ensures keeps { Keeps self.old self.new }
     {
         match kind_of(&self.store, self.bindings.outline(&goal)) {
@@ -84,7 +86,9 @@ impl Core {
         requires there { rest < length self.old.continuations }
         requires goal { IsGoal (length self.old.store.names) self.old.bindings.terms goal }
         requires two { arity (args_of (term_at self.old.bindings.terms goal)) ≡ 2 }
-        ensures advances { OnOk result (Advances self.old self.new (silent (Forward (conjunction_before self.old goal barrier rest) (choice_points_in self.old) (bindings_now self.old) (world_in self.old))) step.Silent) }
+        ensures advances { OnOk result (Advances self.old self.new
+            (silent (Forward (conjunction_before self.old goal barrier rest) (choice_points_in self.old) (bindings_now self.old)
+            (world_in self.old))) step.Silent) }
         ensures keeps { Keeps self.old self.new }
     {
         let first = self.bindings.argument(&goal, 0);
@@ -120,8 +124,10 @@ impl Core {
         requires two { arity (args_of (term_at self.old.bindings.terms goal)) ≡ 2 }
         requires conditions { self.old.conditions < 2 ^ 63 }
         ensures advances { OnOk result (Advances self.old self.new (chosen
-            (control_of_disjunction (goal_named self.old.store (nth_arg (args_of (term_at self.old.bindings.terms goal)) 0)) (goal_named self.old.store (nth_arg (args_of (term_at self.old.bindings.terms goal)) 1)))
-            (goal_now self.old goal) barrier (items_now self.old rest) (choice_points_in self.old) (bindings_now self.old) (world_in self.old)) step.Silent) }
+            (control_of_disjunction (goal_named self.old.store (nth_arg (args_of (term_at self.old.bindings.terms goal)) 0))
+            (goal_named self.old.store (nth_arg (args_of (term_at self.old.bindings.terms goal)) 1)))
+            (goal_now self.old goal) barrier (items_now self.old rest) (choice_points_in self.old) (bindings_now self.old)
+            (world_in self.old)) step.Silent) }
         ensures keeps { Keeps self.old self.new }
     {
         let first = self.bindings.argument(&goal, 0);
@@ -175,8 +181,10 @@ impl Core {
         requires two { arity (args_of (term_at self.old.bindings.terms goal)) ≡ 2 }
         requires conditions { self.old.conditions < 2 ^ 63 }
         ensures advances { OnOk result (Advances self.old self.new (chosen
-            (IfThenElse (goal_named self.old.store (nth_arg (args_of (term_at self.old.bindings.terms goal)) 0)) (goal_named self.old.store (nth_arg (args_of (term_at self.old.bindings.terms goal)) 1)) (atom (codes "fail")))
-            (goal_now self.old goal) barrier (items_now self.old rest) (choice_points_in self.old) (bindings_now self.old) (world_in self.old)) step.Silent) }
+            (IfThenElse (goal_named self.old.store (nth_arg (args_of (term_at self.old.bindings.terms goal)) 0))
+            (goal_named self.old.store (nth_arg (args_of (term_at self.old.bindings.terms goal)) 1)) (atom (codes "fail")))
+            (goal_now self.old goal) barrier (items_now self.old rest) (choice_points_in self.old) (bindings_now self.old)
+            (world_in self.old)) step.Silent) }
         ensures keeps { Keeps self.old self.new }
     {
         let _names = self.store.symbols().count();
@@ -200,7 +208,8 @@ impl Core {
         requires then { IsGoal (length self.old.store.names) self.old.bindings.terms then }
         requires otherwise { IsGoal (length self.old.store.names) self.old.bindings.terms otherwise }
         requires conditions { self.old.conditions < 2 ^ 63 }
-        ensures advances { OnOk result (Advances self.old self.new (if_then_else_before self.old condition then otherwise barrier rest) step.Silent) }
+        ensures advances { OnOk result (Advances self.old self.new (if_then_else_before self.old condition then otherwise barrier rest)
+            step.Silent) }
         ensures keeps { Keeps self.old self.new }
     {
         self.conditions += 1;
@@ -226,7 +235,8 @@ impl Core {
         requires then { IsGoal (length self.old.store.names) self.old.bindings.terms then }
         ensures within { IfOk result (λ n. n < length self.new.continuations) }
         ensures items { IfOk result (λ n. items_now self.new n
-            ≡ Goal (goal_now self.old condition) (InCondition number) ∷ Cut (AtSuccess number) ∷ Goal (goal_now self.old then) barrier ∷ items_now self.old rest) }
+            ≡ Goal (goal_now self.old condition) (InCondition number) ∷ Cut (AtSuccess number) ∷ Goal (goal_now self.old then)
+            barrier ∷ items_now self.old rest) }
         ensures choices { OnOk result (choice_points_in self.new ≡ choice_points_in self.old) }
         ensures good { OnOk result (IsGood self.new) }
         ensures rest { self.new ≡ record self.old { continuations = self.new.continuations } }

@@ -98,8 +98,10 @@ fn struct_kind(name: Sym, arity: u64) -> GoalKind
 pub(crate) fn is_if_then(store: &Store, node: Node) -> bool
     ensures yes { OnTrue result ((g : Term _) → head g ≡ node → arity (args_of g) ≡ 2) }
     ensures condition { OnTrue result ((g : Term _) → head g ≡ node → (e : Term Text)
-        → control_of_disjunction (goal_named store.now g) e ≡ IfThenElse (goal_named store.now (nth_arg (args_of g) 0)) (goal_named store.now (nth_arg (args_of g) 1)) e) }
-    ensures no { OnFalse result ((g : Term _) → head g ≡ node → (e : Term Text) → control_of_disjunction (goal_named store.now g) e ≡ Disjunction (goal_named store.now g) e) }
+        → control_of_disjunction (goal_named store.now g) e
+        ≡ IfThenElse (goal_named store.now (nth_arg (args_of g) 0)) (goal_named store.now (nth_arg (args_of g) 1)) e) }
+    ensures no { OnFalse result ((g : Term _) → head g ≡ node → (e : Term Text) → control_of_disjunction (goal_named store.now g) e
+        ≡ Disjunction (goal_named store.now g) e) }
 {
     let _names = store.symbols().count();
     match node {

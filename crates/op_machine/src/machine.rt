@@ -1,4 +1,5 @@
-ghost use Rattle.std.specs.Prelude.{◌≡◌, ◌≢◌, ◌+◌, ◌-◌, ◌^◌, ◌<◌, ◌≤◌, ◌↔◌, true, false, length, IfOk, OnErr, IsErrOf, IfSome, is_some, OnOk};
+ghost use Rattle.std.specs.Prelude.{◌≡◌, ◌≢◌, ◌+◌, ◌-◌, ◌^◌, ◌<◌, ◌≤◌, ◌↔◌, true, false, length, IfOk, OnErr, IsErrOf, IfSome, is_some};
+ghost use Rattle.std.specs.Prelude.{OnOk};
 ghost use Rattle.op_store.specs.Queries.{IsSoundGoal};
 ghost use Rattle.op_store.specs.World.{clauses_of_world};
 ghost use Rattle.op_store.specs.Stored.{world_of};
@@ -64,7 +65,8 @@ impl Machine {
         requires some { 1 ≤ budget }
         requires limit { budget ≤ 1000000000 }
         ensures run { IfOk result (λ m. to_come m
-            ≡ run (record { budget = budget; wanted = wanted }) (named store.names goal.now.body) goal.now.vars (loaded (clauses_of_world (world_of store)))) }
+            ≡ run (record { budget = budget; wanted = wanted }) (named store.names goal.now.body) goal.now.vars
+            (loaded (clauses_of_world (world_of store)))) }
         ensures names { IfOk result (λ m. m.names ≡ goal.now.names) }
         ensures steps { IfOk result (λ m. m.steps ≡ 0) }
         ensures answered { IfOk result (λ m. answered m ≡ 0) }

@@ -128,7 +128,8 @@ impl<'m> Model for SolutionView<'m> {
 
     ghost view = { λ v. record { variables = v.names.now; values = v.values.now; state = v.bindings.now; names = v.symbols.now } };
 
-    ghost invariant = { λ v. IsSolving (record { variables = v.names.now; values = v.values.now; state = v.bindings.now; names = v.symbols.now }) };
+    ghost invariant = { λ v.
+        IsSolving (record { variables = v.names.now; values = v.values.now; state = v.bindings.now; names = v.symbols.now }) };
 }
 
 impl<'m> SolutionView<'m> {

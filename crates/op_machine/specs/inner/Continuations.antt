@@ -31,7 +31,8 @@ opened (item.Exit k g ∷ I) = k ∷ opened I
 abbrev pub AreLinked : List (List Item) → List Cell → Type 0
 AreLinked L [] = Unit {0}
 AreLinked L (c ∷ cs) =
-    (c.rest < length L) × (c.parent ≡ head_number (opened (c.item ∷ continuation_in L c.rest))) × (c.depth ≡ length (opened (c.item ∷ continuation_in L c.rest)))
+    (c.rest < length L) × (c.parent ≡ head_number (opened (c.item ∷ continuation_in L c.rest)))
+    × (c.depth ≡ length (opened (c.item ∷ continuation_in L c.rest)))
     × AreLinked (L ++ (c.item ∷ continuation_in L c.rest) ∷ []) cs
 
 -- a cell is where the continuation at a number begins

@@ -69,7 +69,8 @@ pub record IsFrame (t : Stored) (v : Level) (f : Frame) : Type 0 where
 -- the last first
 abbrev pub AreFrames : Stored → ℕ → Level → List Frame → Type 0
 AreFrames t floor v [] = Unit {0}
-AreFrames t floor v (f ∷ F) = IsEarlier f v × IsLevel t floor (level_at f v) × IsFrame t (level_at f v) f × AreFrames t floor (level_at f v) F
+AreFrames t floor v (f ∷ F) = IsEarlier f v × IsLevel t floor (level_at f v) × IsFrame t (level_at f v) f
+    × AreFrames t floor (level_at f v) F
 
 abbrev pub IsMode : ℕ → Mode → Type 0
 IsMode n (mode.Forward m) = m < n

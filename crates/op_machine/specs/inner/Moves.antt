@@ -16,7 +16,8 @@ use Rattle.op_machine.specs.declared.core_state.Step.{Step}
 use Rattle.op_machine.specs.declared.core_state.Step.TheVariants as step
 use Rattle.op_machine.specs.Meaning.{setup_of, world_in, items_now, goal_now, bindings_now, choice_points_in, state_of, event_seen}
 use Rattle.op_machine.specs.inner.Invariant.{IsGood, IsSeen}
-use Rattle.op_machine.specs.Resume.{Moved, Forward, Backward, silent, pay, keep, if_then_else_chosen, chosen, invoked, head_unified, tried, branched, move}
+use Rattle.op_machine.specs.Resume.{Moved, Forward, Backward, silent, pay, keep, if_then_else_chosen, chosen, invoked, head_unified, tried}
+use Rattle.op_machine.specs.Resume.{branched, move}
 
 -- the turn that a machine shows after a step
 abbrev pub turns_of : Step → Core → List Turn
@@ -38,7 +39,8 @@ goal_moved c t m n = pay (setup_of c) 1 (world_in c) (chosen_now c t m n)
 
 -- the exit of a box before a continuation
 abbrev pub exit_moved : Core → ℕ → ℕ → ℕ → Moved
-exit_moved c k g n = move (setup_of c) (Forward (world.Exit k (goal_now c g) ∷ items_now c n) (choice_points_in c) (bindings_now c) (world_in c))
+exit_moved c k g n = move (setup_of c) (Forward (world.Exit k (goal_now c g) ∷ items_now c n) (choice_points_in c) (bindings_now c)
+    (world_in c))
 
 -- a box is invoked
 abbrev pub box_invoked : Core → ℕ → ℕ → Moved
@@ -65,7 +67,8 @@ head_unifier c r g =
     unify text_eq (c.budget - c.steps) (bindings_now c) ((goal_now c g, shift c.bindings.count (clause_in c.store r).head) ∷ [])
 
 abbrev pub clause_unified : Core → NumberedClause → ℕ → ℕ → ℕ → Moved
-clause_unified c r k g n = head_unified (setup_of c) (clause_in c.store r) k (goal_now c g) (items_now c n) (choice_points_in c) (world_in c) (head_unifier c r g)
+clause_unified c r k g n = head_unified (setup_of c) (clause_in c.store r) k (goal_now c g) (items_now c n) (choice_points_in c)
+    (world_in c) (head_unifier c r g)
 
 -- the move of a clause that is tried for a goal before a continuation
 abbrev pub clause_tried : Core → NumberedClause → ℕ → ℕ → ℕ → Moved
@@ -75,7 +78,8 @@ clause_tried c r k g n =
 -- the move of a choice point, made at the present moment, of clauses from one on
 abbrev pub clauses_tried : Core → List NumberedClause → ℕ → ℕ → ℕ → ℕ → Moved
 clauses_tried c snapshot i k g n =
-    move (setup_of c) (Backward (visit.More (clauses_from c.store snapshot i) k (goal_now c g) (bindings_now c) (items_now c n) ∷ choice_points_in c) (world_in c))
+    move (setup_of c) (Backward (visit.More (clauses_from c.store snapshot i) k (goal_now c g) (bindings_now c) (items_now c n)
+    ∷ choice_points_in c) (world_in c))
 
 -- another branch is tried, made at the present moment
 abbrev pub branch_tried : Core → ℕ → Barrier → ℕ → Moved
@@ -88,11 +92,13 @@ cut_moved c m n = silent (Forward (items_now c n) (keep m (choice_points_in c)) 
 -- the first branch comes next, and the second is kept as a choice point
 abbrev pub disjunction_before : Core → ℕ → ℕ → Barrier → ℕ → Moved
 disjunction_before c a b m n =
-    silent (Forward (world.Goal (goal_now c a) m ∷ items_now c n) (visit.Branch (goal_now c b) m (bindings_now c) (items_now c n) ∷ choice_points_in c) (bindings_now c) (world_in c))
+    silent (Forward (world.Goal (goal_now c a) m ∷ items_now c n)
+    (visit.Branch (goal_now c b) m (bindings_now c) (items_now c n) ∷ choice_points_in c) (bindings_now c) (world_in c))
 
 -- a condition comes next, and the else branch is kept as a choice point
 abbrev pub if_then_else_before : Core → ℕ → ℕ → ℕ → Barrier → ℕ → Moved
-if_then_else_before c a b e m n = if_then_else_chosen (goal_now c a) (goal_now c b) (goal_now c e) m (items_now c n) (choice_points_in c) (bindings_now c) (world_in c)
+if_then_else_before c a b e m n = if_then_else_chosen (goal_now c a) (goal_now c b) (goal_now c e) m (items_now c n) (choice_points_in c)
+    (bindings_now c) (world_in c)
 
 -- the program and the goal's names stay, also where memory is wanting, and steps never fall
 pub record Keeps (old new : Core) : Type 0 where

@@ -7,7 +7,8 @@ use Rattle.op_machine.proofs.goal_kind.is_if_then.Goals as goal
 
 pub returns-in-Struct-clause-yes : goal.returns-in-Struct-clause-yes
 returns-in-Struct-clause-yes c =
-    on-true c.is_arrow.result c.is_arrow.ensures.yes (λ q g e. let h = head-struct g c.in-Struct.name c.in-Struct.arity (e ∙ c.in-Struct.is) in h.1 ∙ q.1)
+    on-true c.is_arrow.result c.is_arrow.ensures.yes
+    (λ q g e. let h = head-struct g c.in-Struct.name c.in-Struct.arity (e ∙ c.in-Struct.is) in h.1 ∙ q.1)
 
 pub returns-in-Struct-clause-condition : goal.returns-in-Struct-clause-condition
 returns-in-Struct-clause-condition c =

@@ -23,6 +23,8 @@ returns-clause-advances c =
     let shown : Core = c.show_event.new.self in
     let pushed : Core = c.push_fail.new.self in
     let more : Core = c.push_clauses.new.self in
-    invoked-choice_points old boxed shown pushed more c.args.goal c.args.rest c.in_ok-call.call c.in_ok-call.ensures.number c.in_ok-call.ensures.rest c.in_ok-call.ensures.calls c.in_ok-call.ensures.choices
+    invoked-choice_points old boxed shown pushed more c.args.goal c.args.rest c.in_ok-call.call c.in_ok-call.ensures.number
+    c.in_ok-call.ensures.rest c.in_ok-call.ensures.calls c.in_ok-call.ensures.choices
     c.show_event.ensures.rest c.in_ok-push_fail.ensures.rest c.in_ok-push_clauses.ensures.rest
-    c.show_event.ensures.seen c.in_ok-push_fail.ensures.choices c.in_ok-push_clauses.ensures.choices c.in_ok-push_clauses.ensures.good c.show_event.ensures.goal c.requires.goal
+    c.show_event.ensures.seen c.in_ok-push_fail.ensures.choices c.in_ok-push_clauses.ensures.choices c.in_ok-push_clauses.ensures.good
+    c.show_event.ensures.goal c.requires.goal

@@ -13,7 +13,8 @@ returns-clause-choices c =
     let new : Core = record old { frames = c.cut_to.new.self } in
     let kept : reverse new.frames.choices ≡ keep_frames c.args.barrier (reverse old.frames.choices) =
     ap (λ (f : Framed Held). reverse f.choices) c.cut_to.ensures
-    ∙ subst (λ (xs : List Frame). reverse (take c.kept_by-kept.result xs) ≡ keep_frames c.args.barrier (reverse xs)) c.choices.ensures c.kept_by-kept.ensures.kept in
+    ∙ subst (λ (xs : List Frame). reverse (take c.kept_by-kept.result xs) ≡ keep_frames c.args.barrier (reverse xs))
+    c.choices.ensures c.kept_by-kept.ensures.kept in
     cut_moved-choice_points old new c.args.barrier c.requires.good refl kept
 
 pub returns-clause-good : goal.returns-clause-good
@@ -22,5 +23,6 @@ returns-clause-good c =
     let new : Core = record old { frames = c.cut_to.new.self } in
     let kept : reverse new.frames.choices ≡ keep_frames c.args.barrier (reverse old.frames.choices) =
     ap (λ (f : Framed Held). reverse f.choices) c.cut_to.ensures
-    ∙ subst (λ (xs : List Frame). reverse (take c.kept_by-kept.result xs) ≡ keep_frames c.args.barrier (reverse xs)) c.choices.ensures c.kept_by-kept.ensures.kept in
+    ∙ subst (λ (xs : List Frame). reverse (take c.kept_by-kept.result xs) ≡ keep_frames c.args.barrier (reverse xs))
+    c.choices.ensures c.kept_by-kept.ensures.kept in
     cut_moved-good old new c.args.barrier c.requires.good refl (ap (λ (f : Framed Held). f.boxes) c.cut_to.ensures) kept

@@ -13,5 +13,7 @@ returns-clause-good c =
     let old : Core = c.args.self.now in
     let f : Frame = record { mark = c.mark-mark.result; rest = c.args.rest; kind = c.args.kind; kept = c.args.kept } in
     subst (λ (x : Framed Held). IsGood (record old { frames = x })) (sym c.in_ok-push_choice.ensures.ok)
-    (pushed-good old f (old.frames.choices ++ f ∷ []) c.requires.good c.mark-mark.ensures.mark c.mark-mark.ensures.good c.requires.continuations c.requires.calls
-    (record { rest = c.requires.there; goal = c.requires.goal; kind = c.requires.kind }) c.requires.tried (reverse-append old.frames.choices (f ∷ [])))
+    (pushed-good old f (old.frames.choices ++ f ∷ [])
+    c.requires.good c.mark-mark.ensures.mark c.mark-mark.ensures.good c.requires.continuations c.requires.calls
+    (record { rest = c.requires.there; goal = c.requires.goal; kind = c.requires.kind }) c.requires.tried
+    (reverse-append old.frames.choices (f ∷ [])))

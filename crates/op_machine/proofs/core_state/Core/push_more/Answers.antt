@@ -12,7 +12,9 @@ returns-in_ok-push_choice_point-clause-choices c =
     let old : Core = c.args.self.now in
     let inside : c.args.next < length c.args.snapshot.now = omega arith in
     c.in_ok-push_choice_point.ensures.choices
-    ∙ (ap (λ (rs : List NumberedClause). let x : List visit.Choice = visit.More (clauses_from old.store rs c.args.next) c.args.call (goal_now old c.args.goal) (bindings_now old) (items_now old c.args.rest) ∷ choice_points_in old in x) c.in_ok-snapshot.ensures
+    ∙ (ap (λ (rs : List NumberedClause). let x : List visit.Choice =
+    visit.More (clauses_from old.store rs c.args.next) c.args.call (goal_now old c.args.goal) (bindings_now old)
+    (items_now old c.args.rest) ∷ choice_points_in old in x) c.in_ok-snapshot.ensures
     ∙ sym (with_more-here old c.args.snapshot.now c.args.next c.args.call c.args.goal c.args.rest (choice_points_in old) inside))
 
 pub returns-else-next-len-clause-choices : goal.returns-else-next-len-clause-choices

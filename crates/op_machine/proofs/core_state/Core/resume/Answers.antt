@@ -9,5 +9,6 @@ pub go_on-requires-clause-called : goal.go_on-requires-clause-called
 go_on-requires-clause-called c =
     let old : Core = c.args.self.now in
     let f = c.args.choice.now in
-    called-along old.frames.boxes old.frames.boxes old.continuations old.continuations f.kept.calls old.calls c.in-More.call f.kept.goal f.rest c.requires.calls refl refl
+    called-along old.frames.boxes old.frames.boxes old.continuations old.continuations f.kept.calls old.calls c.in-More.call f.kept.goal
+    f.rest c.requires.calls refl refl
     (subst (λ (q : ChoiceKind). IsTried old.frames.boxes old.continuations q f.kept f.rest) c.in-More.is c.requires.tried)

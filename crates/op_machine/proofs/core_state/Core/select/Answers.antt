@@ -10,7 +10,8 @@ returns-clause-advances c =
     let old : Core = c.args.self.now in
     let paid : Core = c.spend.new.self in
     let new : Core = c.execute.new.self in
-    let P : Step → Type 0 = λ s. Advances paid new (chosen_now paid (goal_now paid c.args.goal) c.args.barrier c.args.rest (world_in paid)) s in
+    let P : Step → Type 0 = λ s. Advances paid new (chosen_now paid (goal_now paid c.args.goal) c.args.barrier c.args.rest (world_in paid))
+    s in
     let Q : Step → Type 0 = λ s. Advances old new (goal_moved old (goal_now old c.args.goal) c.args.barrier c.args.rest) s in
     IfOk-then c.execute.result P Q
     (λ s a. chosen-paid old paid new c.args.goal c.args.rest c.args.barrier s c.if-not-spend.ensures.paid c.if-not-spend.ensures.fits a)

@@ -27,7 +27,8 @@ returns-clause-there c =
     let i = c.self.inside in
     let same = ap (λ (v : Solving). length v.variables) c.self.view_is in
     let at = value-at _ i.values.now _ c.args.i c.ref_at.result c.self.invariant.known (omega (arith, c.requires, same)) in
-    subst (λ (v : Solving). c.ref_at.result < length v.state.terms) c.self.view_is (subst (λ (r : ℕ). r < length i.bindings.now.terms) (sym c.ref_at.ensures) at.1)
+    subst (λ (v : Solving). c.ref_at.result < length v.state.terms) c.self.view_is
+    (subst (λ (r : ℕ). r < length i.bindings.now.terms) (sym c.ref_at.ensures) at.1)
 
 pub returns-clause-names : goal.returns-clause-names
 returns-clause-names c =
