@@ -1,13 +1,14 @@
 -- The chain of a box's parents, in boxes by rising number.
 use Rattle.std.proofs.Common.{◌≡◌, ℕ, zero, suc, ◌+◌, ◌-◌, ◌<◌, ◌≤◌, ◌==◌, Bool, true, false, List, [], ◌∷◌, ◌++◌, length, take, reverse}
-use Rattle.std.proofs.Common.{slice_index_or, filter, nat_lt, refl, sym, ap, ◌∙◌, arith, if◌then◌else◌, cond}
+use Rattle.std.proofs.Common.{slice_index_or, filter, nat_lt, refl, sym, ap, ◌∙◌, subst, arith, if◌then◌else◌, cond}
 use Rattle.std.specs.List.{All, AllWithin}
 use Rattle.std.proofs.lemmas.List.Sorted.{IsNonDecreasingBy-push}
 use Rattle.std.proofs.Math.Seq.{take-suc}
 use Rattle.std.proofs.lemmas.List.{reverse-append, take_all}
+use Rattle.std.proofs.lemmas.List.Elements.{All-nil, All-cons, All-append}
 use Rattle.std.proofs.lemmas.Bool.Decides.{nat_tests}
 use Rattle.op_frames.specs.declared.boxes.BoxFrame.{BoxFrame}
-use Rattle.op_frames.specs.Frames.{chain, open_from, AreRising}
+use Rattle.op_frames.specs.Frames.{chain, open_from, AreRising, HaveLowerParents, AreFalling}
 
 pub chain-zero : (B : List BoxFrame) → chain B 0 ≡ []
 chain-zero [] = refl
@@ -147,3 +148,64 @@ chain-dropped B d n r less =
     (λ j low high.
     let m : nat_lt (slice_index_or B j x).number d ≡ false = f.1.2 j x low high in
     grind (arith, nat_tests)))
+
+all-behind : {X : Type 0} (P : X → Type 0) (x : X) (xs : List X) → All P (x ∷ xs) → All P xs
+all-behind P x xs a k d h = a (suc k) d (omega arith)
+
+all-reverse : {X : Type 0} (P : X → Type 0) (xs : List X) → All P xs → All P (reverse xs)
+all-reverse P [] a = a
+all-reverse P (x ∷ xs) a =
+    subst (All P) (sym (reverse-append (x ∷ []) xs))
+    (All-append P (reverse xs) (x ∷ []) (all-reverse P xs (all-behind P x xs a)) (All-cons P x [] (a 0 x (omega arith)) (All-nil P)))
+
+-- a box and those around it have no greater number than the first
+chain-below : (B : List BoxFrame) (n : ℕ) → HaveLowerParents B → All (λ (p : ℕ × ℕ). p.0 ≤ n) (chain B n)
+chain-below [] n low = All-nil (λ (p : ℕ × ℕ). p.0 ≤ n)
+chain-below (b ∷ B) n low =
+    let behind : HaveLowerParents B = all-behind (λ (x : BoxFrame). x.parent < x.number) b B low in
+    go (n == 0) (b.number == n) refl (chain-below B b.parent behind) (chain-below B n behind)
+  where
+    parent : b.parent < b.number
+    parent = low 0 b (omega arith)
+
+    around : b.number ≡ n → All (λ (p : ℕ × ℕ). p.0 ≤ b.parent) (chain B b.parent) → All (λ (p : ℕ × ℕ). p.0 ≤ n) (chain B b.parent)
+    around e a k d h = let l : (slice_index_or (chain B b.parent) k d).0 ≤ b.parent = a k d h in omega (arith, l, parent, e)
+
+    go : (z t : Bool) → (b.number == n) ≡ t → All (λ (p : ℕ × ℕ). p.0 ≤ b.parent) (chain B b.parent)
+        → All (λ (p : ℕ × ℕ). p.0 ≤ n) (chain B n)
+        → All (λ (p : ℕ × ℕ). p.0 ≤ n) (if z then [] else (if t then (n, b.goal) ∷ chain B b.parent else chain B n))
+    go true t e a k = All-nil (λ (p : ℕ × ℕ). p.0 ≤ n)
+    go false true e a k =
+        let number : b.number ≡ n = grind (arith, nat_tests) in
+        All-cons (λ (p : ℕ × ℕ). p.0 ≤ n) (n, b.goal) (chain B b.parent) (omega arith) (around number a)
+    go false false e a k = k
+
+chain-falls : (B : List BoxFrame) (n : ℕ) → HaveLowerParents B → AreFalling (chain B n)
+chain-falls [] n low = tt
+chain-falls (b ∷ B) n low =
+    let behind : HaveLowerParents B = all-behind (λ (x : BoxFrame). x.parent < x.number) b B low in
+    go (n == 0) (b.number == n) refl (chain-below B b.parent behind) (chain-falls B b.parent behind) (chain-falls B n behind)
+  where
+    parent : b.parent < b.number
+    parent = low 0 b (omega arith)
+
+    around : b.number ≡ n → All (λ (p : ℕ × ℕ). p.0 ≤ b.parent) (chain B b.parent) → All (λ (p : ℕ × ℕ). p.0 < n) (chain B b.parent)
+    around e a k d h = let l : (slice_index_or (chain B b.parent) k d).0 ≤ b.parent = a k d h in omega (arith, l, parent, e)
+
+    go : (z t : Bool) → (b.number == n) ≡ t → All (λ (p : ℕ × ℕ). p.0 ≤ b.parent) (chain B b.parent) → AreFalling (chain B b.parent)
+        → AreFalling (chain B n) → AreFalling (if z then [] else (if t then (n, b.goal) ∷ chain B b.parent else chain B n))
+    go true t e a f k = tt
+    go false true e a f k =
+        let number : b.number ≡ n = grind (arith, nat_tests) in
+        (around number a, f)
+    go false false e a f k = k
+
+-- the numbers of open boxes fall
+pub open-falls : (B : List BoxFrame) (n : ℕ) → HaveLowerParents B → AreFalling (open_from B n)
+open-falls B n low = chain-falls (reverse B) n (all-reverse (λ (x : BoxFrame). x.parent < x.number) B low)
+
+-- a box that is called in one of lesser number
+pub lower-push : (B : List BoxFrame) (b : BoxFrame) → HaveLowerParents B → b.parent < b.number → HaveLowerParents (B ++ b ∷ [])
+lower-push B b low less =
+    let P : BoxFrame → Type 0 = λ (x : BoxFrame). x.parent < x.number in
+    All-append P B (b ∷ []) low (All-cons P b [] less (All-nil P))

@@ -12,5 +12,5 @@ returns-clause-stays g c =
     subst (λ (B : List BoxFrame). filter (λ (b : BoxFrame). nat_lt b.number c.args.from) B ≡ take c.count_below-kept.result B)
     c.deref.ensures.value c.count_below-kept.ensures.first in
     ap (λ (B : List BoxFrame). open_from B n) (c.truncate.ensures.items ∙ sym front)
-    ∙ (chain-dropped c.self.inside.boxes.items c.args.from n c.self.invariant less
+    ∙ (chain-dropped c.self.inside.boxes.items c.args.from n c.self.invariant.0 less
     ∙ ap (λ (x : Framed _). open_from x.boxes n) c.self.view_is)

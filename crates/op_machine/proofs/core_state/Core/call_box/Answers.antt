@@ -1,4 +1,4 @@
-use Rattle.std.proofs.Common.{◌+◌, refl, sym, subst, arith}
+use Rattle.std.proofs.Common.{ℕ, ◌+◌, ◌≤◌, refl, sym, subst, arith}
 use Rattle.op_frames.specs.Frames.{Framed}
 use Rattle.op_frames.specs.declared.boxes.BoxFrame.{BoxFrame}
 use Rattle.op_machine.specs.declared.choice_points.Held.{Held}
@@ -10,7 +10,10 @@ use Rattle.op_machine.proofs.InvariantLaws.{called-good}
 use Rattle.op_machine.proofs.core_state.Core.call_box.Goals as goal
 
 pub push_box-requires : goal.push_box-requires
-push_box-requires c = record { rises = λ i d h. omega (arith, c.requires.good.boxes.numbers i d h) }
+push_box-requires c =
+    let inner : c.parent-parent.result ≤ c.args.self.now.calls =
+    subst (λ (x : ℕ). x ≤ c.args.self.now.calls) (sym c.parent-parent.ensures) (c.requires.good.boxes.given c.args.rest c.requires.there) in
+    record { rises = λ i d h. omega (arith, c.requires.good.boxes.numbers i d h); below = omega (arith, inner) }
 
 pub returns-clause-called : goal.returns-clause-called
 returns-clause-called c =
