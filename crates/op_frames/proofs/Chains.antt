@@ -1,12 +1,14 @@
 -- The chain of a box's parents, in boxes by rising number.
-use Rattle.std.proofs.Common.{◌≡◌, ℕ, zero, suc, ◌+◌, ◌-◌, ◌<◌, ◌≤◌, ◌==◌, Bool, true, false, List, [], ◌∷◌, ◌++◌, length, take, reverse, slice_index_or, filter, nat_lt, refl, sym, ap, ◌∙◌, arith, if◌then◌else◌, cond}
+use Rattle.std.proofs.Common.{◌≡◌, ℕ, zero, suc, ◌+◌, ◌-◌, ◌<◌, ◌≤◌, ◌==◌, Bool, true, false, List, [], ◌∷◌, ◌++◌, length, take, reverse}
+use Rattle.std.proofs.Common.{slice_index_or, filter, nat_lt, refl, sym, ap, ◌∙◌, subst, arith, if◌then◌else◌, cond}
 use Rattle.std.specs.List.{All, AllWithin}
 use Rattle.std.proofs.lemmas.List.Sorted.{IsNonDecreasingBy-push}
 use Rattle.std.proofs.Math.Seq.{take-suc}
 use Rattle.std.proofs.lemmas.List.{reverse-append, take_all}
+use Rattle.std.proofs.lemmas.List.Elements.{All-nil, All-cons, All-append}
 use Rattle.std.proofs.lemmas.Bool.Decides.{nat_tests}
 use Rattle.op_frames.specs.declared.boxes.BoxFrame.{BoxFrame}
-use Rattle.op_frames.specs.Frames.{chain, open_from, AreRising}
+use Rattle.op_frames.specs.Frames.{chain, open_from, AreRising, HaveLowerParents, AreFalling}
 
 pub chain-zero : (B : List BoxFrame) → chain B 0 ≡ []
 chain-zero [] = refl
@@ -28,7 +30,8 @@ chain-here b B n some e =
     ∙ ap (λ (t : Bool). if t then (n, b.goal) ∷ chain B b.parent else chain B n) t
 
 -- the newest of the first comes first
-pub newest : {X : Type 0} (xs : List X) (j : ℕ) (d : X) → j < length xs → reverse (take (suc j) xs) ≡ slice_index_or xs j d ∷ reverse (take j xs)
+pub newest : {X : Type 0} (xs : List X) (j : ℕ) (d : X) → j < length xs → reverse (take (suc j) xs)
+    ≡ slice_index_or xs j d ∷ reverse (take j xs)
 newest xs j d h = ap reverse (take-suc xs j d h) ∙ reverse-append (take j xs) (slice_index_or xs j d ∷ [])
 
 -- boxes of other numbers are passed over
@@ -57,7 +60,8 @@ pub chain-found : (xs : List BoxFrame) (n i : ℕ) (b : BoxFrame) → 0 < n → 
     → ((j : ℕ) → i < j → j < length xs → n < (slice_index_or xs j b).number)
     → chain (reverse xs) n ≡ (n, b.goal) ∷ chain (reverse (take i xs)) b.parent
 chain-found xs n i b some there is number above =
-    chain-behind xs n (suc i) b (omega arith) (λ j low high. let m : n < (slice_index_or xs j b).number = above j (omega arith) high in grind (arith, nat_tests))
+    chain-behind xs n (suc i) b (omega arith) (λ j low high. let m : n < (slice_index_or xs j b).number = above j (omega arith) high in
+    grind (arith, nat_tests))
     ∙ (ap (λ (B : List BoxFrame). chain B n) (newest xs i b there ∙ ap (λ (x : BoxFrame). x ∷ reverse (take i xs)) is)
     ∙ chain-here b (reverse (take i xs)) n some number)
 
@@ -70,7 +74,8 @@ chain-none xs n i d there below above =
     let e : 0 + i ≡ i = omega arith in
     chain-behind xs n i d there (λ j low high. let m : n < (slice_index_or xs j d).number = above j low high in grind (arith, nat_tests))
     ∙ (ap (λ (k : ℕ). chain (reverse (take k xs)) n) (sym e)
-    ∙ chain-passes xs n 0 i d (omega arith) (λ j low high. let m : (slice_index_or xs j d).number < n = below j (omega arith) in grind (arith, nat_tests)))
+    ∙ chain-passes xs n 0 i d (omega arith) (λ j low high. let m : (slice_index_or xs j d).number < n = below j (omega arith) in
+    grind (arith, nat_tests)))
 
 -- what passes a test stands before what doesn't
 pub filter-partition : {X : Type 0} (p : X → Bool) (xs : List X) (k : ℕ) → k ≤ length xs
@@ -79,19 +84,24 @@ filter-partition p [] zero h a b = refl
 filter-partition p [] (suc k) h a b = absurd (omega arith)
 filter-partition {X} p (x ∷ xs) zero h a b =
     ap (λ (t : Bool). cond t (x ∷ filter p xs) (filter p xs)) (b 0 x (omega arith) (omega arith))
-    ∙ filter-partition p xs zero (omega arith) (λ i d low high. absurd (omega arith)) (λ i d low high. b (suc i) d (omega arith) (omega arith))
+    ∙ filter-partition p xs zero (omega arith) (λ i d low high. absurd (omega arith))
+    (λ i d low high. b (suc i) d (omega arith) (omega arith))
 filter-partition {X} p (x ∷ xs) (suc k) h a b =
     ap (λ (t : Bool). cond t (x ∷ filter p xs) (filter p xs)) (a 0 x (omega arith) (omega arith))
-    ∙ ap (λ (l : List X). x ∷ l) (filter-partition p xs k (omega arith) (λ i d low high. a (suc i) d (omega arith) (omega arith)) (λ i d low high. b (suc i) d (omega arith) (omega arith)))
+    ∙ ap (λ (l : List X). x ∷ l) (filter-partition p xs k (omega arith) (λ i d low high. a (suc i) d (omega arith) (omega arith))
+    (λ i d low high. b (suc i) d (omega arith) (omega arith)))
 
-pub rising-push : (B : List BoxFrame) (b : BoxFrame) → AreRising B → All (λ (x : BoxFrame). x.number < b.number) B → AreRising (B ++ b ∷ [])
+pub rising-push : (B : List BoxFrame) (b : BoxFrame) → AreRising B → All (λ (x : BoxFrame). x.number < b.number) B
+    → AreRising (B ++ b ∷ [])
 rising-push B b rises less =
     IsNonDecreasingBy-push (λ (x : BoxFrame). x.number) B b rises
     (λ d some. let l : (slice_index_or B (length B - 1) d).number < b.number = less (length B - 1) d (omega arith) in omega (arith, l))
 
 -- a box that is pushed begins a chain, and the others stay
-pub chain-pushed : (B : List BoxFrame) (b : BoxFrame) → 0 < b.number → open_from (B ++ b ∷ []) b.number ≡ (b.number, b.goal) ∷ open_from B b.parent
-chain-pushed B b some = ap (λ (R : List BoxFrame). chain R b.number) (reverse-append B (b ∷ [])) ∙ chain-here b (reverse B) b.number some refl
+pub chain-pushed : (B : List BoxFrame) (b : BoxFrame) → 0 < b.number → open_from (B ++ b ∷ []) b.number
+    ≡ (b.number, b.goal) ∷ open_from B b.parent
+chain-pushed B b some = ap (λ (R : List BoxFrame). chain R b.number) (reverse-append B (b ∷ []))
+    ∙ chain-here b (reverse B) b.number some refl
 
 pub chain-kept : (B : List BoxFrame) (b : BoxFrame) (n : ℕ) → n < b.number → open_from (B ++ b ∷ []) n ≡ open_from B n
 chain-kept B b n less =
@@ -103,7 +113,8 @@ rising-behind b B r i j x h l = r (suc i) (suc j) x (omega arith) (omega arith)
 
 -- how many boxes stand first with numbers below one
 abbrev pub IsFront : List BoxFrame → ℕ → ℕ → Type 0
-IsFront B d k = (k ≤ length B) × AllWithin (λ (x : BoxFrame). nat_lt x.number d ≡ true) B 0 k × AllWithin (λ (x : BoxFrame). nat_lt x.number d ≡ false) B k (length B)
+IsFront B d k = (k ≤ length B) × AllWithin (λ (x : BoxFrame). nat_lt x.number d ≡ true) B 0 k
+    × AllWithin (λ (x : BoxFrame). nat_lt x.number d ≡ false) B k (length B)
 
 pub front : (B : List BoxFrame) (d : ℕ) → AreRising B → (k : ℕ) × IsFront B d k
 front [] d r = (0, (omega arith, (λ i x low high. absurd (omega arith)), (λ i x low high. absurd (omega arith))))
@@ -127,7 +138,8 @@ front (b ∷ B) d r = go (nat_lt b.number d) refl (front B d (rising-behind b B 
             grind (arith, nat_tests)
 
 -- a drop of boxes leaves the chains of the lesser ones
-pub chain-dropped : (B : List BoxFrame) (d n : ℕ) → AreRising B → n < d → open_from (filter (λ (b : BoxFrame). nat_lt b.number d) B) n ≡ open_from B n
+pub chain-dropped : (B : List BoxFrame) (d n : ℕ) → AreRising B → n < d → open_from (filter (λ (b : BoxFrame). nat_lt b.number d) B) n
+    ≡ open_from B n
 chain-dropped B d n r less =
     let x : BoxFrame = record { number = 0; parent = 0; goal = 0; mark = record { terms = 0; bound = 0 } } in
     let f = front B d r in
@@ -136,3 +148,64 @@ chain-dropped B d n r less =
     (λ j low high.
     let m : nat_lt (slice_index_or B j x).number d ≡ false = f.1.2 j x low high in
     grind (arith, nat_tests)))
+
+all-behind : {X : Type 0} (P : X → Type 0) (x : X) (xs : List X) → All P (x ∷ xs) → All P xs
+all-behind P x xs a k d h = a (suc k) d (omega arith)
+
+all-reverse : {X : Type 0} (P : X → Type 0) (xs : List X) → All P xs → All P (reverse xs)
+all-reverse P [] a = a
+all-reverse P (x ∷ xs) a =
+    subst (All P) (sym (reverse-append (x ∷ []) xs))
+    (All-append P (reverse xs) (x ∷ []) (all-reverse P xs (all-behind P x xs a)) (All-cons P x [] (a 0 x (omega arith)) (All-nil P)))
+
+-- a box and those around it have no greater number than the first
+chain-below : (B : List BoxFrame) (n : ℕ) → HaveLowerParents B → All (λ (p : ℕ × ℕ). p.0 ≤ n) (chain B n)
+chain-below [] n low = All-nil (λ (p : ℕ × ℕ). p.0 ≤ n)
+chain-below (b ∷ B) n low =
+    let behind : HaveLowerParents B = all-behind (λ (x : BoxFrame). x.parent < x.number) b B low in
+    go (n == 0) (b.number == n) refl (chain-below B b.parent behind) (chain-below B n behind)
+  where
+    parent : b.parent < b.number
+    parent = low 0 b (omega arith)
+
+    around : b.number ≡ n → All (λ (p : ℕ × ℕ). p.0 ≤ b.parent) (chain B b.parent) → All (λ (p : ℕ × ℕ). p.0 ≤ n) (chain B b.parent)
+    around e a k d h = let l : (slice_index_or (chain B b.parent) k d).0 ≤ b.parent = a k d h in omega (arith, l, parent, e)
+
+    go : (z t : Bool) → (b.number == n) ≡ t → All (λ (p : ℕ × ℕ). p.0 ≤ b.parent) (chain B b.parent)
+        → All (λ (p : ℕ × ℕ). p.0 ≤ n) (chain B n)
+        → All (λ (p : ℕ × ℕ). p.0 ≤ n) (if z then [] else (if t then (n, b.goal) ∷ chain B b.parent else chain B n))
+    go true t e a k = All-nil (λ (p : ℕ × ℕ). p.0 ≤ n)
+    go false true e a k =
+        let number : b.number ≡ n = grind (arith, nat_tests) in
+        All-cons (λ (p : ℕ × ℕ). p.0 ≤ n) (n, b.goal) (chain B b.parent) (omega arith) (around number a)
+    go false false e a k = k
+
+chain-falls : (B : List BoxFrame) (n : ℕ) → HaveLowerParents B → AreFalling (chain B n)
+chain-falls [] n low = tt
+chain-falls (b ∷ B) n low =
+    let behind : HaveLowerParents B = all-behind (λ (x : BoxFrame). x.parent < x.number) b B low in
+    go (n == 0) (b.number == n) refl (chain-below B b.parent behind) (chain-falls B b.parent behind) (chain-falls B n behind)
+  where
+    parent : b.parent < b.number
+    parent = low 0 b (omega arith)
+
+    around : b.number ≡ n → All (λ (p : ℕ × ℕ). p.0 ≤ b.parent) (chain B b.parent) → All (λ (p : ℕ × ℕ). p.0 < n) (chain B b.parent)
+    around e a k d h = let l : (slice_index_or (chain B b.parent) k d).0 ≤ b.parent = a k d h in omega (arith, l, parent, e)
+
+    go : (z t : Bool) → (b.number == n) ≡ t → All (λ (p : ℕ × ℕ). p.0 ≤ b.parent) (chain B b.parent) → AreFalling (chain B b.parent)
+        → AreFalling (chain B n) → AreFalling (if z then [] else (if t then (n, b.goal) ∷ chain B b.parent else chain B n))
+    go true t e a f k = tt
+    go false true e a f k =
+        let number : b.number ≡ n = grind (arith, nat_tests) in
+        (around number a, f)
+    go false false e a f k = k
+
+-- the numbers of open boxes fall
+pub open-falls : (B : List BoxFrame) (n : ℕ) → HaveLowerParents B → AreFalling (open_from B n)
+open-falls B n low = chain-falls (reverse B) n (all-reverse (λ (x : BoxFrame). x.parent < x.number) B low)
+
+-- a box that is called in one of lesser number
+pub lower-push : (B : List BoxFrame) (b : BoxFrame) → HaveLowerParents B → b.parent < b.number → HaveLowerParents (B ++ b ∷ [])
+lower-push B b low less =
+    let P : BoxFrame → Type 0 = λ (x : BoxFrame). x.parent < x.number in
+    All-append P B (b ∷ []) low (All-cons P b [] less (All-nil P))

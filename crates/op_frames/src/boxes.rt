@@ -17,7 +17,8 @@ pub(crate) fn find(boxes: &[BoxFrame], number: u64) -> Option<(usize, BoxFrame)>
     requires { AreRising boxes.now }
     ensures none { IfNone result (chain (reverse boxes.now) number ≡ []) }
     ensures there { IfSome result (λ p. p.0 < length boxes.now) }
-    ensures some { IfSome result (λ p. chain (reverse boxes.now) number ≡ (number, p.1.goal) ∷ chain (reverse (take p.0 boxes.now)) p.1.parent) }
+    ensures some { IfSome result (λ p. chain (reverse boxes.now) number
+        ≡ (number, p.1.goal) ∷ chain (reverse (take p.0 boxes.now)) p.1.parent) }
 {
     if number == 0 {
         return None;

@@ -1,5 +1,5 @@
 ghost use Rattle.std.specs.Prelude.{◌≡◌, ◌<◌, ◌++◌, ◌∷◌, [], ℕ, length, take, filter, nat_lt, All, OnOk, OnErr, MatchOption};
-ghost use Rattle.op_frames.specs.Frames.{open_from};
+ghost use Rattle.op_frames.specs.Frames.{open_from, AreFalling};
 
 use crate::boxes::{BoxFrame, count_below};
 use crate::choice::Choice;
@@ -17,13 +17,13 @@ pub struct Frames<T> {
 }
 
 impl<T> Model for Frames<T> {
-    ghost use Rattle.op_frames.specs.Frames.{Framed, AreRising};
+    ghost use Rattle.op_frames.specs.Frames.{Framed, AreRising, HaveLowerParents};
 
     ghost Value = { Framed T };
 
     ghost view = { λ f. record { boxes = f.boxes.items; choices = f.choices.items } };
 
-    ghost invariant = { λ f. AreRising f.boxes.items };
+    ghost invariant = { λ f. AreRising f.boxes.items × HaveLowerParents f.boxes.items };
 }
 
 impl<T: Drop> Frames<T> {
@@ -38,7 +38,7 @@ impl<T: Drop> Frames<T> {
         }
     }
 
-    /// Adds a box that is called with a goal inside the box `parent`, or at the top for 0.
+    /// Adds a box that is called with a goal inside the box `parent`, which has a lesser number, or at the top for 0.
     pub fn push_box(
         &mut self,
         number: u64,
@@ -47,7 +47,10 @@ impl<T: Drop> Frames<T> {
         mark: Mark,
     ) -> Result<(), Memory>
         requires rises { All (λ (b : BoxFrame). b.number < number) self.old.boxes }
-        ensures ok { OnOk result (self.new ≡ record self.old { boxes = self.old.boxes ++ record { number = number; parent = parent; goal = goal; mark = mark } ∷ [] }) }
+        requires below { parent < number }
+        ensures ok { OnOk result (self.new ≡ record self.old {
+          boxes = self.old.boxes ++ record { number = number; parent = parent; goal = goal; mark = mark } ∷ [];
+        }) }
         ensures err { OnErr result (self.new ≡ self.old) }
     {
         self.boxes.push(BoxFrame {
@@ -101,7 +104,8 @@ impl<T: Drop> Frames<T> {
 
     /// The box of a number with its goal, its parent and so on, inner to outer; none for 0.
     pub fn open_boxes(&self, number: u64) -> OpenBoxes<'_>
-        ensures { result ≡ open_from self.now.boxes number }
+        ensures chain { result ≡ open_from self.now.boxes number }
+        ensures falls { AreFalling result }
     {
         OpenBoxes {
             boxes: &self.boxes,

@@ -1,5 +1,6 @@
 -- Laws of continuations that share their ends.
-use Rattle.std.proofs.Common.{◌≡◌, ℕ, zero, suc, ◌+◌, ◌-◌, ◌<◌, ◌≤◌, List, [], ◌∷◌, ◌++◌, length, take, get_or, refl, sym, ap, ◌∙◌, subst, arith, length-append}
+use Rattle.std.proofs.Common.{◌≡◌, ℕ, zero, suc, ◌+◌, ◌-◌, ◌<◌, ◌≤◌, List, [], ◌∷◌, ◌++◌, length, take, get_or, refl, sym, ap, ◌∙◌, subst}
+use Rattle.std.proofs.Common.{arith, length-append}
 use Rattle.std.proofs.lemmas.List.{get_or_append_left}
 use Rattle.std.proofs.Math.Seq.{get_or-append_seam, take-length}
 use Rattle.op_logic.proofs.Tests.{by_order}
@@ -7,7 +8,8 @@ use Rattle.op_trace.specs.World.{head_number}
 use Rattle.op_machine.specs.declared.continuations.Item.{Item}
 use Rattle.op_machine.specs.declared.continuations.Item.TheVariants as item
 use Rattle.op_machine.specs.declared.continuations.Cell.{Cell}
-use Rattle.op_machine.specs.Continuations.{continuation_in, only_empty, continuations_after, continuations_of, opened, AreLinked, Begins}
+use Rattle.op_machine.specs.inner.Continuations.{continuation_in, only_empty, continuations_after, continuations_of, opened, AreLinked}
+use Rattle.op_machine.specs.inner.Continuations.{Begins}
 
 abbrev pub joined : List (List Item) → Cell → List (List Item)
 joined L c = L ++ (c.item ∷ continuation_in L c.rest) ∷ []
@@ -19,16 +21,19 @@ pub length-continuations_after : (L : List (List Item)) (cs : List Cell) → len
 length-continuations_after L [] = omega arith
 length-continuations_after L (c ∷ cs) = length-continuations_after (joined L c) cs ∙ omega (arith, length-joined L c)
 
-pub continuation_in-joined : (L : List (List Item)) (c : Cell) (n : ℕ) → n < length L → continuation_in (joined L c) n ≡ continuation_in L n
+pub continuation_in-joined : (L : List (List Item)) (c : Cell) (n : ℕ) → n < length L → continuation_in (joined L c) n
+    ≡ continuation_in L n
 continuation_in-joined L c n h = get_or_append_left L ((c.item ∷ continuation_in L c.rest) ∷ []) [] n h
 
-pub continuation_in-continuations_after : (L : List (List Item)) (cs : List Cell) (n : ℕ) → n < length L → continuation_in (continuations_after L cs) n ≡ continuation_in L n
+pub continuation_in-continuations_after : (L : List (List Item)) (cs : List Cell) (n : ℕ) → n < length L
+    → continuation_in (continuations_after L cs) n ≡ continuation_in L n
 continuation_in-continuations_after L [] n h = refl
 continuation_in-continuations_after L (c ∷ cs) n h =
     let l : n < length (joined L c) = omega (arith, length-joined L c) in
     continuation_in-continuations_after (joined L c) cs n l ∙ continuation_in-joined L c n h
 
-pub continuations_after-push : (L : List (List Item)) (cs : List Cell) (c : Cell) → continuations_after L (cs ++ c ∷ []) ≡ joined (continuations_after L cs) c
+pub continuations_after-push : (L : List (List Item)) (cs : List Cell) (c : Cell) → continuations_after L (cs ++ c ∷ [])
+    ≡ joined (continuations_after L cs) c
 continuations_after-push L [] c = refl
 continuations_after-push L (b ∷ cs) c = continuations_after-push (joined L b) cs c
 
@@ -58,8 +63,10 @@ joined-shallow L c r s m h =
     (λ l. subst (λ (I : List Item). length (opened I) ≤ m) (sym (continuation_in-joined L c m l)) (s m l))
     (λ g.
     let e : m ≡ length L = omega (arith, length-joined L c) in
-    let at_end : continuation_in (joined L c) m ≡ c.item ∷ continuation_in L c.rest = ap (λ n. continuation_in (joined L c) n) e ∙ get_or-append_seam L (c.item ∷ continuation_in L c.rest) [] [] in
-    let small : length (opened (c.item ∷ continuation_in L c.rest)) ≤ m = omega (arith, opened-cons c.item (continuation_in L c.rest), s c.rest r) in
+    let at_end : continuation_in (joined L c) m ≡ c.item ∷ continuation_in L c.rest = ap (λ n. continuation_in (joined L c) n) e
+    ∙ get_or-append_seam L (c.item ∷ continuation_in L c.rest) [] [] in
+    let small : length (opened (c.item ∷ continuation_in L c.rest)) ≤ m =
+    omega (arith, opened-cons c.item (continuation_in L c.rest), s c.rest r) in
     subst (λ (I : List Item). length (opened I) ≤ m) (sym at_end) small)
 
 pub cell-begins : (L : List (List Item)) (cs : List Cell) (i : ℕ) (d : Cell) → AreShallow L → AreLinked L cs → i < length cs
@@ -69,9 +76,13 @@ cell-begins L (c ∷ cs) zero d s l h =
     let M : List (List Item) = continuations_after (joined L c) cs in
     let here : length L < length (joined L c) = omega (arith, length-joined L c) in
     let there : c.rest < length (joined L c) = omega (arith, length-joined L c, l.0) in
-    let at_end : continuation_in M (length L) ≡ c.item ∷ continuation_in L c.rest = continuation_in-continuations_after (joined L c) cs (length L) here ∙ get_or-append_seam L (c.item ∷ continuation_in L c.rest) [] [] in
-    let rest : continuation_in M c.rest ≡ continuation_in L c.rest = continuation_in-continuations_after (joined L c) cs c.rest there ∙ continuation_in-joined L c c.rest l.0 in
-    let small : length (opened (c.item ∷ continuation_in L c.rest)) ≤ length L = omega (arith, opened-cons c.item (continuation_in L c.rest), s c.rest l.0) in
+    let at_end : continuation_in M (length L) ≡ c.item ∷ continuation_in L c.rest =
+    continuation_in-continuations_after (joined L c) cs (length L) here
+    ∙ get_or-append_seam L (c.item ∷ continuation_in L c.rest) [] [] in
+    let rest : continuation_in M c.rest ≡ continuation_in L c.rest = continuation_in-continuations_after (joined L c) cs c.rest there
+    ∙ continuation_in-joined L c c.rest l.0 in
+    let small : length (opened (c.item ∷ continuation_in L c.rest)) ≤ length L =
+    omega (arith, opened-cons c.item (continuation_in L c.rest), s c.rest l.0) in
     let e : length L + 0 ≡ length L = omega arith in
     subst (λ n. Begins M n c) (sym e) (record {
       continuation = at_end ∙ ap (λ (I : List Item). c.item ∷ I) (sym rest);
@@ -82,7 +93,8 @@ cell-begins L (c ∷ cs) zero d s l h =
     })
 cell-begins L (c ∷ cs) (suc i) d s l h =
     let e : length (joined L c) + i ≡ length L + suc i = omega (arith, length-joined L c) in
-    subst (λ n. Begins (continuations_after (joined L c) cs) n (get_or cs i d)) e (cell-begins (joined L c) cs i d (joined-shallow L c l.0 s) l.3 (omega arith))
+    subst (λ n. Begins (continuations_after (joined L c) cs) n (get_or cs i d)) e
+    (cell-begins (joined L c) cs i d (joined-shallow L c l.0 s) l.3 (omega arith))
 
 pub length_continuations_of : (cs : List Cell) → length (continuations_of cs) ≡ suc (length cs)
 length_continuations_of cs = length-continuations_after only_empty cs ∙ omega arith
@@ -90,7 +102,8 @@ length_continuations_of cs = length-continuations_after only_empty cs ∙ omega 
 pub first_list : (cs : List Cell) → continuation_in (continuations_of cs) 0 ≡ []
 first_list cs = continuation_in-continuations_after only_empty cs 0 (omega arith)
 
-pub continuation_begins : (cs : List Cell) (n : ℕ) (d : Cell) → AreLinked only_empty cs → 0 < n → n < length (continuations_of cs) → Begins (continuations_of cs) n (get_or cs (n - 1) d)
+pub continuation_begins : (cs : List Cell) (n : ℕ) (d : Cell) → AreLinked only_empty cs → 0 < n → n < length (continuations_of cs)
+    → Begins (continuations_of cs) n (get_or cs (n - 1) d)
 continuation_begins cs n d l p h =
     let e : 1 + (n - 1) ≡ n = omega arith in
     let i : n - 1 < length cs = omega (arith, length_continuations_of cs) in
@@ -113,10 +126,12 @@ take-first L M n h e = sym (take-within n (length L) M h) ∙ ap (take n) e
 first-continuations : (L : List (List Item)) (cs : List Cell) → take (length L) (continuations_after L cs) ≡ L
 first-continuations L [] = take-length L
 first-continuations L (c ∷ cs) =
-    take-first (joined L c) (continuations_after (joined L c) cs) (length L) (omega (arith, length-joined L c)) (first-continuations (joined L c) cs) ∙ take-joined L (c.item ∷ continuation_in L c.rest)
+    take-first (joined L c) (continuations_after (joined L c) cs) (length L) (omega (arith, length-joined L c))
+    (first-continuations (joined L c) cs) ∙ take-joined L (c.item ∷ continuation_in L c.rest)
 
 -- the first cells make the first continuations
-cut-after : (L : List (List Item)) (cs : List Cell) (n : ℕ) → n ≤ length cs → continuations_after L (take n cs) ≡ take (length L + n) (continuations_after L cs)
+cut-after : (L : List (List Item)) (cs : List Cell) (n : ℕ) → n ≤ length cs → continuations_after L (take n cs)
+    ≡ take (length L + n) (continuations_after L cs)
 cut-after L cs zero h =
     let e : length L ≡ length L + 0 = omega arith in
     sym (first-continuations L cs) ∙ ap (λ k. take k (continuations_after L cs)) e
@@ -125,7 +140,8 @@ cut-after L (c ∷ cs) (suc n) h =
     let e : length (joined L c) + n ≡ length L + suc n = omega (arith, length-joined L c) in
     cut-after (joined L c) cs n (omega arith) ∙ ap (λ k. take k (continuations_after (joined L c) cs)) e
 
-pub continuations-cut : (cs : List Cell) (n : ℕ) → 0 < n → n ≤ length (continuations_of cs) → continuations_of (take (n - 1) cs) ≡ take n (continuations_of cs)
+pub continuations-cut : (cs : List Cell) (n : ℕ) → 0 < n → n ≤ length (continuations_of cs) → continuations_of (take (n - 1) cs)
+    ≡ take n (continuations_of cs)
 continuations-cut cs n p h =
     let e : 1 + (n - 1) ≡ n = omega arith in
     cut-after only_empty cs (n - 1) (omega (arith, length_continuations_of cs)) ∙ ap (λ k. take k (continuations_of cs)) e

@@ -1,22 +1,31 @@
 -- Each move keeps what is owed.
-use Rattle.std.proofs.Common.{◌≡◌, ℕ, ◌+◌, ◌-◌, ◌≤◌, ◌==◌, nat_le, Bool, true, false, List, [], ◌∷◌, Option, Some, None, refl, sym, ap, ◌∙◌, append_assoc, if◌then◌else◌}
+use Rattle.std.proofs.Common.{◌≡◌, ℕ, ◌+◌, ◌-◌, ◌≤◌, ◌==◌, nat_le, Bool, true, false, List, [], ◌∷◌, Option, Some, None, refl, sym, ap}
+use Rattle.std.proofs.Common.{◌∙◌, append_assoc, if◌then◌else◌}
 use Rattle.op_logic.specs.Term.{Term, shift}
 use Rattle.op_logic.specs.Bind.{Bindings, unify, Solved as Result}
 use Rattle.op_trace.specs.declared.port.Port.TheVariants as port
 use Rattle.op_trace.specs.declared.barrier.Barrier.{Barrier}
 use Rattle.op_trace.specs.declared.barrier.Barrier.TheVariants.{Call, InCondition, AtSuccess}
 use Rattle.op_trace.specs.World.{Text, text_eq, Clause, World, Setup, same_barrier, Item, Goal, Cut, Exit, Turn, Shown, Solved, procedure}
-use Rattle.op_trace.specs.Visit.{Verdict, Failed, CutTo, Stopped, Spent, Visited, gives, with_turns, and_then, event_of, with_event, pays, reaches, cut, shows, Control, TrueGoal, FailGoal, CutGoal, Conjunction, Disjunction, IfThenElse, BoxedGoal, control, entered, Choice, Redo, Branch, More, Fail, Condition, matched, tries, alternatives, branches, after, boxed, selected, solved, visit, visit_with}
+use Rattle.op_trace.specs.Visit.{Verdict, Failed, CutTo, Stopped, Spent, Visited, gives, with_turns, and_then, event_of, with_event, pays}
+use Rattle.op_trace.specs.Visit.{reaches, cut, shows, Control, TrueGoal, FailGoal, CutGoal, Conjunction, Disjunction, IfThenElse}
+use Rattle.op_trace.specs.Visit.{BoxedGoal, control, entered, Choice, Redo, Branch, More, Fail, Condition, matched, tries, alternatives}
+use Rattle.op_trace.specs.Visit.{branches, after, boxed, selected, solved, visit, visit_with}
 use Rattle.op_trace.proofs.Agree.{visit_rows}
 use Rattle.op_trace.proofs.Only.{Only, visit-only}
-use Rattle.op_machine.specs.Resume.{resume, keep, with_more, State, Forward, Backward, Over, owed, Moved, silent, paid, invoked, chosen, met, tried, branched, at_solution, move, world_of}
-use Rattle.op_machine.specs.Scope.{Behind, InStep}
+use Rattle.op_machine.specs.Resume.{resume, keep, with_more, State, Forward, Backward, Over, owed, Moved, silent, paid, invoked, chosen}
+use Rattle.op_machine.specs.Resume.{head_unified, tried, branched, at_solution, move, world_of}
+use Rattle.op_machine.specs.inner.Barriers.{Behind, InStep}
 
 -- a walk that leads to another, and then to a third
 pub and_then-assoc : (v : Visited) (h i : Verdict → World → Visited)
     → and_then (and_then v h) i ≡ and_then v (λ r w. and_then (h r w) i)
 and_then-assoc v h i =
-    ap (λ (ts : List Turn). record { turns = ts; verdict = (i (h v.verdict v.world).verdict (h v.verdict v.world).world).verdict; world = (i (h v.verdict v.world).verdict (h v.verdict v.world).world).world }) (append_assoc v.turns (h v.verdict v.world).turns (i (h v.verdict v.world).verdict (h v.verdict v.world).world).turns)
+    ap (λ (ts : List Turn). record {
+      turns = ts;
+      verdict = (i (h v.verdict v.world).verdict (h v.verdict v.world).world).verdict;
+      world = (i (h v.verdict v.world).verdict (h v.verdict v.world).world).world;
+    }) (append_assoc v.turns (h v.verdict v.world).turns (i (h v.verdict v.world).verdict (h v.verdict v.world).world).turns)
 
 -- the results that no choice point changes
 pub resume-Stopped : (s : Setup) (K : List Choice) (w : World) → resume s K Stopped w ≡ gives Stopped w
@@ -90,7 +99,7 @@ paid-row true s n w h m K e = e
 paid-row false s n w h m K e = resume-Spent s K _
 
 pub matched-row : (s : Setup) (c : Clause) (k : ℕ) (g : Term Text) (J : List Item) (w : World) (o : Option (Result Text)) (K : List Choice)
-    → and_then (matched (visit s) s c k g J w o) (resume s K) ≡ comes s (met s c k g J K w o)
+    → and_then (matched (visit s) s c k g J w o) (resume s K) ≡ comes s (head_unified s c k g J K w o)
 unfolding owed
 matched-row s c k g J w None K = resume-Spent s K _
 matched-row s c k g J w (Some (None, left)) K = refl
@@ -105,8 +114,9 @@ tried-row s c k g σ J w K =
     let pairs : World → List (Term Text × Term Text) = λ u. (g, shift u.variables c.head) ∷ [] in
     paid-row (nat_le (w.steps + 1) s.budget) s 1 w
     (λ u. matched (visit s) s c k g J u (unify text_eq (s.budget - u.steps) σ ((g, shift u.variables c.head) ∷ [])))
-    (λ u. met s c k g J K u (unify text_eq (s.budget - u.steps) σ ((g, shift u.variables c.head) ∷ []))) K
-    (matched-row s c k g J (record w { steps = w.steps + 1 }) (unify text_eq (s.budget - (w.steps + 1)) σ ((g, shift w.variables c.head) ∷ [])) K)
+    (λ u. head_unified s c k g J K u (unify text_eq (s.budget - u.steps) σ ((g, shift u.variables c.head) ∷ []))) K
+    (matched-row s c k g J (record w { steps = w.steps + 1 })
+    (unify text_eq (s.budget - (w.steps + 1)) σ ((g, shift w.variables c.head) ∷ [])) K)
 
 -- a walk whose row makes a choice point
 pub push-row : (s : Setup) (v : Visited) (c : Choice) (K : List Choice)
@@ -115,7 +125,8 @@ unfolding resume
 push-row s v c K = and_then-assoc v (after (visit s) s c) (resume s K)
 
 -- no further clauses are no choice point
-pub resume-with_more : (s : Setup) (cs : List Clause) (k : ℕ) (g : Term Text) (σ : Bindings Text) (J : List Item) (K : List Choice) (r : Verdict) (w : World)
+pub resume-with_more : (s : Setup) (cs : List Clause) (k : ℕ) (g : Term Text) (σ : Bindings Text) (J : List Item) (K : List Choice)
+    (r : Verdict) (w : World)
     → resume s (with_more cs k g σ J K) r w ≡ resume s (More cs k g σ J ∷ K) r w
 unfolding resume
 resume-with_more s [] k g σ J K r w = refl
@@ -128,7 +139,8 @@ boxed-row s g J σ w K =
     let k : ℕ = w.calls + 1 in
     let u : World = record w { calls = k } in
     ap (with_turns (Shown (event_of port.Call k g σ J u) (with_event u) ∷ []))
-    (and_then-assoc (alternatives (visit s) s (procedure w.clauses g) k g σ J Failed (with_event u)) (after (visit s) s (Fail k g σ J)) (resume s K)
+    (and_then-assoc (alternatives (visit s) s (procedure w.clauses g) k g σ J Failed (with_event u)) (after (visit s) s (Fail k g σ J))
+    (resume s K)
     ∙ sym (resume-with_more s (procedure w.clauses g) k g σ J (Fail k g σ J ∷ K) Failed (with_event u)))
 
 pub branched-row : (s : Setup) (t : Term Text) (m : Barrier) (σ : Bindings Text) (J : List Item) (w : World) (K : List Choice)
@@ -137,7 +149,8 @@ unfolding owed
 branched-row s t m σ J w K =
     paid-row (nat_le (w.steps + 1) s.budget) s 1 w (visit s (Goal t m ∷ J) σ) (λ u. silent (Forward (Goal t m ∷ J) K σ u)) K refl
 
-pub selected-row : (s : Setup) (q : Control) (t : Term Text) (m : Barrier) (J : List Item) (σ : Bindings Text) (w : World) (K : List Choice)
+pub selected-row : (s : Setup) (q : Control) (t : Term Text) (m : Barrier) (J : List Item) (σ : Bindings Text) (w : World)
+    (K : List Choice)
     → Behind m K J → and_then (selected (visit s) s q t m J σ w) (resume s K) ≡ comes s (chosen q t m J K σ w)
 unfolding owed
 selected-row s TrueGoal t m J σ w K b = refl
@@ -147,7 +160,8 @@ selected-row s (Conjunction x y) t m J σ w K b = refl
 selected-row s (Disjunction x y) t m J σ w K b = push-row s (visit s (Goal x m ∷ J) σ w) (Branch y m σ J) K
 selected-row s (IfThenElse c x y) t m J σ w K b =
     let n : ℕ = w.conditions + 1 in
-    push-row s (visit s (Goal c (InCondition n) ∷ Cut (AtSuccess n) ∷ Goal x m ∷ J) σ (record w { conditions = n })) (Condition n y m σ J) K
+    push-row s (visit s (Goal c (InCondition n) ∷ Cut (AtSuccess n) ∷ Goal x m ∷ J) σ (record w { conditions = n })) (Condition n y m σ J)
+    K
 selected-row s BoxedGoal t m J σ w K b = boxed-row s t J σ w K
 
 pub solved-row : (s : Setup) (σ : Bindings Text) (w : World) (K : List Choice)
@@ -158,9 +172,15 @@ solved-row s σ w K = go (w.solutions + 1 == s.wanted)
     u : World
     u = record w { solutions = w.solutions + 1 }
 
-    go : (b : Bool) → and_then (with_turns (Solved σ (record w { solutions = w.solutions + 1 }) ∷ []) (gives (if b then Stopped else Failed) (record w { solutions = w.solutions + 1 }))) (resume s K)
-        ≡ comes s (record { turns = Solved σ (record w { solutions = w.solutions + 1 }) ∷ []; state = if b then Over Stopped (record w { solutions = w.solutions + 1 }) else Backward K (record w { solutions = w.solutions + 1 }) })
-    go true = ap (with_turns (Solved σ (record w { solutions = w.solutions + 1 }) ∷ [])) (resume-Stopped s K (record w { solutions = w.solutions + 1 }))
+    go : (b : Bool) → and_then (with_turns (Solved σ (record w { solutions = w.solutions + 1 }) ∷ [])
+        (gives (if b then Stopped else Failed) (record w { solutions = w.solutions + 1 }))) (resume s K)
+        ≡ comes s (record {
+          turns = Solved σ (record w { solutions = w.solutions + 1 }) ∷ [];
+          state =
+              if b then Over Stopped (record w { solutions = w.solutions + 1 }) else Backward K (record w { solutions = w.solutions + 1 });
+        })
+    go true = ap (with_turns (Solved σ (record w { solutions = w.solutions + 1 }) ∷ []))
+        (resume-Stopped s K (record w { solutions = w.solutions + 1 }))
     go false = refl
 
 pub exit-row : (s : Setup) (k : ℕ) (g : Term Text) (J : List Item) (σ : Bindings Text) (w : World) (K : List Choice) → w.steps ≤ s.budget
@@ -193,5 +213,6 @@ move-row s (Backward (More [] k g σ J ∷ K) w) below h = refl
 move-row s (Backward (More (c ∷ cs) k g σ J ∷ K) w) below h =
     let v : Visited = tries (visit s) s c k g σ J w in
     push-row s v (More cs k g σ J) K
-    ∙ (ap (with_turns v.turns) (sym (resume-with_more s cs k g σ J K v.verdict v.world)) ∙ tried-row s c k g σ J w (with_more cs k g σ J K))
+    ∙ (ap (with_turns v.turns) (sym (resume-with_more s cs k g σ J K v.verdict v.world))
+    ∙ tried-row s c k g σ J w (with_more cs k g σ J K))
 move-row s (Over r w) below h = refl

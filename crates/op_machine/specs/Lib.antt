@@ -1,14 +1,6 @@
-pub mod Boxes
-pub mod Core
-pub mod Counted
-pub mod Kept
-pub mod Kinds
-pub mod Continuations
 pub mod Machine
-pub mod Made
+pub mod Meaning
 pub mod Program
 pub mod Resume
-pub mod Rows
-pub mod Scope
-pub mod Turned
 pub mod View
+pub mod inner

@@ -5,7 +5,7 @@ use Rattle.op_trace.specs.Run.{Run, ran}
 use Rattle.op_trace.specs.Ending as ending
 use Rattle.op_machine.specs.declared.continuations.Item.{Item}
 use Rattle.op_frames.specs.Frames.{Framed}
-use Rattle.op_machine.specs.declared.held.Held.{Held}
+use Rattle.op_machine.specs.declared.choice_points.Held.{Held}
 use Rattle.op_machine.specs.declared.core_state.Core.{Core}
 use Rattle.op_machine.specs.declared.core_state.Mode.{Mode}
 use Rattle.op_machine.specs.declared.core_state.Seen.{Seen}
@@ -18,7 +18,8 @@ use Rattle.op_machine.specs.declared.turn.Turn.TheVariants as turn
 use Rattle.op_store.specs.Stored.{Stored}
 use Rattle.op_machine.specs.Program.{clauses}
 use Rattle.op_bind.specs.State as bind
-use Rattle.op_machine.specs.Core.{IsSeen, Level, level_of, bindings_in, state_with, event_seen}
+use Rattle.op_machine.specs.Meaning.{Level, level_of, bindings_in, state_with, event_seen}
+use Rattle.op_machine.specs.inner.Invariant.{IsSeen}
 use Rattle.op_machine.specs.Resume.{State, owed}
 
 -- what a caller sees of what a machine keeps: but the last event, no turn that was or is to come is among it
@@ -66,7 +67,15 @@ setup k = record { budget = k.budget; wanted = k.wanted }
 
 -- the run's world at this moment
 abbrev pub world_now : Kept → World
-world_now k = record (loaded (clauses k.tables)) { variables = k.bindings.count; calls = k.calls; conditions = k.conditions; steps = k.steps; events = k.events; solutions = k.solutions }
+world_now k = record (loaded (clauses k.tables)) {
+  variables = k.bindings.count;
+  calls = k.calls;
+  conditions = k.conditions;
+  steps = k.steps;
+  events = k.events;
+  solutions =
+      k.solutions;
+}
 
 abbrev pub level_now : Kept → Level
 level_now k = level_of k.bindings k.continuations
@@ -115,11 +124,14 @@ only_ending e w = record { turns = []; ending = ending_for e; world = w }
 -- the first of the turns to come was answered, and the rest are left; or none are, and the ending was answered
 abbrev pub Answers : declared.Turn → Kept → Kept → Type 0
 Answers turn.Event old new =
-    (to_come old ≡ with_turn (Shown (event_now new) (world_now new)) (to_come new)) × (has_event new ≡ true) × (answered new ≡ answered old + 1)
+    (to_come old ≡ with_turn (Shown (event_now new) (world_now new)) (to_come new)) × (has_event new ≡ true)
+    × (answered new ≡ answered old + 1)
 Answers turn.Solution old new =
-    (to_come old ≡ with_turn (Solved (bindings_in new.tables (level_now new)) (world_now new)) (to_come new)) × (has_solution new ≡ true) × (answered new ≡ answered old + 1)
+    (to_come old ≡ with_turn (Solved (bindings_in new.tables (level_now new)) (world_now new)) (to_come new)) × (has_solution new ≡ true)
+    × (answered new ≡ answered old + 1)
 Answers (turn.Ended e) old new =
-    (to_come old ≡ only_ending e (world_now new)) × (to_come new ≡ to_come old) × (has_event new ≡ false) × (has_solution new ≡ false) × (answered new ≡ answered old)
+    (to_come old ≡ only_ending e (world_now new)) × (to_come new ≡ to_come old) × (has_event new ≡ false) × (has_solution new ≡ false)
+    × (answered new ≡ answered old)
 
 abbrev pub last_after : declared.Turn → Last
 last_after turn.Event = last.Event

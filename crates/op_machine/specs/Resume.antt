@@ -7,7 +7,9 @@ use Rattle.op_trace.specs.declared.port.Port.TheVariants as port
 use Rattle.op_trace.specs.declared.barrier.Barrier.{Barrier}
 use Rattle.op_trace.specs.declared.barrier.Barrier.TheVariants.{Call, InCondition, AtSuccess}
 use Rattle.op_trace.specs.World.{Text, text_eq, Clause, World, Setup, same_barrier, Item, Goal, Cut, Exit, Turn, Shown, Solved, procedure}
-use Rattle.op_trace.specs.Visit.{Verdict, Failed, CutTo, Stopped, Spent, Visited, gives, and_then, event_of, with_event, Control, TrueGoal, FailGoal, CutGoal, Conjunction, Disjunction, IfThenElse, BoxedGoal, control, entered, Choice, Redo, Branch, More, Fail, Condition, after, visit}
+use Rattle.op_trace.specs.Visit.{Verdict, Failed, CutTo, Stopped, Spent, Visited, gives, and_then, event_of, with_event, Control, TrueGoal}
+use Rattle.op_trace.specs.Visit.{FailGoal, CutGoal, Conjunction, Disjunction, IfThenElse, BoxedGoal, control, entered, Choice, Redo}
+use Rattle.op_trace.specs.Visit.{Branch, More, Fail, Condition, after, visit}
 
 -- where no choice point is left, a cut leaves nothing more to fail
 abbrev pub at_top : Verdict → World → Visited
@@ -21,7 +23,8 @@ unfoldable pub resume : Setup → List Choice → Verdict → World → Visited
 resume s [] r w = at_top r w
 resume s (c ∷ K) r w = and_then (after (visit s) s c r w) (resume s K)
 
--- a choice point to which a cut to a barrier comes, and which it keeps: a box's own, which makes its fail event, and a condition's for a cut
+-- a choice point to which a cut to a barrier comes, and which it keeps: a box's own, which makes its fail event, and a condition's for a
+-- cut
 -- inside the condition
 abbrev pub stays : Choice → Barrier → Bool
 stays (Redo k g σ J) m = false
@@ -99,16 +102,17 @@ chosen (Disjunction a b) t m J K σ w = silent (Forward (Goal a m ∷ J) (Branch
 chosen (IfThenElse c a b) t m J K σ w = if_then_else_chosen c a b m J K σ w
 chosen BoxedGoal t m J K σ w = invoked t J K σ w
 
-abbrev pub met : Setup → Clause → ℕ → Term Text → List Item → List Choice → World → Option (Result Text) → Moved
-met s c k g J K w None = silent (Over Spent (record w { steps = s.budget }))
-met s c k g J K w (Some (None, left)) = silent (Backward K (record w { steps = s.budget - left }))
-met s c k g J K w (Some (Some τ, left)) =
-    pay s c.variables (record w { steps = s.budget - left }) (λ u. silent (Forward (entered w.variables c k g J) K τ (record u { variables = u.variables + c.variables })))
+abbrev pub head_unified : Setup → Clause → ℕ → Term Text → List Item → List Choice → World → Option (Result Text) → Moved
+head_unified s c k g J K w None = silent (Over Spent (record w { steps = s.budget }))
+head_unified s c k g J K w (Some (None, left)) = silent (Backward K (record w { steps = s.budget - left }))
+head_unified s c k g J K w (Some (Some τ, left)) =
+    pay s c.variables (record w { steps = s.budget - left })
+    (λ u. silent (Forward (entered w.variables c k g J) K τ (record u { variables = u.variables + c.variables })))
 
 -- a clause is tried, with these choice points below it
 abbrev pub tried : Setup → Clause → ℕ → Term Text → Bindings Text → List Item → List Choice → World → Moved
 tried s c k g σ J K w =
-    pay s 1 w (λ u. met s c k g J K u (unify text_eq (s.budget - u.steps) σ ((g, shift u.variables c.head) ∷ [])))
+    pay s 1 w (λ u. head_unified s c k g J K u (unify text_eq (s.budget - u.steps) σ ((g, shift u.variables c.head) ∷ [])))
 
 abbrev pub at_solution : Setup → List Choice → Bindings Text → World → Moved
 at_solution s K σ w =

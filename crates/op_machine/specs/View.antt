@@ -4,7 +4,7 @@ use Rattle.op_logic.specs.Names.{named, HaveNames}
 use Rattle.op_bind.specs.State.{State, resolved, value_of}
 use Rattle.op_trace.specs.World.{Event}
 use Rattle.op_machine.specs.declared.core_state.Seen.{Seen}
-use Rattle.op_machine.specs.Core.{IsGoal, AreValues}
+use Rattle.op_machine.specs.inner.Invariant.{IsGoal, AreValues}
 
 -- an event that is shown, with the bindings and the names of its moment
 pub record Showing : Type 0 where
@@ -13,7 +13,15 @@ pub record Showing : Type 0 where
   pub names : List (List ℕ)
 
 abbrev pub event_in : Showing → Event
-event_in v = record { chrono = v.seen.chrono; call = v.seen.call; parent = v.seen.parent; depth = v.seen.depth; port = v.seen.port; goal = named v.names (value_of v.state v.seen.goal) }
+event_in v = record {
+  chrono = v.seen.chrono;
+  call = v.seen.call;
+  parent = v.seen.parent;
+  depth = v.seen.depth;
+  port = v.seen.port;
+  goal =
+      named v.names (value_of v.state v.seen.goal);
+}
 
 -- its goal is there, and all names are
 pub record IsShowing (v : Showing) : Type 0 where

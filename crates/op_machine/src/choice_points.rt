@@ -1,18 +1,38 @@
-ghost use Rattle.std.specs.Prelude.{◌≡◌, ◌<◌, ◌≤◌, [], ◌∷◌, length, take, reverse, OnOk, IfNone, MatchOption};
-ghost use Rattle.op_trace.specs.Visit as visit;
-ghost use Rattle.op_machine.specs.Core.{level_in, items_now, goal_now, bindings_now, choice_points_in, choice_point_by, IsGood, IsGoal, IsKind};
+ghost use Rattle.std.specs.Prelude.{◌≡◌, ◌+◌, ◌<◌, ◌≤◌, ◌^◌, ◌∷◌, length, OnOk, [], take, reverse, IfNone, MatchOption, ℕ};
+ghost use Rattle.op_machine.specs.Meaning.{level_in, items_now, goal_now, bindings_now, choice_points_in, choice_point_by};
+ghost use Rattle.op_machine.specs.inner.Invariant.{IsGood, IsGoal, IsKind, IsEarlier};
 ghost use Rattle.op_machine.specs.Program.{clauses_from, AreKnown};
 ghost use Rattle.op_machine.specs.Resume.{keep, with_more};
-ghost use Rattle.op_machine.specs.Boxes.{IsCalled, IsTried};
-ghost use Rattle.op_machine.specs.Kept.{frame_stays, frame_goes, keep_frames};
+ghost use Rattle.op_machine.specs.inner.Boxes.{IsCalled, IsTried, boxes_before};
+ghost use Rattle.op_machine.specs.inner.Cuts.{frame_stays, frame_goes, keep_frames};
+ghost use Rattle.op_bind.specs.State.{undone};
+ghost use Rattle.op_frames.specs.Frames.{open_from};
+ghost use Rattle.op_trace.specs.Visit as visit;
 
 use crate::core_state::Core;
-use crate::held::Held;
 use op_base::Memory;
 use op_bind::Ref;
 use op_frames::{Choice, ChoiceKind};
 use op_store::Snapshot;
 use op_trace::Barrier;
+
+/// What the machine keeps with a choice point.
+#[derive(Drop)]
+pub struct Held {
+    /// The goal of the box, or of the branch that is tried.
+    pub goal: Ref,
+    /// How many continuations there were when the choice point was made.
+    pub continuations: u64,
+    /// How many boxes had been called.
+    pub calls: u64,
+    /// Where a cut in a branch cuts to.
+    pub barrier: Barrier,
+    /// The number of a condition.
+    pub condition: u64,
+    /// The clauses that a box's procedure had at the call, and the one that is tried next.
+    pub snapshot: Option<Snapshot>,
+    pub next: u64,
+}
 
 // Whether a cut to a barrier comes to a choice point and keeps it.
 fn stays(choice: &Choice<Held>, barrier: Barrier) -> bool
@@ -59,7 +79,12 @@ fn kept_by(choices: &[Choice<Held>], barrier: Barrier) -> u64
 
 impl Core {
     // A choice point above the others, made now.
-    pub(crate) fn push(&mut self, kind: ChoiceKind, rest: u64, kept: Held) -> Result<(), Memory>
+    pub(crate) fn push_choice_point(
+        &mut self,
+        kind: ChoiceKind,
+        rest: u64,
+        kept: Held,
+    ) -> Result<(), Memory>
         requires good { IsGood self.old }
         requires there { rest < length self.old.continuations }
         requires goal { IsGoal (length self.old.store.names) self.old.bindings.terms kept.goal }
@@ -67,7 +92,8 @@ impl Core {
         requires kind { IsKind (length self.old.store.names) kind kept }
         requires calls { kept.calls ≡ self.old.calls }
         requires tried { IsTried self.old.frames.boxes self.old.continuations kind kept rest }
-        ensures choices { OnOk result (choice_points_in self.new ≡ choice_point_by self.old.store (level_in self.old) kind kept rest ∷ choice_points_in self.old) }
+        ensures choices { OnOk result (choice_points_in self.new
+            ≡ choice_point_by self.old.store (level_in self.old) kind kept rest ∷ choice_points_in self.old) }
         ensures good { OnOk result (IsGood self.new) }
         ensures rest { self.new ≡ record self.old { frames = self.new.frames } }
         ensures boxes { self.new.frames.boxes ≡ self.old.frames.boxes }
@@ -87,14 +113,15 @@ impl Core {
         requires good { IsGood self.old }
         requires there { rest < length self.old.continuations }
         requires goal { IsGoal (length self.old.store.names) self.old.bindings.terms goal }
-        ensures choices { OnOk result (choice_points_in self.new ≡ visit.Redo call (goal_now self.old goal) (bindings_now self.old) (items_now self.old rest) ∷ choice_points_in self.old) }
+        ensures choices { OnOk result (choice_points_in self.new
+            ≡ visit.Redo call (goal_now self.old goal) (bindings_now self.old) (items_now self.old rest) ∷ choice_points_in self.old) }
         ensures good { OnOk result (IsGood self.new) }
         ensures rest { self.new ≡ record self.old { frames = self.new.frames } }
         ensures boxes { self.new.frames.boxes ≡ self.old.frames.boxes }
     {
         let continuations = self.continuations.len();
         let calls = self.calls;
-        self.push(
+        self.push_choice_point(
             ChoiceKind::Redo(call),
             rest,
             Held {
@@ -114,14 +141,15 @@ impl Core {
         requires good { IsGood self.old }
         requires there { rest < length self.old.continuations }
         requires goal { IsGoal (length self.old.store.names) self.old.bindings.terms goal }
-        ensures choices { OnOk result (choice_points_in self.new ≡ visit.Fail call (goal_now self.old goal) (bindings_now self.old) (items_now self.old rest) ∷ choice_points_in self.old) }
+        ensures choices { OnOk result (choice_points_in self.new
+            ≡ visit.Fail call (goal_now self.old goal) (bindings_now self.old) (items_now self.old rest) ∷ choice_points_in self.old) }
         ensures good { OnOk result (IsGood self.new) }
         ensures rest { self.new ≡ record self.old { frames = self.new.frames } }
         ensures boxes { self.new.frames.boxes ≡ self.old.frames.boxes }
     {
         let continuations = self.continuations.len();
         let calls = self.calls;
-        self.push(
+        self.push_choice_point(
             ChoiceKind::Fail(call),
             rest,
             Held {
@@ -150,7 +178,8 @@ impl Core {
         requires goal { IsGoal (length self.old.store.names) self.old.bindings.terms goal }
         requires known { AreKnown (length self.old.store.names) snapshot.now }
         requires called { IsCalled self.old.frames.boxes self.old.calls self.old.continuations call goal rest }
-        ensures choices { OnOk result (choice_points_in self.new ≡ with_more (clauses_from self.old.store snapshot.now next) call (goal_now self.old goal)
+        ensures choices { OnOk result (choice_points_in self.new
+            ≡ with_more (clauses_from self.old.store snapshot.now next) call (goal_now self.old goal)
             (bindings_now self.old) (items_now self.old rest) (choice_points_in self.old)) }
         ensures good { OnOk result (IsGood self.new) }
         ensures rest { self.new ≡ record self.old { frames = self.new.frames } }
@@ -169,7 +198,7 @@ impl Core {
                 snapshot: Some(snapshot),
                 next,
             };
-            self.push(ChoiceKind::More(call), rest, kept)?;
+            self.push_choice_point(ChoiceKind::More(call), rest, kept)?;
         }
         Ok(())
     }
@@ -184,14 +213,16 @@ impl Core {
         requires good { IsGood self.old }
         requires there { rest < length self.old.continuations }
         requires goal { IsGoal (length self.old.store.names) self.old.bindings.terms goal }
-        ensures choices { OnOk result (choice_points_in self.new ≡ visit.Branch (goal_now self.old goal) barrier (bindings_now self.old) (items_now self.old rest) ∷ choice_points_in self.old) }
+        ensures choices { OnOk result (choice_points_in self.new
+            ≡ visit.Branch (goal_now self.old goal) barrier (bindings_now self.old) (items_now self.old rest) ∷ choice_points_in self.old)
+                }
         ensures good { OnOk result (IsGood self.new) }
         ensures rest { self.new ≡ record self.old { frames = self.new.frames } }
         ensures boxes { self.new.frames.boxes ≡ self.old.frames.boxes }
     {
         let continuations = self.continuations.len();
         let calls = self.calls;
-        self.push(
+        self.push_choice_point(
             ChoiceKind::Branch(rest),
             rest,
             Held {
@@ -217,14 +248,16 @@ impl Core {
         requires good { IsGood self.old }
         requires there { rest < length self.old.continuations }
         requires goal { IsGoal (length self.old.store.names) self.old.bindings.terms goal }
-        ensures choices { OnOk result (choice_points_in self.new ≡ visit.Condition condition (goal_now self.old goal) barrier (bindings_now self.old) (items_now self.old rest) ∷ choice_points_in self.old) }
+        ensures choices { OnOk result (choice_points_in self.new
+            ≡ visit.Condition condition (goal_now self.old goal) barrier (bindings_now self.old) (items_now self.old rest)
+            ∷ choice_points_in self.old) }
         ensures good { OnOk result (IsGood self.new) }
         ensures rest { self.new ≡ record self.old { frames = self.new.frames } }
         ensures boxes { self.new.frames.boxes ≡ self.old.frames.boxes }
     {
         let continuations = self.continuations.len();
         let calls = self.calls;
-        self.push(
+        self.push_choice_point(
             ChoiceKind::Condition(rest),
             rest,
             Held {
@@ -240,13 +273,32 @@ impl Core {
     }
 
     // The last choice point, which is dropped.
-    pub(crate) fn pop(&mut self) -> Option<Choice<Held>>
-        ensures frames { MatchOption result (reverse self.old.frames.choices ≡ []) (λ f. reverse self.old.frames.choices ≡ f ∷ reverse self.new.frames.choices) }
+    pub(crate) fn pop_choice_point(&mut self) -> Option<Choice<Held>>
+        ensures frames { MatchOption result (reverse self.old.frames.choices ≡ [])
+            (λ f. reverse self.old.frames.choices ≡ f ∷ reverse self.new.frames.choices) }
         ensures empty { IfNone result (reverse self.new.frames.choices ≡ []) }
         ensures rest { self.new ≡ record self.old { frames = self.new.frames } }
         ensures boxes { self.new.frames.boxes ≡ self.old.frames.boxes }
     {
         self.frames.pop_choice()
+    }
+
+    // Back to the bindings, the continuations and the boxes that were there when a choice point was made.
+    pub(crate) fn restore(&mut self, choice: &Choice<Held>)
+        requires earlier { IsEarlier choice.now (level_in self.old) }
+        requires some { 0 < choice.now.kept.continuations }
+        requires calls { choice.now.kept.calls < 2 ^ 63 }
+        ensures back { self.new ≡ record self.old {
+          bindings = undone self.old.bindings choice.now.mark;
+          continuations = take choice.now.kept.continuations self.old.continuations;
+          frames = record self.old.frames { boxes = boxes_before (choice.now.kept.calls + 1) self.old.frames.boxes };
+        } }
+        ensures stays { (n : ℕ) → n < choice.now.kept.calls + 1
+            → open_from (boxes_before (choice.now.kept.calls + 1) self.old.frames.boxes) n ≡ open_from self.old.frames.boxes n }
+    {
+        self.bindings.undo_to(choice.mark);
+        self.continuations.cut(choice.kept.continuations);
+        self.frames.drop_boxes(choice.kept.calls + 1);
     }
 
     // A cut is made at once: what it drops is freed.

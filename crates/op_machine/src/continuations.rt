@@ -1,7 +1,11 @@
-ghost use Rattle.std.specs.Prelude.{◌≡◌, ◌<◌, ◌≤◌, ◌^◌, [], ◌∷◌, ◌++◌, length, take, OnOk, OnErr, IfOk, IfSome, IfNone, MatchOption};
-ghost use Rattle.op_machine.specs.Continuations.{continuation_in, continuations_of, only_empty, opened, AreLinked, Begins};
+ghost use Rattle.std.specs.Prelude.{◌≡◌, ◌+◌, ◌<◌, ◌≤◌, ◌^◌, ◌∷◌, length, IfOk, OnOk, [], take, IfNone, MatchOption, ◌++◌, OnErr, IfSome};
+ghost use Rattle.op_machine.specs.Meaning.{level_in, items_now, choice_points_in, item_term};
+ghost use Rattle.op_machine.specs.inner.Invariant.{IsGood, IsItem};
+ghost use Rattle.op_machine.specs.inner.Boxes.{IsEntered};
+ghost use Rattle.op_machine.specs.inner.Continuations.{continuation_in, continuations_of, only_empty, opened, AreLinked, Begins};
 ghost use Rattle.op_trace.specs.World.{head_number};
 
+use crate::core_state::Core;
 use op_base::Memory;
 use op_bind::Ref;
 use op_trace::Barrier;
@@ -40,7 +44,7 @@ impl Model for Continuations {
 
     ghost Value = { List (List Item) };
 
-    ghost use Rattle.op_machine.specs.Continuations.{continuations_of, AreLinked, only_empty};
+    ghost use Rattle.op_machine.specs.inner.Continuations.{continuations_of, AreLinked, only_empty};
 
     ghost view = { λ l. continuations_of l.cells.items };
 
@@ -94,7 +98,8 @@ impl Continuations {
     /// The first item of a continuation, and the number of the continuation behind it.
     pub fn first(&self, n: u64) -> Option<(Item, u64)>
         requires { n < length self.now }
-        ensures there { MatchOption result (continuation_in self.now n ≡ []) (λ p. continuation_in self.now n ≡ p.0 ∷ continuation_in self.now p.1) }
+        ensures there { MatchOption result (continuation_in self.now n ≡ [])
+            (λ p. continuation_in self.now n ≡ p.0 ∷ continuation_in self.now p.1) }
         ensures within { IfSome result (λ p. p.1 < n) }
     {
         match cell_at(&self.cells, n) {
@@ -159,5 +164,23 @@ fn opened_before(cells: &Vec<Cell>, item: &Item, rest: u64) -> (u64, u64)
         Item::Goal { .. } => (parent, depth),
         Item::Cut { .. } => (parent, depth),
         Item::Exit { call, .. } => (*call, depth + 1),
+    }
+}
+
+impl Core {
+    // A continuation that begins with an item.
+    pub(crate) fn add(&mut self, item: Item, rest: u64) -> Result<u64, Memory>
+        requires good { IsGood self.old }
+        requires item { IsItem (length self.old.store.names) self.old.bindings.terms item }
+        requires there { rest < length self.old.continuations }
+        requires entered { IsEntered self.old.frames.boxes self.old.calls self.old.continuations item rest }
+        ensures within { IfOk result (λ n. n < length self.new.continuations) }
+        ensures items { IfOk result (λ n. items_now self.new n
+            ≡ item_term self.old.store (level_in self.old) item ∷ items_now self.old rest) }
+        ensures choices { OnOk result (choice_points_in self.new ≡ choice_points_in self.old) }
+        ensures good { OnOk result (IsGood self.new) }
+        ensures rest { self.new ≡ record self.old { continuations = self.new.continuations } }
+    {
+        Ok(self.continuations.add(item, rest)?)
     }
 }

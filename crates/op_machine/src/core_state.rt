@@ -1,5 +1,5 @@
+use crate::choice_points::Held;
 use crate::continuations::Continuations;
-use crate::held::Held;
 use op_bind::{Bindings, Mark, Ref};
 use op_frames::Frames;
 use op_reader::Names;

@@ -1,20 +1,18 @@
 //! The machine that walks the search tree of a goal, a turn at a time.
 #![tactic(auto)]
 
-mod branches;
+mod advance;
+mod boxes;
+mod budget;
 mod choice_points;
+mod clauses;
 mod continuations;
+mod control;
 mod core_state;
-mod goals;
-mod held;
-mod kind;
+mod goal_kind;
 pub mod laws;
 mod machine;
-mod moves;
-mod parts;
-mod procedure;
-mod rows;
-mod run;
+mod start;
 mod turn;
 mod view;
 

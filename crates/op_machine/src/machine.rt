@@ -1,4 +1,5 @@
-ghost use Rattle.std.specs.Prelude.{◌≡◌, ◌≢◌, ◌+◌, ◌-◌, ◌^◌, ◌<◌, ◌≤◌, ◌↔◌, true, false, length, IfOk, OnErr, IsErrOf, IfSome, is_some, OnOk};
+ghost use Rattle.std.specs.Prelude.{◌≡◌, ◌≢◌, ◌+◌, ◌-◌, ◌^◌, ◌<◌, ◌≤◌, ◌↔◌, true, false, length, IfOk, OnErr, IsErrOf, IfSome, is_some};
+ghost use Rattle.std.specs.Prelude.{OnOk};
 ghost use Rattle.op_store.specs.Queries.{IsSoundGoal};
 ghost use Rattle.op_store.specs.World.{clauses_of_world};
 ghost use Rattle.op_store.specs.Stored.{world_of};
@@ -41,7 +42,7 @@ impl Model for Machine {
     ghost view = { λ m. kept_of m.core m.last m.faulted };
 
     ghost use Rattle.std.specs.Prelude.{◌≡◌, false};
-    ghost use Rattle.op_machine.specs.Core.{IsSound};
+    ghost use Rattle.op_machine.specs.inner.Invariant.{IsSound};
     ghost use Rattle.op_machine.specs.Machine.{CanLook};
 
     ghost invariant = { λ m. m.faulted ≡ false → IsSound m.core × CanLook m.last m.core };
@@ -64,7 +65,8 @@ impl Machine {
         requires some { 1 ≤ budget }
         requires limit { budget ≤ 1000000000 }
         ensures run { IfOk result (λ m. to_come m
-            ≡ run (record { budget = budget; wanted = wanted }) (named store.names goal.now.body) goal.now.vars (loaded (clauses_of_world (world_of store)))) }
+            ≡ run (record { budget = budget; wanted = wanted }) (named store.names goal.now.body) goal.now.vars
+            (loaded (clauses_of_world (world_of store)))) }
         ensures names { IfOk result (λ m. m.names ≡ goal.now.names) }
         ensures steps { IfOk result (λ m. m.steps ≡ 0) }
         ensures answered { IfOk result (λ m. answered m ≡ 0) }

@@ -3,7 +3,7 @@ ghost use Rattle.op_logic.specs.Term.{var};
 ghost use Rattle.op_logic.specs.Names.{named, HasNames, HaveNames};
 ghost use Rattle.op_term.specs.Places.{term_at};
 ghost use Rattle.op_bind.specs.State.{value_of, resolved};
-ghost use Rattle.op_machine.specs.Core.{IsGoal, AreValues};
+ghost use Rattle.op_machine.specs.inner.Invariant.{IsGoal, AreValues};
 
 use crate::core_state::Seen;
 use op_bind::{Bindings, Ref};
@@ -128,7 +128,8 @@ impl<'m> Model for SolutionView<'m> {
 
     ghost view = { λ v. record { variables = v.names.now; values = v.values.now; state = v.bindings.now; names = v.symbols.now } };
 
-    ghost invariant = { λ v. IsSolving (record { variables = v.names.now; values = v.values.now; state = v.bindings.now; names = v.symbols.now }) };
+    ghost invariant = { λ v.
+        IsSolving (record { variables = v.names.now; values = v.values.now; state = v.bindings.now; names = v.symbols.now }) };
 }
 
 impl<'m> SolutionView<'m> {

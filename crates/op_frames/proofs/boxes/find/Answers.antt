@@ -14,7 +14,8 @@ returns-then-number-eq0-clause-none c =
 pub returns-then-end-eq0-clause-none : goal.returns-then-end-eq0-clause-none
 returns-then-end-eq0-clause-none c =
     let parted = IsPartitionedBy-leb (λ (b : BoxFrame). b.number) _ c.args.number c.requires in
-    let point = IsPartitionPoint-from_clause (λ (b : BoxFrame). leb b.number c.args.number) _ _ c.partition_point-end.ensures.partitioned parted (λ a r q k. search rules) in
+    let point = IsPartitionPoint-from_clause (λ (b : BoxFrame). leb b.number c.args.number)
+    _ _ c.partition_point-end.ensures.partitioned parted (λ a r q k. search rules) in
     let none : BoxFrame = record { number = 0; parent = 0; goal = 0; mark = record { terms = 0; bound = 0 } } in
     chain-none c.args.boxes.now c.args.number c.partition_point-end.result none c.partition_point-end.ensures.bound
     (λ j h. absurd (omega (arith, c.if-end-eq0.true)))
@@ -23,11 +24,13 @@ returns-then-end-eq0-clause-none c =
 pub returns-then-frame-number-clause-none : goal.returns-then-frame-number-clause-none
 returns-then-frame-number-clause-none c =
     let parted = IsPartitionedBy-leb (λ (b : BoxFrame). b.number) _ c.args.number c.requires in
-    let point = IsPartitionPoint-from_clause (λ (b : BoxFrame). leb b.number c.args.number) _ _ c.partition_point-end.ensures.partitioned parted (λ a r q k. search rules) in
+    let point = IsPartitionPoint-from_clause (λ (b : BoxFrame). leb b.number c.args.number)
+    _ _ c.partition_point-end.ensures.partitioned parted (λ a r q k. search rules) in
     let d : BoxFrame = c.index-boxes-end.result in
     let last : ℕ = c.partition_point-end.result - 1 in
     let is : d.number ≡ (slice_index_or c.args.boxes.now last d).number = ap (λ (b : BoxFrame). b.number) c.index-boxes-end.is in
-    let up : (slice_index_or c.args.boxes.now last d).number ≤ c.args.number = leb-true _ _ (point.0 last d (omega arith) (omega (arith, c.if-end-eq0.false))) in
+    let up : (slice_index_or c.args.boxes.now last d).number ≤ c.args.number =
+    leb-true _ _ (point.0 last d (omega arith) (omega (arith, c.if-end-eq0.false))) in
     chain-none c.args.boxes.now c.args.number c.partition_point-end.result d c.partition_point-end.ensures.bound
     (λ j h.
     let low : (slice_index_or c.args.boxes.now j d).number ≤ (slice_index_or c.args.boxes.now last d).number =
@@ -38,7 +41,8 @@ returns-then-frame-number-clause-none c =
 pub returns-clause-some : goal.returns-clause-some
 returns-clause-some c =
     let parted = IsPartitionedBy-leb (λ (b : BoxFrame). b.number) _ c.args.number c.requires in
-    let point = IsPartitionPoint-from_clause (λ (b : BoxFrame). leb b.number c.args.number) _ _ c.partition_point-end.ensures.partitioned parted (λ a r q k. search rules) in
+    let point = IsPartitionPoint-from_clause (λ (b : BoxFrame). leb b.number c.args.number)
+    _ _ c.partition_point-end.ensures.partitioned parted (λ a r q k. search rules) in
     let b : BoxFrame = c.index-boxes-end.result in
     chain-found c.args.boxes.now c.args.number (c.partition_point-end.result - 1) b (omega (arith, c.if-number-eq0.false))
     (omega (arith, c.if-end-eq0.false, c.partition_point-end.ensures.bound)) (sym c.index-boxes-end.is) c.if-frame-number.false

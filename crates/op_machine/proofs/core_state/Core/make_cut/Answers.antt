@@ -1,10 +1,10 @@
 use Rattle.std.proofs.Common.{◌≡◌, List, reverse, take, ap, ◌∙◌, subst, refl}
 use Rattle.op_frames.specs.Frames.{Framed}
 use Rattle.op_machine.specs.declared.core_state.Core.{Core}
-use Rattle.op_machine.specs.declared.held.Held.{Held}
-use Rattle.op_machine.specs.Core.{Frame}
-use Rattle.op_machine.specs.Kept.{keep_frames}
-use Rattle.op_machine.proofs.Keeping.{cut_moved-choice_points, cut_moved-good}
+use Rattle.op_machine.specs.declared.choice_points.Held.{Held}
+use Rattle.op_machine.specs.Meaning.{Frame}
+use Rattle.op_machine.specs.inner.Cuts.{keep_frames}
+use Rattle.op_machine.proofs.CutLaws.{cut_moved-choice_points, cut_moved-good}
 use Rattle.op_machine.proofs.core_state.Core.make_cut.Goals as goal
 
 pub returns-clause-choices : goal.returns-clause-choices
@@ -13,7 +13,8 @@ returns-clause-choices c =
     let new : Core = record old { frames = c.cut_to.new.self } in
     let kept : reverse new.frames.choices ≡ keep_frames c.args.barrier (reverse old.frames.choices) =
     ap (λ (f : Framed Held). reverse f.choices) c.cut_to.ensures
-    ∙ subst (λ (xs : List Frame). reverse (take c.kept_by-kept.result xs) ≡ keep_frames c.args.barrier (reverse xs)) c.choices.ensures c.kept_by-kept.ensures.kept in
+    ∙ subst (λ (xs : List Frame). reverse (take c.kept_by-kept.result xs) ≡ keep_frames c.args.barrier (reverse xs))
+    c.choices.ensures c.kept_by-kept.ensures.kept in
     cut_moved-choice_points old new c.args.barrier c.requires.good refl kept
 
 pub returns-clause-good : goal.returns-clause-good
@@ -22,5 +23,6 @@ returns-clause-good c =
     let new : Core = record old { frames = c.cut_to.new.self } in
     let kept : reverse new.frames.choices ≡ keep_frames c.args.barrier (reverse old.frames.choices) =
     ap (λ (f : Framed Held). reverse f.choices) c.cut_to.ensures
-    ∙ subst (λ (xs : List Frame). reverse (take c.kept_by-kept.result xs) ≡ keep_frames c.args.barrier (reverse xs)) c.choices.ensures c.kept_by-kept.ensures.kept in
+    ∙ subst (λ (xs : List Frame). reverse (take c.kept_by-kept.result xs) ≡ keep_frames c.args.barrier (reverse xs))
+    c.choices.ensures c.kept_by-kept.ensures.kept in
     cut_moved-good old new c.args.barrier c.requires.good refl (ap (λ (f : Framed Held). f.boxes) c.cut_to.ensures) kept

@@ -1,6 +1,6 @@
-use Rattle.op_machine.specs.Core.{setup_of, state_of}
-use Rattle.op_machine.specs.Turned.{Walked}
-use Rattle.op_machine.proofs.Progress.{weight}
+use Rattle.op_machine.specs.Meaning.{setup_of, state_of}
+use Rattle.op_machine.specs.inner.Turns.{Walked}
+use Rattle.op_machine.proofs.ProgressLaws.{weight}
 use Rattle.op_machine.proofs.core_state.Core.turn.Given as goal
 
 abbrev pub invariant-loop-self : goal.invariant-loop-self

@@ -1,6 +1,6 @@
 use Rattle.std.proofs.Common.{ℕ, List, sym, subst}
-use Rattle.op_machine.specs.Core.{AreValues}
-use Rattle.op_machine.proofs.Valuing.{values-all}
+use Rattle.op_machine.specs.inner.Invariant.{AreValues}
+use Rattle.op_machine.proofs.NamedVariables.{values-all}
 use Rattle.op_machine.proofs.machine.Machine.solution.Goals as goal
 
 pub new-requires-clause-known : goal.new-requires-clause-known

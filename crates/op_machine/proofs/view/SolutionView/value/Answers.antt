@@ -5,7 +5,7 @@ use Rattle.op_logic.proofs.Having.{apply-names}
 use Rattle.op_term.specs.Places.{term_at}
 use Rattle.op_bind.specs.State.{value_of}
 use Rattle.op_machine.specs.View.{Solving}
-use Rattle.op_machine.proofs.Valuing.{value-at, values-length}
+use Rattle.op_machine.proofs.NamedVariables.{value-at, values-length}
 use Rattle.op_machine.proofs.view.SolutionView.value.Goals as goal
 
 pub ref_at-requires : goal.ref_at-requires
@@ -27,7 +27,8 @@ returns-clause-there c =
     let i = c.self.inside in
     let same = ap (λ (v : Solving). length v.variables) c.self.view_is in
     let at = value-at _ i.values.now _ c.args.i c.ref_at.result c.self.invariant.known (omega (arith, c.requires, same)) in
-    subst (λ (v : Solving). c.ref_at.result < length v.state.terms) c.self.view_is (subst (λ (r : ℕ). r < length i.bindings.now.terms) (sym c.ref_at.ensures) at.1)
+    subst (λ (v : Solving). c.ref_at.result < length v.state.terms) c.self.view_is
+    (subst (λ (r : ℕ). r < length i.bindings.now.terms) (sym c.ref_at.ensures) at.1)
 
 pub returns-clause-names : goal.returns-clause-names
 returns-clause-names c =

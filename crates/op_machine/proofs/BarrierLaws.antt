@@ -1,0 +1,260 @@
+-- Each move keeps barriers and choice points in step.
+use Rattle.std.proofs.Common.{◌≡◌, inl, inr, ℕ, ◌+◌, ◌-◌, ◌<◌, ◌≤◌, ◌==◌, nat_le, Bool, true, false, List, [], ◌∷◌, Option, Some, None}
+use Rattle.std.proofs.Common.{refl, sym, ap, ◌∙◌, subst, arith, if◌then◌else◌}
+use Rattle.std.proofs.lemmas.Bool.Decides.{nat_tests}
+use Rattle.op_logic.specs.Term.{Term, shift}
+use Rattle.op_logic.specs.Bind.{Bindings, Solved as Result}
+use Rattle.op_trace.specs.declared.barrier.Barrier.{Barrier}
+use Rattle.op_trace.specs.declared.barrier.Barrier.TheVariants.{Call, InCondition, AtSuccess}
+use Rattle.op_trace.specs.World.{Text, Clause, World, Setup, Item, Goal, Cut, Exit, Has, procedure}
+use Rattle.op_trace.specs.Visit.{Stopped, Control, TrueGoal, FailGoal, CutGoal, Conjunction, Disjunction, IfThenElse, BoxedGoal, control}
+use Rattle.op_trace.specs.Visit.{is_true, entered, Choice, Redo, Branch, More, Fail, Condition}
+use Rattle.op_machine.specs.Resume.{stays, goes, keep, with_more, State, Forward, Backward, Over, Moved, paid, chosen, head_unified, tried}
+use Rattle.op_machine.specs.Resume.{branched, move}
+use Rattle.op_machine.specs.inner.Barriers.{Behind, Scoped, IsGiven, IsGoalBarrier, AreGiven, AreScoped, InStep}
+
+-- no choice point is dropped as the last by a cut of a goal
+pub goal-goes : (c d : ℕ) (x : Choice) (m : Barrier) → IsGoalBarrier c d m → goes x m ≡ false
+goal-goes c d (Redo k g σ J) m h = refl
+goal-goes c d (Branch t b σ J) m h = refl
+goal-goes c d (More cs k g σ J) m h = refl
+goal-goes c d (Fail k g σ J) m h = refl
+goal-goes c d (Condition n t b σ J) (Call k) h = refl
+goal-goes c d (Condition n t b σ J) (InCondition k) h = refl
+goal-goes c d (Condition n t b σ J) (AtSuccess k) h = absurd h
+
+-- a cut of a goal that is made twice is made once
+pub keep-keep : (c d : ℕ) (m : Barrier) (K : List Choice) → IsGoalBarrier c d m → keep m (keep m K) ≡ keep m K
+keep-keep c d m [] h = refl
+keep-keep c d m (x ∷ K) h = go (stays x m) (goes x m) refl (goal-goes c d x m h) (keep-keep c d m K h)
+  where
+    go : (a b : Bool) → stays x m ≡ a → b ≡ false → keep m (keep m K) ≡ keep m K
+        → keep m (if a then x ∷ K else (if b then K else keep m K)) ≡ (if a then x ∷ K else (if b then K else keep m K))
+    go true b e f below = ap (λ (a : Bool). if a then x ∷ K else (if goes x m then K else keep m K)) e
+    go false true e f below = cc
+    go false false e f below = below
+
+-- further clauses end no cut
+pub keep-with_more : (m : Barrier) (cs : List Clause) (k : ℕ) (g : Term Text) (σ : Bindings Text) (J : List Item) (K : List Choice)
+    → keep m (with_more cs k g σ J K) ≡ keep m K
+keep-with_more m [] k g σ J K = refl
+keep-with_more m (c ∷ cs) k g σ J K = refl
+
+-- a stack that keeps for each barrier of the items what another does
+abbrev pub SameFor : List Choice → List Choice → List Item → Type 0
+SameFor K L I = (n : Barrier) → Has n I → keep n L ≡ keep n K
+
+pub scoped-along : (K L : List Choice) (I : List Item) → SameFor K L I → Scoped K I → Scoped L I
+scoped-along K L [] same s = tt
+scoped-along K L (Goal t m ∷ J) same s = (
+  λ n h. ap (keep n) (same m (inl refl)) ∙ (s.0 n h ∙ sym (same n (inr h))),
+  scoped-along K L J (λ n h. same n (inr h)) s.1,
+)
+scoped-along K L (Cut m ∷ J) same s = (
+  λ n h. ap (keep n) (same m (inl refl)) ∙ (s.0 n h ∙ sym (same n (inr h))),
+  scoped-along K L J (λ n h. same n (inr h)) s.1,
+)
+scoped-along K L (Exit k g ∷ J) same s = scoped-along K L J same s
+
+pub goal-given : (c d : ℕ) (m : Barrier) → IsGoalBarrier c d m → IsGiven c d m
+goal-given c d (Call k) h = h
+goal-given c d (InCondition n) h = h
+goal-given c d (AtSuccess n) h = absurd h
+
+pub has-given : (c d : ℕ) (I : List Item) (m : Barrier) → AreGiven c d I → Has m I → IsGiven c d m
+has-given c d [] m a h = absurd h
+has-given c d (Goal t b ∷ J) m a h =
+    elim h [ inl e ↦ subst (IsGiven c d) (sym e) (goal-given c d b a.0) | inr r ↦ has-given c d J m a.1 r ]
+has-given c d (Cut b ∷ J) m a h = elim h [ inl e ↦ subst (IsGiven c d) (sym e) a.0 | inr r ↦ has-given c d J m a.1 r ]
+has-given c d (Exit k g ∷ J) m a h = has-given c d J m a h
+
+module _ (c d x y : ℕ) (more : c ≤ x) (over : d ≤ y) where
+  pub barrier-more : (m : Barrier) → IsGoalBarrier c d m → IsGoalBarrier x y m
+  barrier-more (Call k) h = omega arith
+  barrier-more (InCondition n) h = omega arith
+  barrier-more (AtSuccess n) h = h
+
+  pub one-more : (m : Barrier) → IsGiven c d m → IsGiven x y m
+  one-more (Call k) h = omega arith
+  one-more (InCondition n) h = omega arith
+  one-more (AtSuccess n) h = omega arith
+
+  pub given-more : (I : List Item) → AreGiven c d I → AreGiven x y I
+  given-more [] a = tt
+  given-more (Goal t b ∷ J) a = (barrier-more b a.0, given-more J a.1)
+  given-more (Cut b ∷ J) a = (one-more b a.0, given-more J a.1)
+  given-more (Exit k g ∷ J) a = given-more J a
+
+  pub scoped-more : (K : List Choice) → AreScoped c d K → AreScoped x y K
+  scoped-more [] a = tt
+  scoped-more (Redo k g σ J ∷ K) a = (tt, scoped-more K a.1)
+  scoped-more (Branch t m σ J ∷ K) a = ((a.0.0, given-more (Goal t m ∷ J) a.0.1), scoped-more K a.1)
+  scoped-more (More cs k g σ J ∷ K) a = ((a.0.0, a.0.1, omega arith, given-more J a.0.3), scoped-more K a.1)
+  scoped-more (Fail k g σ J ∷ K) a = (tt, scoped-more K a.1)
+  scoped-more (Condition n t m σ J ∷ K) a = ((a.0.0, given-more (Goal t m ∷ J) a.0.1), scoped-more K a.1)
+
+-- what a cut keeps is in step as before
+pub keep-scoped : (c d : ℕ) (m : Barrier) (K : List Choice) → AreScoped c d K → AreScoped c d (keep m K)
+keep-scoped c d m [] a = tt
+keep-scoped c d m (x ∷ K) a = go (stays x m) (goes x m) (keep-scoped c d m K a.1)
+  where
+    go : (p q : Bool) → AreScoped c d (keep m K) → AreScoped c d (if p then x ∷ K else (if q then K else keep m K))
+    go true q below = a
+    go false true below = a.1
+    go false false below = below
+
+-- a new box's own choice point ends no cut to a barrier that was given before
+pub keep-fresh : (c d k : ℕ) (m : Barrier) (g : Term Text) (σ : Bindings Text) (J : List Item) (K : List Choice) → IsGiven c d m → c < k
+    → keep m (Fail k g σ J ∷ K) ≡ keep m K
+keep-fresh c d k (Call m) g σ J K low high =
+    let e : (m == k) ≡ false = grind (arith, nat_tests) in
+    ap (λ (b : Bool). if b then Fail k g σ J ∷ K else keep (Call m) K) e
+keep-fresh c d k (InCondition m) g σ J K low high = refl
+keep-fresh c d k (AtSuccess m) g σ J K low high = refl
+
+pub keep-own : (k : ℕ) (g : Term Text) (σ : Bindings Text) (J : List Item) (K : List Choice) → keep (Call k) (Fail k g σ J ∷ K)
+    ≡ Fail k g σ J ∷ K
+keep-own k g σ J K =
+    let e : (k == k) ≡ true = grind (arith, nat_tests) in
+    ap (λ (b : Bool). if b then Fail k g σ J ∷ K else keep (Call k) K) e
+
+-- nor does that of a new condition
+pub keep-before : (c d n : ℕ) (m b : Barrier) (t : Term Text) (σ : Bindings Text) (J : List Item) (K : List Choice) → IsGiven c d m → d < n
+    → keep m (Condition n t b σ J ∷ K) ≡ keep m K
+keep-before c d n (Call m) b t σ J K low high = refl
+keep-before c d n (InCondition m) b t σ J K low high =
+    let e : (m == n) ≡ false = grind (arith, nat_tests) in
+    ap (λ (a : Bool). if a then Condition n t b σ J ∷ K else keep (InCondition m) K) e
+keep-before c d n (AtSuccess m) b t σ J K low high =
+    let e : (m == n) ≡ false = grind (arith, nat_tests) in
+    ap (λ (a : Bool). if a then K else keep (AtSuccess m) K) e
+
+pub keep-within : (n : ℕ) (b : Barrier) (t : Term Text) (σ : Bindings Text) (J : List Item) (K : List Choice)
+    → keep (InCondition n) (Condition n t b σ J ∷ K) ≡ Condition n t b σ J ∷ K
+keep-within n b t σ J K =
+    let e : (n == n) ≡ true = grind (arith, nat_tests) in
+    ap (λ (a : Bool). if a then Condition n t b σ J ∷ K else keep (InCondition n) K) e
+
+pub keep-past : (n : ℕ) (b : Barrier) (t : Term Text) (σ : Bindings Text) (J : List Item) (K : List Choice)
+    → keep (AtSuccess n) (Condition n t b σ J ∷ K) ≡ K
+keep-past n b t σ J K =
+    let e : (n == n) ≡ true = grind (arith, nat_tests) in
+    ap (λ (a : Bool). if a then K else keep (AtSuccess n) K) e
+
+pub more-scoped : (c d : ℕ) (cs : List Clause) (k : ℕ) (g : Term Text) (σ : Bindings Text) (J : List Item) (K : List Choice)
+    → keep (Call k) K ≡ K → Scoped K J → k ≤ c → AreGiven c d J → AreScoped c d K → AreScoped c d (with_more cs k g σ J K)
+more-scoped c d [] k g σ J K own s h a all = all
+more-scoped c d (x ∷ cs) k g σ J K own s h a all = ((own, s, h, a), all)
+
+-- the goals of a conjunction, or a branch, with the barrier of the whole
+pub again-behind : (c d : ℕ) (m : Barrier) (K : List Choice) (t : Term Text) (J : List Item) → IsGoalBarrier c d m → Behind m K J
+    → Behind m K (Goal t m ∷ J)
+again-behind c d m K t J h b n has =
+    elim has [ inl e ↦ subst (λ (i : Barrier). keep i (keep m K) ≡ keep i K) (sym e) (keep-keep c d m K h) | inr r ↦ b n r ]
+
+-- a condition before what follows its success, over its own choice point
+pub if_then_else_chosen-scoped : (c d n : ℕ) (t u e : Term Text) (m : Barrier) (σ : Bindings Text) (J : List Item) (K : List Choice)
+    → IsGoalBarrier c d m → AreGiven c d J → d < n → Scoped K (Goal u m ∷ J)
+    → Scoped (Condition n e m σ J ∷ K) (Goal t (InCondition n) ∷ Cut (AtSuccess n) ∷ Goal u m ∷ J)
+if_then_else_chosen-scoped c d n t u e m σ J K h a fresh s =
+    let L : List Choice = Condition n e m σ J ∷ K in
+    let same : SameFor K L (Goal u m ∷ J) = λ x has. keep-before c d n x m e σ J K (has-given c d (Goal u m ∷ J) x (h, a) has) fresh in (
+      λ x has. ap (keep x) (keep-within n m e σ J K),
+      ((λ x has. ap (keep x) (keep-past n m e σ J K) ∙ sym (same x has)), scoped-along K L (Goal u m ∷ J) same s),
+    )
+
+pub chosen-in_step : (q : Control) (t : Term Text) (m : Barrier) (J : List Item) (K : List Choice) (σ : Bindings Text) (w : World)
+    → Behind m K J → Scoped K J → IsGoalBarrier w.calls w.conditions m → AreGiven w.calls w.conditions J → AreScoped w.calls w.conditions K
+    → InStep (chosen q t m J K σ w).state
+chosen-in_step TrueGoal t m J K σ w b s h a all = (s, a, all)
+chosen-in_step FailGoal t m J K σ w b s h a all = all
+chosen-in_step CutGoal t m J K σ w b s h a all = (scoped-along K (keep m K) J b s, a, keep-scoped w.calls w.conditions m K all)
+chosen-in_step (Conjunction x y) t m J K σ w b s h a all = ((again-behind w.calls w.conditions m K y J h b, (b, s)), (h, (h, a)), all)
+chosen-in_step (Disjunction x y) t m J K σ w b s h a all = ((b, s), (h, a), (((b, s), (h, a)), all))
+chosen-in_step (IfThenElse c x y) t m J K σ w b s h a all =
+    let n : ℕ = w.conditions + 1 in
+    let same : w.calls ≤ w.calls = omega arith in
+    let more : w.conditions ≤ w.conditions + 1 = omega arith in
+    let fresh : w.conditions < n = omega arith in
+    let last : n ≤ n = omega arith in
+    let given : AreGiven w.calls (w.conditions + 1) (Goal x m ∷ J) =
+    given-more w.calls w.conditions w.calls (w.conditions + 1) same more (Goal x m ∷ J) (h, a) in (
+      if_then_else_chosen-scoped w.calls w.conditions n c x y m σ J K h a fresh (b, s),
+      (last, (last, given)),
+      (((b, s), given), scoped-more w.calls w.conditions w.calls (w.conditions + 1) same more K all),
+    )
+chosen-in_step BoxedGoal t m J K σ w b s h a all =
+    let k : ℕ = w.calls + 1 in
+    let L : List Choice = Fail k t σ J ∷ K in
+    let more : w.calls ≤ w.calls + 1 = omega arith in
+    let same : w.conditions ≤ w.conditions = omega arith in
+    let fresh : w.calls < k = omega arith in
+    let given : AreGiven (w.calls + 1) w.conditions J = given-more w.calls w.conditions (w.calls + 1) w.conditions more same J a in
+    more-scoped (w.calls + 1) w.conditions (procedure w.clauses t) k t σ J L (keep-own k t σ J K)
+    (scoped-along K L J (λ n has. keep-fresh w.calls w.conditions k n t σ J K (has-given w.calls w.conditions J n a has) fresh) s)
+    (omega arith) given
+    (tt, scoped-more w.calls w.conditions (w.calls + 1) w.conditions more same K all)
+
+pub entered-in_step : (f : ℕ) (c : Clause) (k : ℕ) (g : Term Text) (J : List Item) (L : List Choice) (τ : Bindings Text) (u : World)
+    → ((n : Barrier) → Has n J → keep n (keep (Call k) L) ≡ keep n L) → Scoped L J → k ≤ u.calls → AreGiven u.calls u.conditions J
+    → AreScoped u.calls u.conditions L
+    → InStep (Forward (entered f c k g J) L τ u)
+entered-in_step f c k g J L τ u b s h a all = go (is_true c.body)
+  where
+    go : (t : Bool) → InStep (Forward (if t then Exit k g ∷ J else Goal (shift f c.body) (Call k) ∷ Exit k g ∷ J) L τ u)
+    go true = (s, a, all)
+    go false = ((b, s), (h, a), all)
+
+pub paid-in_step : (t : Bool) (s : Setup) (n : ℕ) (w : World) (h : World → Moved) → InStep (h (record w { steps = w.steps + n })).state
+    → InStep (paid t s n w h).state
+paid-in_step true s n w h i = i
+paid-in_step false s n w h i = tt
+
+pub met-in_step : (s : Setup) (c : Clause) (k : ℕ) (g : Term Text) (J : List Item) (L : List Choice) (w : World) (o : Option (Result Text))
+    → ((n : Barrier) → Has n J → keep n (keep (Call k) L) ≡ keep n L) → Scoped L J → k ≤ w.calls → AreGiven w.calls w.conditions J
+    → AreScoped w.calls w.conditions L
+    → InStep (head_unified s c k g J L w o).state
+met-in_step s c k g J L w None b sc h a all = tt
+met-in_step s c k g J L w (Some (None, left)) b sc h a all = all
+met-in_step s c k g J L w (Some (Some τ, left)) b sc h a all =
+    paid-in_step (nat_le (s.budget - left + c.variables) s.budget) s c.variables (record w { steps = s.budget - left }) _
+    (entered-in_step w.variables c k g J L τ (record w { steps = s.budget - left + c.variables; variables = w.variables + c.variables })
+    b sc h a all)
+
+pub tried-in_step : (s : Setup) (c : Clause) (cs : List Clause) (k : ℕ) (g : Term Text) (σ : Bindings Text) (J : List Item)
+    (K : List Choice) (w : World)
+    → keep (Call k) K ≡ K → Scoped K J → k ≤ w.calls → AreGiven w.calls w.conditions J → AreScoped w.calls w.conditions K
+    → InStep (tried s c k g σ J (with_more cs k g σ J K) w).state
+tried-in_step s c cs k g σ J K w own sc h a all =
+    let L : List Choice = with_more cs k g σ J K in
+    paid-in_step (nat_le (w.steps + 1) s.budget) s 1 w _
+    (met-in_step s c k g J L (record w { steps = w.steps + 1 }) _
+    (λ n has. ap (keep n) (keep-with_more (Call k) cs k g σ J K ∙ own) ∙ sym (keep-with_more n cs k g σ J K))
+    (scoped-along K L J (λ n has. keep-with_more n cs k g σ J K) sc) h a (more-scoped w.calls w.conditions cs k g σ J K own sc h a all))
+
+pub branched-in_step : (s : Setup) (t : Term Text) (m : Barrier) (σ : Bindings Text) (J : List Item) (K : List Choice) (w : World)
+    → Scoped K (Goal t m ∷ J) → AreGiven w.calls w.conditions (Goal t m ∷ J) → AreScoped w.calls w.conditions K
+    → InStep (branched s t m σ J K w).state
+branched-in_step s t m σ J K w sc a all = paid-in_step (nat_le (w.steps + 1) s.budget) s 1 w _ (sc, a, all)
+
+pub move-in_step : (s : Setup) (t : State) → InStep t → InStep (move s t).state
+move-in_step s (Forward [] K σ w) h = go (w.solutions + 1 == s.wanted)
+  where
+    go : (b : Bool) → InStep (if b then Over Stopped (record w { solutions = w.solutions + 1 }) else Backward K
+        (record w { solutions = w.solutions + 1 }))
+    go true = tt
+    go false = h.2
+move-in_step s (Forward (Exit k g ∷ J) K σ w) h =
+    (h.0, h.1, (tt, h.2))
+move-in_step s (Forward (Cut m ∷ J) K σ w) h = (scoped-along K (keep m K) J h.0.0 h.0.1, h.1.1, keep-scoped w.calls w.conditions m K h.2)
+move-in_step s (Forward (Goal t m ∷ J) K σ w) h =
+    paid-in_step (nat_le (w.steps + 1) s.budget) s 1 w _
+    (chosen-in_step (control t) t m J K σ (record w { steps = w.steps + 1 }) h.0.0 h.0.1 h.1.0 h.1.1 h.2)
+move-in_step s (Backward [] w) h = tt
+move-in_step s (Backward (Redo k g σ J ∷ K) w) h = h.1
+move-in_step s (Backward (Branch t m σ J ∷ K) w) h = branched-in_step s t m σ J K w h.0.0 h.0.1 h.1
+move-in_step s (Backward (Condition n t m σ J ∷ K) w) h = branched-in_step s t m σ J K w h.0.0 h.0.1 h.1
+move-in_step s (Backward (Fail k g σ J ∷ K) w) h = h.1
+move-in_step s (Backward (More [] k g σ J ∷ K) w) h = h.1
+move-in_step s (Backward (More (c ∷ cs) k g σ J ∷ K) w) h = tried-in_step s c cs k g σ J K w h.0.0 h.0.1 h.0.2 h.0.3 h.1
+move-in_step s (Over r w) h = tt

@@ -1,0 +1,138 @@
+-- What a machine's parts mean: over texts, the items, choice points, bindings and world of a walk.
+use Rattle.std.specs.Prelude.{ℕ, List, [], ◌∷◌, map, reverse, take}
+use Rattle.op_logic.specs.Term.{Term}
+use Rattle.op_logic.specs.Bind.{Bindings}
+use Rattle.op_logic.specs.Laws.{rename_bindings}
+use Rattle.op_logic.specs.Names.{name_at}
+use Rattle.op_term.specs.Places.{term_at}
+use Rattle.op_bind.specs.State.{resolved, oldest, value_of}
+use Rattle.op_bind.specs.State as bind
+use Rattle.op_trace.specs.World as world
+use Rattle.op_trace.specs.World.{Text, World, Setup, Event, loaded}
+use Rattle.op_trace.specs.Visit as visit
+use Rattle.op_trace.specs.Visit.{Verdict}
+use Rattle.op_machine.specs.declared.continuations.Item.{Item}
+use Rattle.op_machine.specs.declared.continuations.Item.TheVariants as item
+use Rattle.op_frames.specs.declared.choice.Choice.{Choice}
+use Rattle.op_frames.specs.declared.choice.ChoiceKind.{ChoiceKind}
+use Rattle.op_frames.specs.declared.choice.ChoiceKind.TheVariants as kind
+use Rattle.op_store.specs.Snapshots.{snapshot_clauses}
+use Rattle.op_machine.specs.declared.choice_points.Held.{Held}
+use Rattle.op_machine.specs.declared.core_state.Core.{Core}
+use Rattle.op_machine.specs.declared.core_state.Mode.{Mode}
+use Rattle.op_machine.specs.declared.core_state.Mode.TheVariants as mode
+use Rattle.op_machine.specs.declared.core_state.Ending.{Ending}
+use Rattle.op_machine.specs.declared.core_state.Ending.TheVariants as ending
+use Rattle.op_machine.specs.declared.core_state.Seen.{Seen}
+use Rattle.op_machine.specs.inner.Continuations.{continuation_in}
+use Rattle.op_store.specs.Stored.{Stored}
+use Rattle.op_machine.specs.Program.{clauses, clauses_from, goal_named}
+use Rattle.op_machine.specs.Resume.{State, Forward, Backward, Over}
+
+-- a choice point with what the machine keeps with it
+abbrev pub Frame : Type 0
+Frame = Choice Held
+
+-- the terms, the bindings and the continuations of a moment
+pub record Level : Type 0 where
+  pub terms : List (Term ℕ)
+  pub bound : List (ℕ × ℕ)
+  pub continuations : List (List Item)
+
+-- what the bindings of a moment are over texts, and the term of a Ref
+abbrev pub bindings_in : Stored → Level → Bindings Text
+bindings_in t v = rename_bindings (name_at t.names) (resolved v.terms v.bound)
+
+abbrev pub term_in : Stored → Level → ℕ → Term Text
+term_in t v r = goal_named t (term_at v.terms r)
+
+abbrev pub item_term : Stored → Level → Item → world.Item
+item_term t v (item.Goal r m) = world.Goal (term_in t v r) m
+item_term t v (item.Cut m) = world.Cut m
+item_term t v (item.Exit k r) = world.Exit k (term_in t v r)
+
+abbrev pub items_in : Stored → Level → ℕ → List world.Item
+items_in t v n = map (item_term t v) (continuation_in v.continuations n)
+
+-- no choice point of a catch or of a findall is made yet (`IsKind`): what stands for them has no meaning
+abbrev pub choice_point_by : Stored → Level → ChoiceKind → Held → ℕ → visit.Choice
+choice_point_by t v (kind.Redo k) h n = visit.Redo k (term_in t v h.goal) (bindings_in t v) (items_in t v n)
+choice_point_by t v (kind.Branch p) h n = visit.Branch (term_in t v h.goal) h.barrier (bindings_in t v) (items_in t v n)
+choice_point_by t v (kind.More k) h n = visit.More (clauses_from t (snapshot_clauses h.snapshot) h.next) k (term_in t v h.goal)
+    (bindings_in t v) (items_in t v n)
+choice_point_by t v (kind.Fail k) h n = visit.Fail k (term_in t v h.goal) (bindings_in t v) (items_in t v n)
+choice_point_by t v (kind.Condition p) h n = visit.Condition h.condition (term_in t v h.goal) h.barrier (bindings_in t v) (items_in t v n)
+choice_point_by t v (kind.Catch k) h n = visit.Fail k (term_in t v h.goal) (bindings_in t v) (items_in t v n)
+choice_point_by t v (kind.Findall k) h n = visit.Fail k (term_in t v h.goal) (bindings_in t v) (items_in t v n)
+
+abbrev pub choice_point_of : Stored → Level → Frame → visit.Choice
+choice_point_of t v f = choice_point_by t v f.kind f.kept f.rest
+
+-- the moment at which a choice point was made, which is the beginning of a later one
+abbrev pub level_at : Frame → Level → Level
+level_at f v = record {
+  terms = take f.mark.terms v.terms;
+  bound = oldest f.mark.bound v.bound;
+  continuations =
+      take f.kept.continuations v.continuations;
+}
+
+-- the last first
+abbrev pub choice_points_of : Stored → Level → List Frame → List visit.Choice
+choice_points_of t v [] = []
+choice_points_of t v (f ∷ F) = choice_point_of t (level_at f v) f ∷ choice_points_of t (level_at f v) F
+
+abbrev pub setup_of : Core → Setup
+setup_of c = record { budget = c.budget; wanted = c.wanted }
+
+abbrev pub world_in : Core → World
+world_in c = record (loaded (clauses c.store)) {
+  variables = c.bindings.count;
+  calls = c.calls;
+  conditions = c.conditions;
+  steps = c.steps;
+  events = c.events;
+  solutions =
+      c.solutions;
+}
+
+abbrev pub level_of : bind.State → List (List Item) → Level
+level_of s L = record { terms = s.terms; bound = s.bound; continuations = L }
+
+abbrev pub level_in : Core → Level
+level_in c = level_of c.bindings c.continuations
+
+abbrev pub bindings_now : Core → Bindings Text
+bindings_now c = bindings_in c.store (level_in c)
+
+abbrev pub items_now : Core → ℕ → List world.Item
+items_now c n = items_in c.store (level_in c) n
+
+abbrev pub goal_now : Core → ℕ → Term Text
+goal_now c g = term_in c.store (level_in c) g
+
+abbrev pub choice_points_in : Core → List visit.Choice
+choice_points_in c = choice_points_of c.store (level_in c) (reverse c.frames.choices)
+
+abbrev pub verdict_of : Ending → Verdict
+verdict_of ending.Stopped = visit.Stopped
+verdict_of ending.Failed = visit.Failed
+verdict_of ending.Spent = visit.Spent
+
+abbrev pub state_with : Stored → Level → List Frame → World → Mode → State
+state_with t v F w (mode.Forward n) = Forward (items_in t v n) (choice_points_of t v (reverse F)) (bindings_in t v) w
+state_with t v F w mode.Backward = Backward (choice_points_of t v (reverse F)) w
+state_with t v F w (mode.Over e) = Over (verdict_of e) w
+
+abbrev pub state_of : Core → State
+state_of c = state_with c.store (level_in c) c.frames.choices (world_in c) c.mode
+
+abbrev pub event_seen : Stored → bind.State → Seen → Event
+event_seen t s e = record {
+  chrono = e.chrono;
+  call = e.call;
+  parent = e.parent;
+  depth = e.depth;
+  port = e.port;
+  goal = goal_named t (value_of s e.goal);
+}

@@ -1,0 +1,118 @@
+-- What one row of the machine does to its parts.
+use Rattle.std.specs.Prelude.{◌≡◌, ℕ, ◌-◌, ◌≤◌, List, [], ◌∷◌, if◌then◌else◌, Option}
+use Rattle.op_logic.specs.Term.{Term, shift, Args, args_of, nth_arg}
+use Rattle.op_term.specs.Places.{term_at}
+use Rattle.op_logic.specs.Bind.{unify, Solved as Result}
+use Rattle.op_trace.specs.World as world
+use Rattle.op_trace.specs.declared.barrier.Barrier.{Barrier}
+use Rattle.op_trace.specs.declared.barrier.Barrier.TheVariants.{Call}
+use Rattle.op_trace.specs.World.{Text, text_eq, World, Clause, Turn, Shown, Solved}
+use Rattle.op_trace.specs.Visit.{control, is_true}
+use Rattle.op_trace.specs.Visit as visit
+use Rattle.op_bind.specs.declared.places.Clause.{Clause as NumberedClause}
+use Rattle.op_machine.specs.Program.{clause_in, clauses_from, goal_named}
+use Rattle.op_machine.specs.declared.core_state.Core.{Core}
+use Rattle.op_machine.specs.declared.core_state.Step.{Step}
+use Rattle.op_machine.specs.declared.core_state.Step.TheVariants as step
+use Rattle.op_machine.specs.Meaning.{setup_of, world_in, items_now, goal_now, bindings_now, choice_points_in, state_of, event_seen}
+use Rattle.op_machine.specs.inner.Invariant.{IsGood, IsSeen}
+use Rattle.op_machine.specs.Resume.{Moved, Forward, Backward, silent, pay, keep, if_then_else_chosen, chosen, invoked, head_unified, tried}
+use Rattle.op_machine.specs.Resume.{branched, move}
+
+-- the turn that a machine shows after a step
+abbrev pub turns_of : Step → Core → List Turn
+turns_of step.Silent c = []
+turns_of step.Event c = Shown (event_seen c.store c.bindings c.seen) (world_in c) ∷ []
+turns_of step.Solution c = Solved (bindings_now c) (world_in c) ∷ []
+
+-- the goal that was shown can be looked at
+abbrev pub IsLooked : Step → Core → Type 0
+IsLooked step.Event c = IsSeen c
+IsLooked s c = Unit {0}
+
+-- the move of a goal that is selected before a continuation, and what it leads to once its step was paid
+abbrev pub chosen_now : Core → Term Text → Barrier → ℕ → World → Moved
+chosen_now c t m n w = chosen (control t) t m (items_now c n) (choice_points_in c) (bindings_now c) w
+
+abbrev pub goal_moved : Core → Term Text → Barrier → ℕ → Moved
+goal_moved c t m n = pay (setup_of c) 1 (world_in c) (chosen_now c t m n)
+
+-- the exit of a box before a continuation
+abbrev pub exit_moved : Core → ℕ → ℕ → ℕ → Moved
+exit_moved c k g n = move (setup_of c) (Forward (world.Exit k (goal_now c g) ∷ items_now c n) (choice_points_in c) (bindings_now c)
+    (world_in c))
+
+-- a box is invoked
+abbrev pub box_invoked : Core → ℕ → ℕ → Moved
+box_invoked c g n = invoked (goal_now c g) (items_now c n) (choice_points_in c) (bindings_now c) (world_in c)
+
+-- the body of a clause before items, with this barrier: nothing for a fact
+abbrev pub body_before : Core → ℕ → ℕ → List world.Item → List world.Item
+body_before c b k J = if is_true (goal_now c b) then J else world.Goal (goal_now c b) (Call k) ∷ J
+
+-- a clause's body and then the exit of the box come next
+abbrev pub body_entered : Core → ℕ → ℕ → ℕ → ℕ → Moved
+body_entered c b k g n =
+    silent (Forward (body_before c b k (world.Exit k (goal_now c g) ∷ items_now c n)) (choice_points_in c) (bindings_now c) (world_in c))
+
+-- the two goals of a conjunction before a continuation
+abbrev pub conjunction_before : Core → ℕ → Barrier → ℕ → List world.Item
+conjunction_before c g m n =
+    let ts : Args ℕ = args_of (term_at c.bindings.terms g) in
+    world.Goal (goal_named c.store (nth_arg ts 0)) m ∷ world.Goal (goal_named c.store (nth_arg ts 1)) m ∷ items_now c n
+
+-- a clause's head is unified with the goal, with the steps that are left
+abbrev pub head_unifier : Core → NumberedClause → ℕ → Option (Result Text)
+head_unifier c r g =
+    unify text_eq (c.budget - c.steps) (bindings_now c) ((goal_now c g, shift c.bindings.count (clause_in c.store r).head) ∷ [])
+
+abbrev pub clause_unified : Core → NumberedClause → ℕ → ℕ → ℕ → Moved
+clause_unified c r k g n = head_unified (setup_of c) (clause_in c.store r) k (goal_now c g) (items_now c n) (choice_points_in c)
+    (world_in c) (head_unifier c r g)
+
+-- the move of a clause that is tried for a goal before a continuation
+abbrev pub clause_tried : Core → NumberedClause → ℕ → ℕ → ℕ → Moved
+clause_tried c r k g n =
+    tried (setup_of c) (clause_in c.store r) k (goal_now c g) (bindings_now c) (items_now c n) (choice_points_in c) (world_in c)
+
+-- the move of a choice point, made at the present moment, of clauses from one on
+abbrev pub clauses_tried : Core → List NumberedClause → ℕ → ℕ → ℕ → ℕ → Moved
+clauses_tried c snapshot i k g n =
+    move (setup_of c) (Backward (visit.More (clauses_from c.store snapshot i) k (goal_now c g) (bindings_now c) (items_now c n)
+    ∷ choice_points_in c) (world_in c))
+
+-- another branch is tried, made at the present moment
+abbrev pub branch_tried : Core → ℕ → Barrier → ℕ → Moved
+branch_tried c g m n = branched (setup_of c) (goal_now c g) m (bindings_now c) (items_now c n) (choice_points_in c) (world_in c)
+
+-- the choice points that a cut keeps
+abbrev pub cut_moved : Core → Barrier → ℕ → Moved
+cut_moved c m n = silent (Forward (items_now c n) (keep m (choice_points_in c)) (bindings_now c) (world_in c))
+
+-- the first branch comes next, and the second is kept as a choice point
+abbrev pub disjunction_before : Core → ℕ → ℕ → Barrier → ℕ → Moved
+disjunction_before c a b m n =
+    silent (Forward (world.Goal (goal_now c a) m ∷ items_now c n)
+    (visit.Branch (goal_now c b) m (bindings_now c) (items_now c n) ∷ choice_points_in c) (bindings_now c) (world_in c))
+
+-- a condition comes next, and the else branch is kept as a choice point
+abbrev pub if_then_else_before : Core → ℕ → ℕ → ℕ → Barrier → ℕ → Moved
+if_then_else_before c a b e m n = if_then_else_chosen (goal_now c a) (goal_now c b) (goal_now c e) m (items_now c n) (choice_points_in c)
+    (bindings_now c) (world_in c)
+
+-- the program and the goal's names stay, also where memory is wanting, and steps never fall
+pub record Keeps (old new : Core) : Type 0 where
+  pub store : new.store ≡ old.store
+  pub names : new.names ≡ old.names
+  pub later : old.steps ≤ new.steps
+
+-- the parts have made a move
+pub record Advances (old new : Core) (m : Moved) (s : Step) : Type 0 where
+  pub turns : turns_of s new ≡ m.turns
+  pub state : state_of new ≡ m.state
+  pub good : IsGood new
+  pub looked : IsLooked s new
+  pub store : new.store ≡ old.store
+  pub names : new.names ≡ old.names
+  pub budget : new.budget ≡ old.budget
+  pub wanted : new.wanted ≡ old.wanted

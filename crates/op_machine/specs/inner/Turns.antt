@@ -1,0 +1,59 @@
+-- What a machine's parts come to at the next turn.
+use Rattle.std.specs.Prelude.{◌≡◌, ℕ, ◌+◌, ◌≤◌, List, [], ◌∷◌}
+use Rattle.op_trace.specs.declared.barrier.Barrier.TheVariants.{Call}
+use Rattle.op_trace.specs.World.{Turn, Shown, Solved, Goal, loaded}
+use Rattle.op_trace.specs.Run.{started}
+use Rattle.op_trace.specs.Visit.{gives, with_turns}
+use Rattle.op_machine.specs.declared.core_state.Core.{Core}
+use Rattle.op_machine.specs.declared.core_state.Ending.{Ending}
+use Rattle.op_machine.specs.declared.turn.Turn as declared
+use Rattle.op_machine.specs.declared.turn.Turn.TheVariants as turn
+use Rattle.op_logic.specs.Term.{Term}
+use Rattle.op_machine.specs.Meaning.{setup_of, world_in, state_of, event_seen, bindings_now, verdict_of}
+use Rattle.op_machine.specs.inner.Invariant.{IsSound, IsSeen}
+use Rattle.op_machine.specs.Resume.{owed, Forward}
+use Rattle.op_store.specs.Stored.{Stored}
+use Rattle.op_machine.specs.Program.{clauses, goal_named}
+
+-- how many turns a machine has answered
+abbrev pub turns_in : Core → ℕ
+turns_in c = c.events + c.solutions
+
+-- the same run goes on from one to the other
+pub record Follows (old new : Core) : Type 0 where
+  pub sound : IsSound new
+  pub store : new.store ≡ old.store
+  pub names : new.names ≡ old.names
+  pub budget : new.budget ≡ old.budget
+  pub wanted : new.wanted ≡ old.wanted
+  pub later : old.steps ≤ new.steps
+
+-- by silent moves
+pub record Walked (old new : Core) : Type 0 where
+  pub follows : Follows old new
+  pub owed : owed (setup_of old) (state_of old) ≡ owed (setup_of new) (state_of new)
+  pub count : turns_in new ≡ turns_in old
+
+-- by silent moves, and one that showed this turn
+pub record Showed (old new : Core) (t : Turn) : Type 0 where
+  pub follows : Follows old new
+  pub owed : owed (setup_of old) (state_of old) ≡ with_turns (t ∷ []) (owed (setup_of new) (state_of new))
+  pub count : turns_in new ≡ turns_in old + 1
+
+-- by silent moves, to the end
+pub record Ended (old new : Core) (e : Ending) : Type 0 where
+  pub walked : Walked old new
+  pub owed : owed (setup_of old) (state_of old) ≡ gives (verdict_of e) (world_in new)
+
+abbrev pub Turned : Core → Core → declared.Turn → Type 0
+Turned old new turn.Event = Showed old new (Shown (event_seen new.store new.bindings new.seen) (world_in new)) × IsSeen new
+Turned old new turn.Solution = Showed old new (Solved (bindings_now new) (world_in new))
+Turned old new (turn.Ended e) = Ended old new e
+
+-- nothing was done yet
+pub record IsBegun (t : Stored) (g : Term ℕ) (n : ℕ) (query_names : List (List ℕ × ℕ)) (budget wanted : ℕ) (c : Core) : Type 0 where
+  pub state : state_of c ≡ Forward (Goal (goal_named t g) (Call 0) ∷ []) [] [] (started n (loaded (clauses t)))
+  pub names : c.names ≡ query_names
+  pub setup : setup_of c ≡ record { budget = budget; wanted = wanted }
+  pub steps : c.steps ≡ 0
+  pub turns : turns_in c ≡ 0

@@ -1,0 +1,177 @@
+ghost use Rattle.std.specs.Prelude.{◌≡◌, ◌<◌, ◌≤◌, ◌^◌, ◌∷◌, length, IfOk};
+ghost use Rattle.op_machine.specs.Meaning.{world_in, level_in, items_now, bindings_now, choice_points_in, setup_of, state_of};
+ghost use Rattle.op_machine.specs.Meaning.{choice_point_of, item_term};
+ghost use Rattle.op_machine.specs.inner.Invariant.{IsGood, IsItem, IsFrame, IsSound};
+ghost use Rattle.op_machine.specs.inner.Moves.{Keeps, Advances};
+ghost use Rattle.op_machine.specs.inner.Boxes.{IsTried};
+ghost use Rattle.op_machine.specs.Resume.{Forward, move, Backward, at_solution};
+ghost use Rattle.op_machine.specs.inner.Turns.{Turned};
+ghost use Rattle.op_machine.specs.declared.core_state.Mode.TheVariants as mode;
+
+use crate::choice_points::Held;
+use crate::continuations::Item;
+use crate::core_state::{Core, Ending, Mode, Step};
+use crate::turn::Turn;
+use op_base::Memory;
+use op_frames::{Choice, ChoiceKind};
+use op_trace::Port;
+
+impl Core {
+    // Small moves, up to the next turn or the ending.
+    pub(crate) fn turn(&mut self) -> Result<Turn, Memory>
+        requires { IsSound self.old }
+        ensures turned { IfOk result (Turned self.old self.new) }
+        ensures keeps { Keeps self.old self.new }
+    {
+        loop {
+            if let Mode::Over { ending } = self.mode {
+                return Ok(Turn::Ended(ending));
+            }
+            match self.advance()? {
+                Step::Silent => {}
+                Step::Event => return Ok(Turn::Event),
+                Step::Solution => return Ok(Turn::Solution),
+            }
+        }
+    }
+
+    // One small move.
+    pub(crate) fn advance(&mut self) -> Result<Step, Memory>
+        requires good { IsGood self.old }
+        requires events { self.old.events < 2 ^ 63 }
+        requires solutions { self.old.solutions < 2 ^ 63 }
+        requires calls { self.old.calls < 2 ^ 63 }
+        requires conditions { self.old.conditions < 2 ^ 63 }
+        requires steps { self.old.steps ≤ self.old.budget }
+        ensures advances { IfOk result (Advances self.old self.new (move (setup_of self.old) (state_of self.old))) }
+        ensures keeps { Keeps self.old self.new }
+    {
+        match self.mode {
+            Mode::Forward { items } => self.forward(items),
+            Mode::Backward => self.backward(),
+            Mode::Over { ending: _ } => Ok(Step::Silent),
+        }
+    }
+
+    // The first item of a continuation is done, or there is none.
+    fn forward(&mut self, items: u64) -> Result<Step, Memory>
+        requires good { IsGood self.old }
+        requires there { items < length self.old.continuations }
+        requires events { self.old.events < 2 ^ 63 }
+        requires solutions { self.old.solutions < 2 ^ 63 }
+        requires calls { self.old.calls < 2 ^ 63 }
+        requires conditions { self.old.conditions < 2 ^ 63 }
+        requires steps { self.old.steps ≤ self.old.budget }
+        ensures advances { IfOk result (Advances self.old self.new (move (setup_of self.old)
+            (Forward (items_now self.old items) (choice_points_in self.old) (bindings_now self.old) (world_in self.old)))) }
+        ensures keeps { Keeps self.old self.new }
+    {
+        match self.continuations.first(items) {
+            Some((item, rest)) => self.perform(item, rest),
+            None => Ok(self.show_solution()),
+        }
+    }
+
+    // An item is done.
+    fn perform(&mut self, item: Item, rest: u64) -> Result<Step, Memory>
+        requires good { IsGood self.old }
+        requires item { IsItem (length self.old.store.names) self.old.bindings.terms item }
+        requires there { rest < length self.old.continuations }
+        requires events { self.old.events < 2 ^ 63 }
+        requires calls { self.old.calls < 2 ^ 63 }
+        requires conditions { self.old.conditions < 2 ^ 63 }
+        requires steps { self.old.steps ≤ self.old.budget }
+        ensures advances { IfOk result (Advances self.old self.new (move (setup_of self.old)
+            (Forward (item_term self.old.store (level_in self.old) item ∷ items_now self.old rest) (choice_points_in self.old)
+            (bindings_now self.old) (world_in self.old)))) }
+        ensures keeps { Keeps self.old self.new }
+    {
+        match item {
+            Item::Goal { goal, barrier } => self.select(goal, barrier, rest),
+            Item::Cut { barrier } => {
+                self.make_cut(barrier);
+                self.mode = Mode::Forward { items: rest };
+                Ok(Step::Silent)
+            }
+            Item::Exit { call, goal } => self.exit_box(call, goal, rest),
+        }
+    }
+
+    // The last choice point is taken, or there is none.
+    fn backward(&mut self) -> Result<Step, Memory>
+        requires good { IsGood self.old }
+        requires mode { self.old.mode ≡ mode.Backward }
+        requires events { self.old.events < 2 ^ 63 }
+        requires calls { self.old.calls < 2 ^ 63 }
+        requires steps { self.old.steps ≤ self.old.budget }
+        ensures advances { IfOk result (Advances self.old self.new
+            (move (setup_of self.old) (Backward (choice_points_in self.old) (world_in self.old)))) }
+        ensures keeps { Keeps self.old self.new }
+    {
+        match self.pop_choice_point() {
+            Some(choice) => {
+                self.restore(&choice);
+                self.resume(&choice)
+            }
+            None => {
+                self.mode = Mode::Over {
+                    ending: Ending::Failed,
+                };
+                Ok(Step::Silent)
+            }
+        }
+    }
+
+    // What a choice point, made at the present moment, does after a failure.
+    fn resume(&mut self, choice: &Choice<Held>) -> Result<Step, Memory>
+        requires good { IsGood self.old }
+        requires frame { IsFrame self.old.store (level_in self.old) choice.now }
+        requires calls { choice.now.kept.calls ≤ self.old.calls }
+        requires tried { IsTried self.old.frames.boxes self.old.continuations choice.now.kind choice.now.kept choice.now.rest }
+        requires events { self.old.events < 2 ^ 63 }
+        requires steps { self.old.steps ≤ self.old.budget }
+        ensures advances { IfOk result (Advances self.old self.new (move (setup_of self.old)
+            (Backward (choice_point_of self.old.store (level_in self.old) choice.now ∷ choice_points_in self.old) (world_in self.old)))) }
+        ensures keeps { Keeps self.old self.new }
+    {
+        let kept = &choice.kept;
+        match choice.kind {
+            ChoiceKind::Redo(call) => Ok(self.show_and_go_back(
+                Port::Redo,
+                call,
+                kept.goal,
+                choice.rest,
+            )),
+            ChoiceKind::Branch(_) => self.try_branch(kept.goal, kept.barrier, choice.rest),
+            ChoiceKind::More(call) => self.try_next_clause(kept, call, choice.rest),
+            ChoiceKind::Fail(call) => Ok(self.show_and_go_back(
+                Port::Fail,
+                call,
+                kept.goal,
+                choice.rest,
+            )),
+            ChoiceKind::Condition(_) => self.try_branch(kept.goal, kept.barrier, choice.rest),
+            ChoiceKind::Catch(_) => Ok(Step::Silent),
+            ChoiceKind::Findall(_) => Ok(Step::Silent),
+        }
+    }
+
+    // No item is left: a solution, which is the last if it is the wanted one.
+    pub(crate) fn show_solution(&mut self) -> Step
+        requires good { IsGood self.old }
+        requires fits { self.old.solutions < 2 ^ 63 }
+        ensures advances { Advances self.old self.new
+            (at_solution (setup_of self.old) (choice_points_in self.old) (bindings_now self.old) (world_in self.old)) result }
+        ensures keeps { Keeps self.old self.new }
+    {
+        self.solutions += 1;
+        self.mode = if self.solutions == self.wanted {
+            Mode::Over {
+                ending: Ending::Stopped,
+            }
+        } else {
+            Mode::Backward
+        };
+        Step::Solution
+    }
+}
