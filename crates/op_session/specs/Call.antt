@@ -27,6 +27,10 @@ file_limit = 16777216
 abbrev pub channel_limit : ℕ
 channel_limit = 67108864
 
+-- the line for words that aren't two
+abbrev pub usage_line : List ℕ
+usage_line = codes "opium: usage words\n"
+
 abbrev pub long_line : List ℕ → List ℕ
 long_line name = codes "opium: too long " ++ name ++ codes "\n"
 
@@ -77,4 +81,4 @@ with_bytes name goal (Some bytes) =
 -- the words are the program's file and the goal
 abbrev pub outcome_of : Files → List (List ℕ) → Outcome
 outcome_of files (name ∷ goal ∷ []) = with_bytes name goal (bytes_of files name)
-outcome_of files words = Line status.Usage (codes "opium: usage words\n")
+outcome_of files words = Line status.Usage usage_line

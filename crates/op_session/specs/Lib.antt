@@ -1,15 +1,10 @@
-pub mod Behind
 pub mod Call
-pub mod Feeding
-pub mod Giving
 pub mod Line
 pub mod Moves
-pub mod Progress
 pub mod Promise
 pub mod Runnable
 pub mod Session
 pub mod Sight
 pub mod Traced
 pub mod Words
-pub mod Reader
-pub mod Refusing
+pub mod inner

@@ -1,7 +1,7 @@
--- What a call of the program leaves behind, by its status.
-use Rattle.std.specs.Prelude.{◌≡◌, ℕ, zero, suc, ◌+◌, ◌-◌, ◌<◌, ◌≤◌, nat_lt, nat_le, Bool, false, List, [], ◌∷◌, ◌++◌, length, take, drop, codes, min, Option, Some, None, if◌then◌else◌}
+-- What a call of the program leaves behind, by its status, where a desk shows a before the call and b after it.
+use Rattle.std.specs.Prelude.{◌≡◌, ℕ, zero, suc, ◌+◌, ◌-◌, ◌<◌, ◌≤◌, nat_lt, Bool, false, List, [], ◌∷◌, ◌++◌, length, take, drop, codes, min, Option, Some, None, if◌then◌else◌}
 use Rattle.op_base.specs.Rising.{Rose}
-use Rattle.op_desk.specs.Contents.{Known}
+use Rattle.op_desk.specs.Contents.{Known, AppendsFront}
 use Rattle.op_trace.specs.World.{loaded}
 use Rattle.op_trace.specs.Run.{steps_at}
 use Rattle.op_session.specs.Traced.{Traced}
@@ -10,9 +10,10 @@ use Rattle.op_token.specs.declared.piece.Piece.TheVariants.{Text}
 use Rattle.op_token.specs.Cut.{cut_of, text_in, rest_in}
 use Rattle.op_session.specs.declared.status.Status.{Status}
 use Rattle.op_session.specs.declared.status.Status.TheVariants as status
-use Rattle.op_session.specs.Call.{Outcome, Line, Missing, Session, channel_limit}
-use Rattle.op_session.specs.Moves.{at_start, event_count}
-use Rattle.op_session.specs.Session.{answers_from, joined, session_text, session_furthest}
+use Rattle.op_session.specs.Call.{Outcome, Line, Missing, Session, channel_limit, usage_line}
+use Rattle.op_session.specs.Moves.{event_count}
+use Rattle.op_session.specs.Session.{said_to, session_text, session_furthest}
+use Rattle.op_session.specs.Sight.{Sight}
 use Rattle.std.specs.Io.KnownBytes.{Appends}
 
 -- a fact of what a desk tells, where it tells it
@@ -31,15 +32,20 @@ pub record Finished (traced : Traced) (bytes : List ℕ) (talk talk_after left_a
   pub answers : Appends talk talk_after (session_text traced bytes)
   pub read : left_after ≡ Some []
 
-abbrev pub DoneAs : Outcome → List ℕ → Known → Known → Known → Type 0
-DoneAs (Line s text) bytes talk talk_after left_after = ⊥
-DoneAs Missing bytes talk talk_after left_after = ⊥
-DoneAs (Session traced) bytes talk talk_after left_after = Finished traced bytes talk talk_after left_after
+abbrev pub DoneAs : Outcome → Sight → Sight → Type 0
+DoneAs (Line s text) a b = ⊥
+DoneAs Missing a b = ⊥
+DoneAs (Session traced) a b = WhenTold a.commands (λ bytes. Finished traced bytes a.talk b.talk b.commands)
 
-abbrev pub CostsAs : Outcome → List ℕ → ℕ → ℕ → Type 0
-CostsAs (Line s text) bytes before after = after ≡ before
-CostsAs Missing bytes before after = after ≡ before
-CostsAs (Session traced) bytes before after = Costs traced bytes before after
+abbrev pub CostsAs : Outcome → Sight → ℕ → ℕ → Type 0
+CostsAs (Line s text) a before after = after ≡ before
+CostsAs Missing a before after = after ≡ before
+CostsAs (Session traced) a before after = WhenTold a.commands (λ bytes. Costs traced bytes before after)
+
+-- a refusal of the program or the goal writes its line
+abbrev pub LoadAs : Outcome → Sight → Sight → Type 0
+LoadAs (Line status.Load text) a b = Appends a.talk b.talk text
+LoadAs o a b = ⊥
 
 -- the texts of these bytes that have a byte behind them, at most n of them
 abbrev pub has_behind : Piece → ℕ → Bool
@@ -51,60 +57,104 @@ followed_texts zero s = []
 followed_texts (suc n) s =
     if has_behind (cut_of s) (length s) then text_in (cut_of s) s ∷ followed_texts n (rest_in (cut_of s) s) else []
 
--- all but the last
-abbrev pub front : List (List ℕ) → List (List ℕ)
-front xs = take (length xs - 1) xs
+-- the commands that were taken whole with the byte behind them
+abbrev pub taken_whole : List ℕ → List (List ℕ)
+taken_whole taken = followed_texts (length taken) taken
 
--- the answers that are written at least once these bytes were taken: to all commands that were taken whole with the byte behind
--- them, but the last
-abbrev pub answered_text : Traced → List ℕ → List ℕ
-answered_text traced taken = joined (answers_from traced at_start (front (followed_texts (length taken) taken)))
+abbrev pub all_but_last : List (List ℕ) → List (List ℕ)
+all_but_last xs = take (length xs - 1) xs
 
 abbrev pub IsPrefix : List ℕ → List ℕ → Type 0
 IsPrefix xs ys = (zs : List ℕ) × (ys ≡ xs ++ zs)
 
--- a session that was broken off: what was taken is a front of the commands, and what was written a front of the answers
-pub record Broken (traced : Traced) (bytes taken rest written : List ℕ) : Type 0 where
-  pub taken_is : bytes ≡ taken ++ rest
-  pub front : IsPrefix written (session_text traced bytes)
-  pub enough : IsPrefix (answered_text traced taken) written
-
 abbrev pub too_long_line : List ℕ
 too_long_line = codes "opium: too long commands\n"
 
--- the fault line that is written once so many bytes were taken
-abbrev pub limit_line : List ℕ → List ℕ
-limit_line taken = if nat_le channel_limit (length taken) then too_long_line else []
+-- where a session was broken off: in taking the next byte of the commands, in answering one of them, or in telling that they are too
+-- long
+pub data Met : Type 0 where
+  InTaking : Met
+  InAnswering : Met
+  AtLimit : Met
 
--- after a fault of reading or writing, or want of memory
-abbrev pub BrokenAs : Outcome → List ℕ → Known → Known → Known → Type 0
-BrokenAs (Line s text) bytes talk talk_after left_after = (w : List ℕ) × Appends talk talk_after w × IsPrefix w text × (left_after ≡ Some bytes)
-BrokenAs Missing bytes talk talk_after left_after = (talk_after ≡ talk) × (left_after ≡ Some bytes)
-BrokenAs (Session traced) bytes talk talk_after left_after =
-    (taken : List ℕ) × (rest : List ℕ) × (w : List ℕ) × (v : List ℕ) × Broken traced bytes taken rest w × IsPrefix v (limit_line taken)
-    × Appends talk talk_after (w ++ v) × (left_after ≡ Some rest)
+-- statuses of what could not be read, and of what could not be written
+abbrev pub IsUnread : Status → Type 0
+IsUnread status.Read = Unit {0}
+IsUnread status.Memory = Unit {0}
+IsUnread s = ⊥
+
+abbrev pub IsUnwritten : Status → Type 0
+IsUnwritten status.Write = Unit {0}
+IsUnwritten status.Memory = Unit {0}
+IsUnwritten s = ⊥
+
+-- the statuses that a fault there gives
+abbrev pub IsMet : Met → Status → Type 0
+IsMet InTaking s = IsUnread s
+IsMet InAnswering s = IsUnwritten s
+IsMet AtLimit s = IsUnwritten s
+
+-- how many bytes of the commands were taken by then
+abbrev pub IsCount : Met → ℕ → Type 0
+IsCount InTaking n = n < channel_limit
+IsCount InAnswering n = n ≤ channel_limit
+IsCount AtLimit n = n ≡ channel_limit
+
+-- the answers that stand by then, of the commands that were taken whole: all of them and no more, where none was being answered; else
+-- at least all but the last
+abbrev pub Answered : Met → Traced → List (List ℕ) → List ℕ → Type 0
+Answered InTaking traced commands answers = answers ≡ said_to traced commands
+Answered InAnswering traced commands answers = IsPrefix (said_to traced (all_but_last commands)) answers
+Answered AtLimit traced commands answers = answers ≡ said_to traced commands
+
+-- the line of which a front may stand behind them
+abbrev pub line_met : Met → List ℕ
+line_met InTaking = []
+line_met InAnswering = []
+line_met AtLimit = too_long_line
+
+-- a session that was broken off: where, what was taken of the commands, what is left of them, and what was written
+pub record BrokenOff (traced : Traced) (s : Status) (bytes : List ℕ) (talk talk_after left_after : Known) : Type 0 where
+  pub met : Met
+  pub taken : List ℕ
+  pub rest : List ℕ
+  pub answers : List ℕ
+  pub line : List ℕ
+  pub is_met : IsMet met s
+  pub bytes_are : bytes ≡ taken ++ rest
+  pub left : left_after ≡ Some rest
+  pub count : IsCount met (length taken)
+  pub front : IsPrefix answers (session_text traced bytes)
+  pub answered : Answered met traced (taken_whole taken) answers
+  pub line_front : IsPrefix line (line_met met)
+  pub written : Appends talk talk_after (answers ++ line)
+
+-- after a fault of reading or writing, or want of memory: of a line that is to be written a front stands, and nothing where reading
+-- failed
+abbrev pub BrokenAs : Outcome → Status → Sight → Sight → Type 0
+BrokenAs (Line t text) status.Read a b = (b.talk ≡ a.talk) × (b.commands ≡ a.commands)
+BrokenAs (Line t text) s a b = AppendsFront a.talk b.talk text × (b.commands ≡ a.commands)
+BrokenAs Missing s a b = IsUnread s × (b.talk ≡ a.talk) × (b.commands ≡ a.commands)
+BrokenAs (Session traced) s a b = WhenTold a.commands (λ bytes. BrokenOff traced s bytes a.talk b.talk b.commands)
+
+-- more commands were there than may be taken: those up to the limit were taken and answered
+pub record PastLimit (traced : Traced) (bytes : List ℕ) (talk talk_after left_after : Known) : Type 0 where
+  pub long : channel_limit ≤ length bytes
+  pub left : left_after ≡ Some (drop channel_limit bytes)
+  pub front : IsPrefix (said_to traced (taken_whole (take channel_limit bytes))) (session_text traced bytes)
+  pub written : Appends talk talk_after (said_to traced (taken_whole (take channel_limit bytes)) ++ too_long_line)
 
 -- where a limit of bytes was passed
-abbrev pub TooLongAs : Outcome → List ℕ → Known → Known → Known → Type 0
-TooLongAs (Line status.TooLong text) bytes talk talk_after left_after = Appends talk talk_after text × (left_after ≡ Some bytes)
-TooLongAs (Line s text) bytes talk talk_after left_after = ⊥
-TooLongAs Missing bytes talk talk_after left_after = ⊥
-TooLongAs (Session traced) bytes talk talk_after left_after =
-    (channel_limit ≤ length bytes) × ((w : List ℕ) × Broken traced bytes (take channel_limit bytes) (drop channel_limit bytes) w
-    × Appends talk talk_after (w ++ too_long_line) × (left_after ≡ Some (drop channel_limit bytes)))
+abbrev pub TooLongAs : Outcome → Sight → Sight → Type 0
+TooLongAs (Line status.TooLong text) a b = Appends a.talk b.talk text × (b.commands ≡ a.commands)
+TooLongAs (Line s text) a b = ⊥
+TooLongAs Missing a b = ⊥
+TooLongAs (Session traced) a b = WhenTold a.commands (λ bytes. PastLimit traced bytes a.talk b.talk b.commands)
 
--- a refusal of the words, the program or the goal writes its line and takes nothing
-abbrev pub RefusedAs : Outcome → Status → List ℕ → Known → Known → Known → Type 0
-RefusedAs (Line status.Usage text) status.Usage bytes talk talk_after left_after = Appends talk talk_after text × (left_after ≡ Some bytes)
-RefusedAs (Line status.Load text) status.Load bytes talk talk_after left_after = Appends talk talk_after text × (left_after ≡ Some bytes)
-RefusedAs o s bytes talk talk_after left_after = ⊥
-
--- a refusal of the words, where it can be written
-abbrev pub IsWordsRefusal : Status → Type 0
-IsWordsRefusal status.Usage = Unit {0}
-IsWordsRefusal status.Write = Unit {0}
-IsWordsRefusal status.Memory = Unit {0}
-IsWordsRefusal s = ⊥
+-- a refusal of the words writes its line, or a front of it where it can't be written whole, and takes nothing
+abbrev pub WordsRefusedAs : Status → Sight → Sight → Type 0
+WordsRefusedAs status.Usage a b = Appends a.talk b.talk usage_line × (b.commands ≡ a.commands)
+WordsRefusedAs s a b = IsUnwritten s × AppendsFront a.talk b.talk usage_line × (b.commands ≡ a.commands)
 
 -- the counts of faults of reading and writing, before and after, by the status
 abbrev pub CountsAs : Status → ℕ → ℕ → ℕ → ℕ → Type 0

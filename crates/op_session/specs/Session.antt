@@ -98,9 +98,13 @@ abbrev pub joined : List (List ℕ) → List ℕ
 joined [] = []
 joined (x ∷ xs) = x ++ joined xs
 
--- all that is answered to the commands, and the furthest place at the end
+-- all that is answered to these commands, from the start
+abbrev pub said_to : Traced → List (List ℕ) → List ℕ
+said_to traced commands = joined (answers_from traced at_start commands)
+
+-- all that is answered to the commands in these bytes, and the furthest place at the end
 abbrev pub session_text : Traced → List ℕ → List ℕ
-session_text traced bytes = joined (answers_from traced at_start (commands_in bytes))
+session_text traced bytes = said_to traced (commands_in bytes)
 
 abbrev pub session_furthest : Traced → List ℕ → ℕ
 session_furthest traced bytes = (stand_after traced at_start (commands_in bytes)).furthest

@@ -1,12 +1,8 @@
--- What a desk shows at a moment, as far as a call of the program speaks of it, and what small steps do to it.
-use Rattle.std.specs.Prelude.{◌≡◌, ◌≤◌, ℕ, Bool, IsTrue, List, [], ◌∷◌, length, Option, Some, None, Result, Ok, Err}
-use Rattle.std.specs.Io.KnownBytes.{Appends, Consumes, IsAtEnd}
-use Rattle.op_desk.specs.declared.chan.Chan.{Chan}
+-- What a desk shows at a moment, as far as a call of the program speaks of it.
+use Rattle.std.specs.Prelude.{ℕ, Bool, Option}
+use Rattle.op_desk.specs.declared.desk.Desk.{Ghosts}
 use Rattle.op_desk.specs.declared.chan.Chan.TheVariants.{Commands, Input, Output, Talk, Note}
-use Rattle.op_desk.specs.Contents.{Known, Files, AppendsFront, IsFile, IsLonger, IsMissing}
-use Rattle.op_session.specs.declared.status.Status.{Status}
-use Rattle.op_session.specs.declared.status.Status.TheVariants as status
-use Rattle.op_session.specs.Promise.{CountsAs, IsBroken, IsFaultless}
+use Rattle.op_desk.specs.Contents.{Known, Files}
 
 -- what the channels that are read have left, what was written to the others, the files, and the faults so far
 pub record Sight : Type 0 where
@@ -20,123 +16,16 @@ pub record Sight : Type 0 where
   pub reads : ℕ
   pub writes : ℕ
 
-abbrev pub sight : (Chan → Known) → (Chan → Known) → Option Files → Bool → ℕ → ℕ → Sight
-sight left written shelf steady reads writes = record {
-  commands = left Commands;
-  input = left Input;
-  output = written Output;
-  talk = written Talk;
-  note = written Note;
-  shelf = shelf;
-  steady = steady;
-  reads = reads;
-  writes = writes;
+-- by what a kind of desk tells
+abbrev pub sight : {D : Type 0} → Ghosts D → D → Sight
+sight tells desk = record {
+  commands = tells.left desk Commands;
+  input = tells.left desk Input;
+  output = tells.written desk Output;
+  talk = tells.written desk Talk;
+  note = tells.written desk Note;
+  shelf = tells.shelf desk;
+  steady = tells.steady desk;
+  reads = tells.read_faults desk;
+  writes = tells.write_faults desk;
 }
-
--- what only the commands and the answers can change
-pub record Quiet (a b : Sight) : Type 0 where
-  pub input : b.input ≡ a.input
-  pub output : b.output ≡ a.output
-  pub note : b.note ≡ a.note
-  pub shelf : b.shelf ≡ a.shelf
-  pub steady : IsTrue a.steady → IsTrue b.steady
-
--- and without a fault
-pub record Calm (a b : Sight) : Type 0 where
-  pub quiet : Quiet a b
-  pub reads : b.reads ≡ a.reads
-  pub writes : b.writes ≡ a.writes
-
--- a fault of reading or writing, or want of memory
-pub record Fault (s : Status) (a b : Sight) : Type 0 where
-  pub broken : IsBroken s
-  pub quiet : Quiet a b
-  pub counts : CountsAs s a.reads b.reads a.writes b.writes
-  pub faultless : IsTrue a.steady → IsFaultless s
-
--- a byte of the commands was taken, or none is left
-pub record TakesByte (a b : Sight) (byte : ℕ) : Type 0 where
-  pub calm : Calm a b
-  pub talk : b.talk ≡ a.talk
-  pub front : Consumes a.commands b.commands (byte ∷ [])
-
-pub record TakesNone (a b : Sight) : Type 0 where
-  pub calm : Calm a b
-  pub talk : b.talk ≡ a.talk
-  pub none : Consumes a.commands b.commands []
-  pub end : IsAtEnd b.commands
-
--- neither commands nor answers changed
-pub record TakesNothing (s : Status) (a b : Sight) : Type 0 where
-  pub fault : Fault s a b
-  pub talk : b.talk ≡ a.talk
-  pub commands : b.commands ≡ a.commands
-
-abbrev pub Takes : Sight → Sight → Result (Option ℕ) Status → Type 0
-Takes a b (Ok (Some byte)) = TakesByte a b byte
-Takes a b (Ok None) = TakesNone a b
-Takes a b (Err s) = TakesNothing s a b
-
--- bytes were written to Talk
-pub record SaysAll (a b : Sight) (bytes : List ℕ) : Type 0 where
-  pub calm : Calm a b
-  pub talk : Appends a.talk b.talk bytes
-  pub commands : b.commands ≡ a.commands
-
--- statuses of what could not be written
-abbrev pub IsUnwritten : Status → Type 0
-IsUnwritten status.Write = Unit {0}
-IsUnwritten status.Memory = Unit {0}
-IsUnwritten s = ⊥
-
--- a front of them was
-pub record SaysFront (s : Status) (a b : Sight) (bytes : List ℕ) : Type 0 where
-  pub fault : Fault s a b
-  pub unwritten : IsUnwritten s
-  pub talk : AppendsFront a.talk b.talk bytes
-  pub commands : b.commands ≡ a.commands
-
-abbrev pub Says : Sight → Sight → List ℕ → Result (Unit {0}) Status → Type 0
-Says a b bytes (Ok x) = SaysAll a b bytes
-Says a b bytes (Err s) = SaysFront s a b bytes
-
--- the status of a call that ends by this one, where all could be written
-abbrev pub ended_as : Status → Result (Unit {0}) Status → Status
-ended_as s (Ok x) = s
-ended_as s (Err t) = t
-
--- neither commands nor answers changed, and there was no fault
-pub record Untouched (a b : Sight) : Type 0 where
-  pub calm : Calm a b
-  pub talk : b.talk ≡ a.talk
-  pub commands : b.commands ≡ a.commands
-
--- statuses of what could not be read
-abbrev pub IsUnread : Status → Type 0
-IsUnread status.Read = Unit {0}
-IsUnread status.Memory = Unit {0}
-IsUnread s = ⊥
-
--- a file could not be read: a steady desk fails only where it is missing
-pub record Unread (name : List ℕ) (s : Status) (a b : Sight) : Type 0 where
-  pub unread : IsUnread s
-  pub quiet : Quiet a b
-  pub counts : CountsAs s a.reads b.reads a.writes b.writes
-  pub missing : IsTrue a.steady → s ≡ status.Read → IsMissing a.shelf name
-  pub talk : b.talk ≡ a.talk
-  pub commands : b.commands ≡ a.commands
-
--- a whole file, or it is too long
-pub record ReadsFile (name bytes : List ℕ) (a b : Sight) : Type 0 where
-  pub untouched : Untouched a b
-  pub file : IsFile a.shelf name bytes
-  pub short : length bytes ≤ 16777216
-
-pub record ReadsTooLong (name : List ℕ) (a b : Sight) : Type 0 where
-  pub untouched : Untouched a b
-  pub long : IsLonger a.shelf name 16777216
-
-abbrev pub Reads : List ℕ → Sight → Sight → Result (Option (List ℕ)) Status → Type 0
-Reads name a b (Ok (Some bytes)) = ReadsFile name bytes a b
-Reads name a b (Ok None) = ReadsTooLong name a b
-Reads name a b (Err s) = Unread name s a b

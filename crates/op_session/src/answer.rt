@@ -2,10 +2,10 @@ ghost use Rattle.std.specs.Prelude.{◌≡◌, ℕ, ◌+◌, ◌++◌, OnOk, IfO
 ghost use Rattle.op_machine.specs.Machine.{event_now};
 ghost use Rattle.op_session.specs.Moves.{Stand};
 ghost use Rattle.op_session.specs.Traced.{Traced};
-ghost use Rattle.op_session.specs.Reader.{IsReader};
+ghost use Rattle.op_session.specs.inner.Reader.{IsReader};
 ghost use Rattle.op_session.specs.Session.{other_text, unreadable_text};
-ghost use Rattle.op_session.specs.Feeding.{Feeds, IsHere};
-ghost use Rattle.op_session.specs.Giving.{Told, Pays, Gives, text_of};
+ghost use Rattle.op_session.specs.inner.Feeding.{Feeds, IsHere};
+ghost use Rattle.op_session.specs.inner.Giving.{Told, Pays, Gives, text_of};
 ghost use Rattle.op_session.specs.Sight.{sight};
 
 use crate::command::Meaning;
@@ -30,8 +30,7 @@ pub fn give_answer<D: Desk, L: Ledger>(
 ) -> Result<(), Status>
     requires { IsReader feed.old.commands }
     ensures { (traced : Traced) (s : Stand) → Feeds traced s feed.old → Gives traced s text.now feed.old feed.new steps.old steps.new
-        (sight (D.left desk.old) (D.written desk.old) (D.shelf desk.old) (D.steady desk.old) (D.read_faults desk.old) (D.write_faults desk.old))
-        (sight (D.left desk.new) (D.written desk.new) (D.shelf desk.new) (D.steady desk.new) (D.read_faults desk.new) (D.write_faults desk.new)) result }
+        (sight D.Desk desk.old) (sight D.Desk desk.new) result }
 {
     let answer = answer(alloc, feed, text, steps)?;
     say(desk, answer.as_slice())

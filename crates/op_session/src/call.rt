@@ -4,11 +4,11 @@ ghost use Rattle.op_desk.specs.declared.chan.Chan.{Chan};
 ghost use Rattle.op_store.specs.Stored.{world_of};
 ghost use Rattle.op_store.specs.Load.{load_text, goal_of};
 ghost use Rattle.op_store.specs.Queries.{query_named, IsSoundGoal, IsSoundLoadFault};
-ghost use Rattle.op_session.specs.Refusing.{Refuses};
+ghost use Rattle.op_session.specs.inner.Refusing.{Refuses};
 ghost use Rattle.op_store.specs.declared.locked.Locked.{Locked};
 ghost use Rattle.op_session.specs.Call.{outcome_of, first_world, with_loaded, with_world, with_goal, with_query};
-ghost use Rattle.op_session.specs.Progress.{Leaves};
-ghost use Rattle.op_session.specs.Promise.{WhenTold, DoneAs, CostsAs, BrokenAs, TooLongAs, RefusedAs, IsBroken, IsRefused, IsWordsRefusal, CountsAs, IsFaultless, HasFile};
+ghost use Rattle.op_session.specs.inner.Progress.{Leaves};
+ghost use Rattle.op_session.specs.Promise.{WhenTold, DoneAs, CostsAs, LoadAs, TooLongAs, BrokenAs, WordsRefusedAs, IsBroken, IsRefused, CountsAs, IsFaultless, HasFile};
 ghost use Rattle.op_session.specs.Sight.{sight};
 
 use crate::runnable::{are_runnable, is_runnable_goal};
@@ -37,28 +37,30 @@ pub fn opium<D: Desk, L: Ledger>(
 ) -> Status
     requires { Each (λ (c : Chan). D.fresh desk.old c ≡ true) }
 
-    // What the call does, where the desk tells its shelf and its commands.
-    ensures done { result ≡ Status.Done → WhenTold (D.shelf desk.old) (λ files. WhenTold (D.left desk.old Chan.Commands) (λ bytes.
-        DoneAs (outcome_of files (map string_bytes words.now)) bytes (D.written desk.old Chan.Talk) (D.written desk.new Chan.Talk) (D.left desk.new Chan.Commands))) }
-    ensures cost { result ≡ Status.Done → WhenTold (D.shelf desk.old) (λ files. WhenTold (D.left desk.old Chan.Commands) (λ bytes.
-        CostsAs (outcome_of files (map string_bytes words.now)) bytes steps.old steps.new)) }
-    ensures refused { IsRefused result → WhenTold (D.shelf desk.old) (λ files. WhenTold (D.left desk.old Chan.Commands) (λ bytes.
-        RefusedAs (outcome_of files (map string_bytes words.now)) result bytes (D.written desk.old Chan.Talk) (D.written desk.new Chan.Talk) (D.left desk.new Chan.Commands))) }
-    ensures too_long { result ≡ Status.TooLong → WhenTold (D.shelf desk.old) (λ files. WhenTold (D.left desk.old Chan.Commands) (λ bytes.
-        TooLongAs (outcome_of files (map string_bytes words.now)) bytes (D.written desk.old Chan.Talk) (D.written desk.new Chan.Talk) (D.left desk.new Chan.Commands))) }
-    ensures broken { IsBroken result → WhenTold (D.shelf desk.old) (λ files. WhenTold (D.left desk.old Chan.Commands) (λ bytes.
-        BrokenAs (outcome_of files (map string_bytes words.now)) bytes (D.written desk.old Chan.Talk) (D.written desk.new Chan.Talk) (D.left desk.new Chan.Commands))) }
+    // What the call does, by the files and the commands, as far as the desk tells them.
+    ensures done { result ≡ Status.Done → WhenTold (D.shelf desk.old) (λ files.
+        DoneAs (outcome_of files (map string_bytes words.now)) (sight D.Desk desk.old) (sight D.Desk desk.new)) }
+    ensures cost { result ≡ Status.Done → WhenTold (D.shelf desk.old) (λ files.
+        CostsAs (outcome_of files (map string_bytes words.now)) (sight D.Desk desk.old) steps.old steps.new) }
+    ensures load { result ≡ Status.Load → WhenTold (D.shelf desk.old) (λ files.
+        LoadAs (outcome_of files (map string_bytes words.now)) (sight D.Desk desk.old) (sight D.Desk desk.new)) }
+    ensures too_long { result ≡ Status.TooLong → WhenTold (D.shelf desk.old) (λ files.
+        TooLongAs (outcome_of files (map string_bytes words.now)) (sight D.Desk desk.old) (sight D.Desk desk.new)) }
+    ensures broken { IsBroken result → WhenTold (D.shelf desk.old) (λ files.
+        BrokenAs (outcome_of files (map string_bytes words.now)) result (sight D.Desk desk.old) (sight D.Desk desk.new)) }
+    ensures steady { IsTrue (D.steady desk.old) → WhenTold (D.shelf desk.old) (λ files.
+        HasFile (outcome_of files (map string_bytes words.now)) → IsFaultless result) }
 
     // What holds whatever the desk tells.
     ensures usage { result ≡ Status.Usage → length words.now ≢ 2 }
-    ensures words_refused { length words.now ≢ 2 → IsWordsRefusal result }
+    ensures words { length words.now ≢ 2 → WordsRefusedAs result (sight D.Desk desk.old) (sight D.Desk desk.new) }
+    ensures untaken { IsRefused result → D.left desk.new Chan.Commands ≡ D.left desk.old Chan.Commands }
+    ensures unpaid { IsRefused result → steps.new ≡ steps.old }
     ensures different { result ≢ Status.Different }
     ensures counts { CountsAs result (D.read_faults desk.old) (D.read_faults desk.new) (D.write_faults desk.old) (D.write_faults desk.new) }
     ensures input { D.left desk.new Chan.Input ≡ D.left desk.old Chan.Input }
     ensures output { D.written desk.new Chan.Output ≡ D.written desk.old Chan.Output }
     ensures note { D.written desk.new Chan.Note ≡ D.written desk.old Chan.Note }
-    ensures steady { IsTrue (D.steady desk.old) → WhenTold (D.shelf desk.old) (λ files.
-        HasFile (outcome_of files (map string_bytes words.now)) → IsFaultless result) }
 {
     match words {
         [program, goal] => answer_words(alloc, program, goal, desk, steps),
@@ -74,10 +76,8 @@ fn answer_words<D: Desk, L: Ledger>(
     desk: &mut D,
     steps: &mut Steps<L>,
 ) -> Status
-    ensures leaves { Leaves (option_map (λ files. outcome_of files (program.now ∷ goal.now ∷ [])) (D.shelf desk.old)) result
-        (sight (D.left desk.old) (D.written desk.old) (D.shelf desk.old) (D.steady desk.old) (D.read_faults desk.old) (D.write_faults desk.old))
-        (sight (D.left desk.new) (D.written desk.new) (D.shelf desk.new) (D.steady desk.new) (D.read_faults desk.new) (D.write_faults desk.new)) steps.old steps.new }
-    ensures usage { result ≢ Status.Usage }
+    ensures { Leaves (option_map (λ files. outcome_of files (program.now ∷ goal.now ∷ [])) (D.shelf desk.old)) result
+        (sight D.Desk desk.old) (sight D.Desk desk.new) steps.old steps.new }
 {
     match read_file(alloc, desk, program) {
         Ok(Some(text)) => answer_text(alloc, program, goal, text.as_slice(), desk, steps),
@@ -99,8 +99,7 @@ fn answer_text<D: Desk, L: Ledger>(
     steps: &mut Steps<L>,
 ) -> Status
     ensures { Leaves (Some (with_loaded program.now goal.now (load_text Locked.Program first_world text.now))) result
-        (sight (D.left desk.old) (D.written desk.old) (D.shelf desk.old) (D.steady desk.old) (D.read_faults desk.old) (D.write_faults desk.old))
-        (sight (D.left desk.new) (D.written desk.new) (D.shelf desk.new) (D.steady desk.new) (D.read_faults desk.new) (D.write_faults desk.new)) steps.old steps.new }
+        (sight D.Desk desk.old) (sight D.Desk desk.new) steps.old steps.new }
 {
     match Store::new(alloc, Locked::Program) {
         Ok(store) => answer_new(alloc, store, program, goal, text, desk, steps),
@@ -119,8 +118,7 @@ fn answer_new<D: Desk, L: Ledger>(
     steps: &mut Steps<L>,
 ) -> Status
     ensures { Leaves (Some (with_loaded program.now goal.now (load_text store.locked (world_of store) text.now))) result
-        (sight (D.left desk.old) (D.written desk.old) (D.shelf desk.old) (D.steady desk.old) (D.read_faults desk.old) (D.write_faults desk.old))
-        (sight (D.left desk.new) (D.written desk.new) (D.shelf desk.new) (D.steady desk.new) (D.read_faults desk.new) (D.write_faults desk.new)) steps.old steps.new }
+        (sight D.Desk desk.old) (sight D.Desk desk.new) steps.old steps.new }
 {
     match store.load(text) {
         Ok(()) => answer_program(alloc, store, program, goal, desk, steps),
@@ -138,8 +136,7 @@ fn end_refused<D: Desk>(
 ) -> Status
     requires { IsSoundLoadFault (length store.now.names) fault }
     ensures { Refuses store.now.names name.now fault result
-        (sight (D.left desk.old) (D.written desk.old) (D.shelf desk.old) (D.steady desk.old) (D.read_faults desk.old) (D.write_faults desk.old))
-        (sight (D.left desk.new) (D.written desk.new) (D.shelf desk.new) (D.steady desk.new) (D.read_faults desk.new) (D.write_faults desk.new)) }
+        (sight D.Desk desk.old) (sight D.Desk desk.new) }
 {
     match fault {
         LoadFault::Memory => Status::Memory,
@@ -160,8 +157,7 @@ fn answer_program<D: Desk, L: Ledger>(
     steps: &mut Steps<L>,
 ) -> Status
     ensures { Leaves (Some (with_world program.now goal.now (world_of store))) result
-        (sight (D.left desk.old) (D.written desk.old) (D.shelf desk.old) (D.steady desk.old) (D.read_faults desk.old) (D.write_faults desk.old))
-        (sight (D.left desk.new) (D.written desk.new) (D.shelf desk.new) (D.steady desk.new) (D.read_faults desk.new) (D.write_faults desk.new)) steps.old steps.new }
+        (sight D.Desk desk.old) (sight D.Desk desk.new) steps.old steps.new }
 {
     match are_runnable(alloc, &store) {
         Ok(true) => answer_goal(alloc, store, goal, desk, steps),
@@ -179,8 +175,7 @@ fn answer_goal<D: Desk, L: Ledger>(
     steps: &mut Steps<L>,
 ) -> Status
     ensures { Leaves (Some (with_goal (world_of store) (goal_of store.table store.flags.quotes goal.now))) result
-        (sight (D.left desk.old) (D.written desk.old) (D.shelf desk.old) (D.steady desk.old) (D.read_faults desk.old) (D.write_faults desk.old))
-        (sight (D.left desk.new) (D.written desk.new) (D.shelf desk.new) (D.steady desk.new) (D.read_faults desk.new) (D.write_faults desk.new)) steps.old steps.new }
+        (sight D.Desk desk.old) (sight D.Desk desk.new) steps.old steps.new }
 {
     match store.goal(goal.as_bytes()) {
         Ok(goal) => answer_query(alloc, store, goal, desk, steps),
@@ -198,8 +193,7 @@ fn answer_query<D: Desk, L: Ledger>(
 ) -> Status
     requires { IsSoundGoal (length store.names) goal }
     ensures { Leaves (Some (with_query (world_of store) (query_named store.names goal))) result
-        (sight (D.left desk.old) (D.written desk.old) (D.shelf desk.old) (D.steady desk.old) (D.read_faults desk.old) (D.write_faults desk.old))
-        (sight (D.left desk.new) (D.written desk.new) (D.shelf desk.new) (D.steady desk.new) (D.read_faults desk.new) (D.write_faults desk.new)) steps.old steps.new }
+        (sight D.Desk desk.old) (sight D.Desk desk.new) steps.old steps.new }
 {
     match is_runnable_goal(alloc, &store, &goal) {
         Ok(true) => session(alloc, store, goal, BUDGET, desk, steps),

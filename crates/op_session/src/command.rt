@@ -21,7 +21,7 @@ pub enum Meaning {
 
 impl Meaning {
     ghost use Rattle.op_session.specs.Session.{is_next as the_next, goal_meaning, meaning};
-    ghost use Rattle.op_session.specs.Reader.{IsReader};
+    ghost use Rattle.op_session.specs.inner.Reader.{IsReader};
 
     /// Reads a text as a command, with a store that was made for it.
     pub fn of(store: &mut Store, text: &[u8]) -> Result<Meaning, Memory>

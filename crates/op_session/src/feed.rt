@@ -3,7 +3,7 @@ ghost use Rattle.op_machine.specs.Machine.{has_event, event_now};
 ghost use Rattle.op_machine.specs.View.{event_in};
 ghost use Rattle.op_session.specs.Moves.{Stand, at_start};
 ghost use Rattle.op_session.specs.Traced.{Traced};
-ghost use Rattle.op_session.specs.Feeding.{Finds, Shows, next_of};
+ghost use Rattle.op_session.specs.inner.Feeding.{Finds, Shows, next_of};
 
 use crate::command::Meaning;
 use op_base::{Memory, Steps};
@@ -34,8 +34,8 @@ pub enum Next {
 
 impl Feed {
     ghost use Rattle.op_session.specs.Session.{meaning};
-    ghost use Rattle.op_session.specs.Reader.{IsReader};
-    ghost use Rattle.op_session.specs.Feeding.{Feeds, IsHere, traced_by};
+    ghost use Rattle.op_session.specs.inner.Reader.{IsReader};
+    ghost use Rattle.op_session.specs.inner.Feeding.{Feeds, IsHere, traced_by};
 
     /// A feed before the first event of a machine that made no step, with a store that reads commands.
     pub fn new(machine: Machine, commands: Store) -> Feed

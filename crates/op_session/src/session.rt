@@ -4,14 +4,15 @@ ghost use Rattle.op_desk.specs.declared.chan.Chan.{Chan};
 ghost use Rattle.op_store.specs.Stored.{world_of};
 ghost use Rattle.op_store.specs.Queries.{query_named, IsSoundGoal};
 ghost use Rattle.op_session.specs.Traced.{Traced};
-ghost use Rattle.op_session.specs.Reader.{IsReader};
-ghost use Rattle.op_session.specs.Feeding.{traced_by};
+ghost use Rattle.op_session.specs.inner.Reader.{IsReader};
+ghost use Rattle.op_session.specs.inner.Feeding.{traced_by};
 ghost use Rattle.op_token.specs.Cut.{IsOpen};
 ghost use Rattle.op_session.specs.Call.{Session, traced_of, channel_limit};
 ghost use Rattle.op_session.specs.Promise.{too_long_line};
-ghost use Rattle.op_session.specs.Progress.{Holds, Goes, Leaves, Ends};
+ghost use Rattle.op_session.specs.inner.Progress.{Holds, Goes, Leaves, Ends};
 ghost use Rattle.op_session.specs.Session.{from_first as the_first};
-ghost use Rattle.op_session.specs.Sight.{Sight, sight, Says};
+ghost use Rattle.op_session.specs.Sight.{Sight, sight};
+ghost use Rattle.op_session.specs.inner.Steps.{Says};
 
 use crate::answer::give_answer;
 use crate::feed::Feed;
@@ -39,9 +40,9 @@ fn answer_byte<D: Desk, L: Ledger>(
 ) -> Result<bool, Status>
     requires open { IsOpen cutter.old }
     requires reads { IsReader feed.old.commands }
-    ensures { (traced : Traced) (a : Sight) (n before : ℕ)
-        → Holds traced a (sight (D.left desk.old) (D.written desk.old) (D.shelf desk.old) (D.steady desk.old) (D.read_faults desk.old) (D.write_faults desk.old)) n before steps.old cutter.old feed.old
-        → Goes traced a n before (sight (D.left desk.new) (D.written desk.new) (D.shelf desk.new) (D.steady desk.new) (D.read_faults desk.new) (D.write_faults desk.new)) steps.new cutter.new feed.new result }
+    ensures { (traced : Traced) (a : Sight) (n before : ℕ) → n < channel_limit
+        → Holds traced a (sight D.Desk desk.old) n before steps.old cutter.old feed.old
+        → Goes traced a n before (sight D.Desk desk.new) steps.new cutter.new feed.new result }
 {
     let Some(byte) = take_byte(desk)? else {
         return Ok(false);
@@ -63,8 +64,8 @@ fn answer_rest<D: Desk, L: Ledger>(
 ) -> Result<(), Status>
     requires { IsReader feed.old.commands }
     ensures { (traced : Traced) (a : Sight) (n before : ℕ) → n < channel_limit → IsAtEnd (D.left desk.old Chan.Commands)
-        → Holds traced a (sight (D.left desk.old) (D.written desk.old) (D.shelf desk.old) (D.steady desk.old) (D.read_faults desk.old) (D.write_faults desk.old)) n before steps.old cutter.now feed.old
-        → Ends traced a before (sight (D.left desk.new) (D.written desk.new) (D.shelf desk.new) (D.steady desk.new) (D.read_faults desk.new) (D.write_faults desk.new)) steps.new result }
+        → Holds traced a (sight D.Desk desk.old) n before steps.old cutter.now feed.old
+        → Ends traced a before (sight D.Desk desk.new) steps.new result }
 {
     match cutter.piece() {
         Piece::Text(_, _) => give_answer(alloc, feed, cutter.text(), desk, steps),
@@ -75,8 +76,7 @@ fn answer_rest<D: Desk, L: Ledger>(
 
 // Refuses to take another byte of the commands.
 fn refuse_more<D: Desk>(desk: &mut D) -> Result<(), Status>
-    ensures { Says (sight (D.left desk.old) (D.written desk.old) (D.shelf desk.old) (D.steady desk.old) (D.read_faults desk.old) (D.write_faults desk.old))
-        (sight (D.left desk.new) (D.written desk.new) (D.shelf desk.new) (D.steady desk.new) (D.read_faults desk.new) (D.write_faults desk.new)) too_long_line result }
+    ensures { Says (sight D.Desk desk.old) (sight D.Desk desk.new) too_long_line result }
 {
     say(desk, b"opium: too long commands\n")
 }
@@ -90,11 +90,9 @@ fn answer_feed<D: Desk, L: Ledger>(
     steps: &mut Steps<L>,
 ) -> Status
     requires { Holds (traced_by feed.old.machine)
-        (sight (D.left desk.old) (D.written desk.old) (D.shelf desk.old) (D.steady desk.old) (D.read_faults desk.old) (D.write_faults desk.old))
-        (sight (D.left desk.old) (D.written desk.old) (D.shelf desk.old) (D.steady desk.old) (D.read_faults desk.old) (D.write_faults desk.old)) 0 steps.old steps.old cutter.old feed.old }
+        (sight D.Desk desk.old) (sight D.Desk desk.old) 0 steps.old steps.old cutter.old feed.old }
     ensures { Leaves (Some (Session (traced_by feed.old.machine))) result
-        (sight (D.left desk.old) (D.written desk.old) (D.shelf desk.old) (D.steady desk.old) (D.read_faults desk.old) (D.write_faults desk.old))
-        (sight (D.left desk.new) (D.written desk.new) (D.shelf desk.new) (D.steady desk.new) (D.read_faults desk.new) (D.write_faults desk.new)) steps.old steps.new }
+        (sight D.Desk desk.old) (sight D.Desk desk.new) steps.old steps.new }
 {
     for _ in 0..CHANNEL_LIMIT {
         match answer_byte(alloc, feed, cutter, desk, steps) {
@@ -119,8 +117,7 @@ fn answer_all<D: Desk, L: Ledger>(
     requires steps { machine.steps ≡ 0 }
     requires reads { IsReader commands }
     ensures { Leaves (Some (Session (traced_by machine))) result
-        (sight (D.left desk.old) (D.written desk.old) (D.shelf desk.old) (D.steady desk.old) (D.read_faults desk.old) (D.write_faults desk.old))
-        (sight (D.left desk.new) (D.written desk.new) (D.shelf desk.new) (D.steady desk.new) (D.read_faults desk.new) (D.write_faults desk.new)) steps.old steps.new }
+        (sight D.Desk desk.old) (sight D.Desk desk.new) steps.old steps.new }
 {
     let mut feed = Feed::new(machine, commands);
     let mut cutter = Cutter::new(alloc);
@@ -166,8 +163,7 @@ pub fn session<D: Desk, L: Ledger>(
     requires some { 1 ≤ budget }
     requires limit { budget ≤ 1000000000 }
     ensures { Leaves (Some (Session (traced_of budget (world_of store) (query_named store.names goal)))) result
-        (sight (D.left desk.old) (D.written desk.old) (D.shelf desk.old) (D.steady desk.old) (D.read_faults desk.old) (D.write_faults desk.old))
-        (sight (D.left desk.new) (D.written desk.new) (D.shelf desk.new) (D.steady desk.new) (D.read_faults desk.new) (D.write_faults desk.new)) steps.old steps.new }
+        (sight D.Desk desk.old) (sight D.Desk desk.new) steps.old steps.new }
 {
     match begin(alloc, store, goal, budget) {
         Ok((machine, commands)) => answer_all(alloc, machine, commands, desk, steps),

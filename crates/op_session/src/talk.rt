@@ -1,7 +1,8 @@
 ghost use Rattle.std.specs.Prelude.{◌≡◌, ◌++◌, length, IfOk};
 ghost use Rattle.op_store.specs.Queries.{fault_named, IsKnownFault};
 ghost use Rattle.op_session.specs.Words.{fault_words as the_words, load_line as the_line};
-ghost use Rattle.op_session.specs.Sight.{sight, Takes, Says, Reads, ended_as as ended_of};
+ghost use Rattle.op_session.specs.Sight.{sight};
+ghost use Rattle.op_session.specs.inner.Steps.{Takes, Says, Reads, ended_as as ended_of};
 
 use crate::status::Status;
 use crate::words::{fault_words, load_line};
@@ -15,8 +16,7 @@ const FILE_LIMIT: u64 = 16_777_216;
 
 /// Takes the next byte of the commands, and no more; none at their end.
 pub fn take_byte<D: Desk>(desk: &mut D) -> Result<Option<u8>, Status>
-    ensures { Takes (sight (D.left desk.old) (D.written desk.old) (D.shelf desk.old) (D.steady desk.old) (D.read_faults desk.old) (D.write_faults desk.old))
-        (sight (D.left desk.new) (D.written desk.new) (D.shelf desk.new) (D.steady desk.new) (D.read_faults desk.new) (D.write_faults desk.new)) result }
+    ensures { Takes (sight D.Desk desk.old) (sight D.Desk desk.new) result }
 {
     let mut byte = [0; 1];
     match desk.take(Chan::Commands, &mut byte) {
@@ -29,8 +29,7 @@ pub fn take_byte<D: Desk>(desk: &mut D) -> Result<Option<u8>, Status>
 
 /// Writes all the bytes to Talk. After a fault a front of them was written.
 pub fn say<D: Desk>(desk: &mut D, bytes: &[u8]) -> Result<(), Status>
-    ensures { Says (sight (D.left desk.old) (D.written desk.old) (D.shelf desk.old) (D.steady desk.old) (D.read_faults desk.old) (D.write_faults desk.old))
-        (sight (D.left desk.new) (D.written desk.new) (D.shelf desk.new) (D.steady desk.new) (D.read_faults desk.new) (D.write_faults desk.new)) bytes.now result }
+    ensures { Says (sight D.Desk desk.old) (sight D.Desk desk.new) bytes.now result }
 {
     match put_all(desk, Chan::Talk, bytes) {
         Ok(()) => Ok(()),
@@ -47,8 +46,7 @@ pub fn say_name<D: Desk>(
     name: &str,
     behind: &[u8],
 ) -> Result<(), Status>
-    ensures { Says (sight (D.left desk.old) (D.written desk.old) (D.shelf desk.old) (D.steady desk.old) (D.read_faults desk.old) (D.write_faults desk.old))
-        (sight (D.left desk.new) (D.written desk.new) (D.shelf desk.new) (D.steady desk.new) (D.read_faults desk.new) (D.write_faults desk.new)) (before.now ++ name.now ++ behind.now) result }
+    ensures { Says (sight D.Desk desk.old) (sight D.Desk desk.new) (before.now ++ name.now ++ behind.now) result }
 {
     let line = named_line(alloc, before, name, behind)?;
     say(desk, line.as_slice())
@@ -72,8 +70,7 @@ pub fn say_load<D: Desk>(
     line: u64,
     words: &[u8],
 ) -> Result<(), Status>
-    ensures { Says (sight (D.left desk.old) (D.written desk.old) (D.shelf desk.old) (D.steady desk.old) (D.read_faults desk.old) (D.write_faults desk.old))
-        (sight (D.left desk.new) (D.written desk.new) (D.shelf desk.new) (D.steady desk.new) (D.read_faults desk.new) (D.write_faults desk.new)) (the_line name.now line words.now) result }
+    ensures { Says (sight D.Desk desk.old) (sight D.Desk desk.new) (the_line name.now line words.now) result }
 {
     let bytes = load_line(alloc, name, line, words)?;
     say(desk, bytes.as_slice())
@@ -89,8 +86,7 @@ pub fn say_refused<D: Desk>(
     kind: LoadFaultKind,
 ) -> Result<(), Status>
     requires { IsKnownFault (length store.now.names) kind }
-    ensures { Says (sight (D.left desk.old) (D.written desk.old) (D.shelf desk.old) (D.steady desk.old) (D.read_faults desk.old) (D.write_faults desk.old))
-        (sight (D.left desk.new) (D.written desk.new) (D.shelf desk.new) (D.steady desk.new) (D.read_faults desk.new) (D.write_faults desk.new))
+    ensures { Says (sight D.Desk desk.old) (sight D.Desk desk.new)
         (the_line name.now line (the_words (fault_named store.now.names kind))) result }
 {
     let words = fault_words(alloc, store, kind)?;
@@ -99,8 +95,7 @@ pub fn say_refused<D: Desk>(
 
 /// Takes a whole file, or None where it has more bytes than a file may have.
 pub fn read_file<D: Desk>(alloc: Global, desk: &mut D, name: &str) -> Result<Option<Bytes>, Status>
-    ensures { Reads name.now (sight (D.left desk.old) (D.written desk.old) (D.shelf desk.old) (D.steady desk.old) (D.read_faults desk.old) (D.write_faults desk.old))
-        (sight (D.left desk.new) (D.written desk.new) (D.shelf desk.new) (D.steady desk.new) (D.read_faults desk.new) (D.write_faults desk.new)) result }
+    ensures { Reads name.now (sight D.Desk desk.old) (sight D.Desk desk.new) result }
 {
     match take_all(alloc, desk, name, FILE_LIMIT) {
         Ok(bytes) => Ok(Some(bytes)),

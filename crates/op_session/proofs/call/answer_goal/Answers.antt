@@ -4,7 +4,7 @@ use Rattle.op_store.specs.World.{World}
 use Rattle.op_store.specs.Stored.{world_of}
 use Rattle.op_store.specs.Queries.{query_named, TellsGoal}
 use Rattle.op_session.specs.Call.{with_query}
-use Rattle.op_session.proofs.Outcomes.{outcome_goal, renamed, goal-sound, goal-refused}
+use Rattle.op_session.proofs.CallOutcomes.{outcome_goal, renamed, goal-sound, goal-refused}
 use Rattle.op_session.proofs.call.answer_goal.Goals as goal
 
 pub returns-in-Ok : goal.returns-in-Ok

@@ -1,6 +1,6 @@
 use Rattle.op_store.specs.Load.{load_text}
 use Rattle.op_store.specs.Stored.{world_of}
-use Rattle.op_session.proofs.Outcomes.{outcome_loaded, load-refused, renamed}
+use Rattle.op_session.proofs.CallOutcomes.{outcome_loaded, load-refused, renamed}
 use Rattle.op_session.proofs.call.answer_new.Goals as goal
 
 pub returns-in-Ok : goal.returns-in-Ok

@@ -1,8 +1,8 @@
 use Rattle.std.proofs.Common.{◌∙◌, sym}
 use Rattle.op_store.specs.Stored.{world_of}
 use Rattle.op_store.specs.Queries.{query_named}
-use Rattle.op_session.proofs.Leaving.{leaves_memory, leaves_load, untouched_start}
-use Rattle.op_session.proofs.Outcomes.{outcome_no_session, renamed}
+use Rattle.op_session.proofs.CallEnds.{leaves_memory, leaves_load, untouched_start}
+use Rattle.op_session.proofs.CallOutcomes.{outcome_no_session, renamed}
 use Rattle.op_session.proofs.call.answer_query.Goals as goal
 
 pub returns-in-Ok-false : goal.returns-in-Ok-false

@@ -2,8 +2,8 @@ use Rattle.std.proofs.Common.{ap}
 use Rattle.op_store.specs.Load.{load_text}
 use Rattle.op_store.specs.Stored.{Stored, world_of}
 use Rattle.op_session.specs.Call.{with_loaded}
-use Rattle.op_session.proofs.Leaving.{leaves_memory, untouched_start}
-use Rattle.op_session.proofs.Outcomes.{renamed}
+use Rattle.op_session.proofs.CallEnds.{leaves_memory, untouched_start}
+use Rattle.op_session.proofs.CallOutcomes.{renamed}
 use Rattle.op_session.proofs.call.answer_text.Goals as goal
 
 pub returns-in-Ok : goal.returns-in-Ok

@@ -1,6 +1,6 @@
 use Rattle.op_store.specs.declared.load_fault.LoadFault.TheVariants.{Memory, At}
-use Rattle.op_session.proofs.Leaving.{untouched_start}
-use Rattle.op_session.proofs.Outcomes.{refuses-as, refuses-memory, refuses-load}
+use Rattle.op_session.proofs.CallEnds.{untouched_start}
+use Rattle.op_session.proofs.CallOutcomes.{refuses-as, refuses-memory, refuses-load}
 use Rattle.op_session.proofs.call.end_refused.Goals as goal
 
 pub returns-in-Memory : goal.returns-in-Memory

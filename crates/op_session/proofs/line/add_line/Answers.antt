@@ -5,7 +5,7 @@ use Rattle.op_bind.specs.State.{State, value_of}
 use Rattle.op_writer.specs.Cut.{short}
 use Rattle.op_machine.specs.View.{event_in}
 use Rattle.op_session.specs.Line.{port_word}
-use Rattle.op_session.proofs.Lines.{line-of}
+use Rattle.op_session.proofs.EventLines.{line-of}
 use Rattle.op_session.proofs.line.add_line.Goals as goal
 
 pub returns : goal.returns

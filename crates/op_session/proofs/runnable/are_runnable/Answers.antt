@@ -6,7 +6,7 @@ use Rattle.op_trace.specs.World.{Clause}
 use Rattle.op_store.specs.Stored.{world_of}
 use Rattle.op_store.specs.Rows.{clause_named}
 use Rattle.op_session.specs.Runnable.{is_runnable, are_runnable}
-use Rattle.op_session.proofs.Runnables.{rows-bodies, list_all-map}
+use Rattle.op_session.proofs.RunnableBodies.{rows-bodies, list_all-map}
 use Rattle.op_session.proofs.runnable.are_runnable.Goals as goal
 
 pub are_runnable_clauses-requires : goal.are_runnable_clauses-requires

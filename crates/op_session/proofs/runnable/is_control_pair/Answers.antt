@@ -2,7 +2,7 @@ use Rattle.std.proofs.Common.{◌≡◌, ◌==◌, false, ap, sym, ◌∙◌, Li
 use Rattle.std.proofs.lemmas.Bool.Decides.{nat_tests}
 use Rattle.op_logic.specs.Names.{name_at}
 use Rattle.op_session.specs.Runnable.{is_control_pair_name}
-use Rattle.op_session.proofs.Runnables.{control_pair-two, control_pair-other}
+use Rattle.op_session.proofs.RunnableBodies.{control_pair-two, control_pair-other}
 use Rattle.op_session.proofs.runnable.is_control_pair.Goals as goal
 
 pub returns-then-arity-eq2 : goal.returns-then-arity-eq2

@@ -1,6 +1,6 @@
 use Rattle.std.proofs.Common.{◌∙◌}
 use Rattle.op_store.specs.Stored.{world_of}
-use Rattle.op_session.proofs.Runnables.{goal-struct}
+use Rattle.op_session.proofs.RunnableBodies.{goal-struct}
 use Rattle.op_session.proofs.runnable.is_goal.Goals as goal
 
 pub returns-in-Struct : goal.returns-in-Struct

@@ -3,7 +3,7 @@ use Rattle.op_logic.specs.Names.{HasNames, named}
 use Rattle.op_term.specs.Places.{term_at}
 use Rattle.op_store.specs.Stored.{world_of}
 use Rattle.op_session.specs.Runnable.{is_runnable, all_runnable}
-use Rattle.op_session.proofs.Runnables.{weight}
+use Rattle.op_session.proofs.RunnableBodies.{weight}
 use Rattle.op_session.proofs.runnable.is_runnable_term.Given as goal
 
 abbrev pub invariant-walk : goal.invariant-walk

@@ -2,7 +2,7 @@ use Rattle.std.proofs.Common.{ℕ, length, List, All, sym, ◌∙◌, subst, ari
 use Rattle.std.proofs.lemmas.List.Elements.{All-push}
 use Rattle.op_logic.specs.Names.{HasNames}
 use Rattle.op_store.specs.Stored.{world_of}
-use Rattle.op_session.proofs.Runnables.{parts-of, part-names, met-two, less-one, less-two}
+use Rattle.op_session.proofs.RunnableBodies.{parts-of, part-names, met-two, less-one, less-two}
 use Rattle.op_session.proofs.runnable.meet.Goals as goal
 
 pub part-requires-clause-there : goal.part-requires-clause-there

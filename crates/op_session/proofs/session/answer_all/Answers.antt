@@ -1,8 +1,8 @@
 use Rattle.std.proofs.Common.{sym, subst}
 use Rattle.op_machine.specs.Machine.{Kept}
 use Rattle.op_session.specs.Moves.{at_start}
-use Rattle.op_session.specs.Feeding.{Feeds, traced_by}
-use Rattle.op_session.proofs.Holding.{holds_start}
+use Rattle.op_session.specs.inner.Feeding.{Feeds, traced_by}
+use Rattle.op_session.proofs.BetweenBytes.{holds_start}
 use Rattle.op_session.proofs.session.answer_all.Goals as goal
 
 pub answer_feed-requires : goal.answer_feed-requires

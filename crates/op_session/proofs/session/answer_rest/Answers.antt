@@ -1,7 +1,7 @@
 use Rattle.std.proofs.Common.{sym, ap, ◌∙◌}
 use Rattle.op_session.specs.Session.{from_first}
 use Rattle.op_session.proofs.session.answer_rest.Goals as goal
-use Rattle.op_session.proofs.Finishing.{rest_ends, text_rest, no_end_rest, ends_empty}
+use Rattle.op_session.proofs.SessionEnds.{rest_ends, text_rest, no_end_rest, ends_empty}
 
 pub returns-in-Text : goal.returns-in-Text
 returns-in-Text g c = λ traced a n before short end h.

@@ -1,4 +1,4 @@
-use Rattle.op_session.proofs.Leaving.{leaves_memory, untouched_start}
+use Rattle.op_session.proofs.CallEnds.{leaves_memory, untouched_start}
 use Rattle.op_session.proofs.session.session.Goals as goal
 
 pub returns-in-Err : goal.returns-in-Err

@@ -1,5 +1,5 @@
 use Rattle.std.proofs.Common.{◌∙◌}
-use Rattle.op_session.proofs.Outcomes.{says_as}
+use Rattle.op_session.proofs.CallOutcomes.{says_as}
 use Rattle.op_session.proofs.talk.say_load.Goals as goal
 
 pub returns : goal.returns

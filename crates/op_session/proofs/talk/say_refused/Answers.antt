@@ -1,6 +1,6 @@
 use Rattle.std.proofs.Common.{◌∙◌, ap}
 use Rattle.op_session.specs.Words.{load_line}
-use Rattle.op_session.proofs.Outcomes.{says_as}
+use Rattle.op_session.proofs.CallOutcomes.{says_as}
 use Rattle.op_session.proofs.talk.say_refused.Goals as goal
 
 pub returns : goal.returns

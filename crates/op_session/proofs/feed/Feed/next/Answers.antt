@@ -1,4 +1,4 @@
-use Rattle.op_session.proofs.Feeds.{finds_asked, finds_known, here_asked, here_known}
+use Rattle.op_session.proofs.FeedMoves.{finds_asked, finds_known, here_asked, here_known}
 use Rattle.op_session.proofs.feed.Feed.next.Goals as goal
 use Rattle.op_session.proofs.feed.Feed.next.Goals.{then-is_none+in_ok-self, else-is_none}
 

@@ -9,9 +9,9 @@ use Rattle.op_token.specs.Cut.{cut_of, text_in, behind_layout, rest_in, is_text,
 use Rattle.op_token.specs.Walk.{walked, has_ended}
 use Rattle.op_token.proofs.Cutting as cutting
 use Rattle.op_session.specs.Session.{commands_in, last_text}
-use Rattle.op_session.specs.Behind.{commands_from, rest_texts}
+use Rattle.op_session.specs.inner.Behind.{commands_from, rest_texts}
 use Rattle.op_session.specs.Promise.{followed_texts, has_behind}
-use Rattle.op_session.specs.Progress.{Cuts}
+use Rattle.op_session.specs.inner.Progress.{Cuts}
 
 -- a byte more either ends a text or doesn't
 pub one_more : (p : List ℕ) (b : ℕ) → IsOpen p → IsOpen (p ++ b ∷ []) ⊎ IsFollowed (p ++ b ∷ [])

@@ -10,8 +10,9 @@ use Rattle.op_session.specs.declared.status.Status.{Status}
 use Rattle.op_session.specs.Line.{event_line}
 use Rattle.op_session.specs.Moves.{Stand}
 use Rattle.op_session.specs.Session.{answer_to}
-use Rattle.op_session.specs.Sight.{Sight, SaysAll, SaysFront}
-use Rattle.op_session.specs.Feeding.{Feeds}
+use Rattle.op_session.specs.Sight.{Sight}
+use Rattle.op_session.specs.inner.Steps.{SaysAll, SaysFront}
+use Rattle.op_session.specs.inner.Feeding.{Feeds}
 
 -- the answer to `next`
 abbrev pub text_of : Table → Next → Event → List ℕ

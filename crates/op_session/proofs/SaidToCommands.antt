@@ -4,11 +4,11 @@ use Rattle.std.proofs.lemmas.List.{append-nil, take-append-drop, take_at}
 use Rattle.op_session.specs.Traced.{Traced}
 use Rattle.op_token.specs.Cut.{cut_of, text_in, rest_in, IsOpen, IsFollowed}
 use Rattle.op_session.specs.Moves.{Stand, at_start}
-use Rattle.op_session.specs.Session.{answer_to, answers_from, stand_after, joined, commands_in, session_text}
-use Rattle.op_session.specs.Behind.{commands_from, rest_texts}
-use Rattle.op_session.specs.Promise.{followed_texts, front, answered_text, IsPrefix}
-use Rattle.op_session.specs.Progress.{Cuts, said_to}
-use Rattle.op_session.proofs.Texts.{followed_none, followed_one, commands_more, commands_text, commands_rest, commands_are, fuel}
+use Rattle.op_session.specs.Session.{answer_to, answers_from, stand_after, joined, said_to, commands_in, session_text}
+use Rattle.op_session.specs.inner.Behind.{commands_from, rest_texts}
+use Rattle.op_session.specs.Promise.{followed_texts, taken_whole, all_but_last, IsPrefix}
+use Rattle.op_session.specs.inner.Progress.{Cuts}
+use Rattle.op_session.proofs.CommandTexts.{followed_none, followed_one, commands_more, commands_text, commands_rest, commands_are, fuel}
 
 pub joined_more : (xs ys : List (List ℕ)) → joined (xs ++ ys) ≡ joined xs ++ joined ys
 joined_more [] ys = refl
@@ -47,47 +47,59 @@ prefix_self xs = ([], sym (append-nil xs))
 pub said_prefix : (traced : Traced) (cs ds : List (List ℕ)) → IsPrefix (said_to traced cs) (said_to traced (cs ++ ds))
 said_prefix traced cs ds = (joined (answers_from traced (stand_at traced cs) ds), said_more traced cs ds)
 
-pub front_prefix : (traced : Traced) (cs : List (List ℕ)) → IsPrefix (said_to traced (front cs)) (said_to traced cs)
-front_prefix traced cs = subst (λ ds. IsPrefix (said_to traced (front cs)) (said_to traced ds)) (take-append-drop (length cs - 1) cs) (said_prefix traced (front cs) (drop (length cs - 1) cs))
+pub front_prefix : (traced : Traced) (cs : List (List ℕ)) → IsPrefix (said_to traced (all_but_last cs)) (said_to traced cs)
+front_prefix traced cs =
+    subst (λ ds. IsPrefix (said_to traced (all_but_last cs)) (said_to traced ds)) (take-append-drop (length cs - 1) cs)
+    (said_prefix traced (all_but_last cs) (drop (length cs - 1) cs))
 
-pub front_one : (cs : List (List ℕ)) (t : List ℕ) → front (cs ++ t ∷ []) ≡ cs
+pub front_one : (cs : List (List ℕ)) (t : List ℕ) → all_but_last (cs ++ t ∷ []) ≡ cs
 front_one cs t =
     let n : length cs ≡ length (cs ++ t ∷ []) - 1 = omega (arith, length-append cs (t ∷ [])) in
     subst (λ n. take n (cs ++ t ∷ []) ≡ cs) n (take_at cs (t ∷ []) (length cs) refl)
 
--- of the texts that were taken with a byte behind them, all but the last are among those that were passed
-pub enough_open : (traced : Traced) (passed : List (List ℕ)) (taken p : List ℕ) → Cuts passed taken p → IsOpen p → IsPrefix (answered_text traced taken) (said_to traced passed)
-enough_open traced passed taken p c o =
+-- the texts that were taken with a byte behind them are those that were passed
+pub whole_open : (passed : List (List ℕ)) (taken p : List ℕ) → Cuts passed taken p → IsOpen p → taken_whole taken ≡ passed
+whole_open passed taken p c o =
     let f = fuel passed taken p [] c in
     let all : length taken ≡ length passed + f.more = ap length (sym (append-nil taken)) ∙ f.all in
-    let e : followed_texts (length taken) taken ≡ passed =
     ap (λ n. followed_texts n taken) all
     ∙ ap (λ s. followed_texts (length passed + f.more) s) (sym (append-nil taken))
     ∙ c.followed f.more []
     ∙ ap (λ s. passed ++ followed_texts f.more s) (append-nil p)
     ∙ ap (λ ts. passed ++ ts) (followed_none f.more p o)
-    ∙ append-nil passed in
-    subst (λ cs. IsPrefix (said_to traced (front cs)) (said_to traced passed)) (sym e) (front_prefix traced passed)
+    ∙ append-nil passed
+
+pub enough_open : (traced : Traced) (passed : List (List ℕ)) (taken p : List ℕ) → Cuts passed taken p → IsOpen p
+    → IsPrefix (said_to traced (all_but_last (taken_whole taken))) (said_to traced passed)
+enough_open traced passed taken p c o =
+    subst (λ cs. IsPrefix (said_to traced (all_but_last cs)) (said_to traced passed)) (sym (whole_open passed taken p c o)) (front_prefix traced passed)
 
 some_more : (m : ℕ) → 0 < m → (k : ℕ) × (m ≡ suc k)
 some_more zero h = absurd (omega arith)
 some_more (suc k) h = (k, refl)
 
-pub enough_followed : (traced : Traced) (passed : List (List ℕ)) (taken p : List ℕ) → Cuts passed taken p → IsFollowed p → IsOpen (rest_in (cut_of p) p) → 2 ≤ length p → IsPrefix (answered_text traced taken) (said_to traced passed)
-enough_followed traced passed taken p c f o two =
+-- and one more, where it was not passed yet
+pub whole_followed : (passed : List (List ℕ)) (taken p : List ℕ) → Cuts passed taken p → IsFollowed p → IsOpen (rest_in (cut_of p) p) → 2 ≤ length p
+    → taken_whole taken ≡ passed ++ text_in (cut_of p) p ∷ []
+whole_followed passed taken p c f o two =
     let u = fuel passed taken p [] c in
     let enough = u.enough in
     let k = some_more u.more (omega arith) in
     let t = text_in (cut_of p) p in
     let all : length taken ≡ length passed + suc k.0 = ap length (sym (append-nil taken)) ∙ u.all ∙ ap (λ m. length passed + m) k.1 in
-    let e : followed_texts (length taken) taken ≡ passed ++ t ∷ [] =
     ap (λ n. followed_texts n taken) all
     ∙ ap (λ s. followed_texts (length passed + suc k.0) s) (sym (append-nil taken))
     ∙ c.followed (suc k.0) []
     ∙ ap (λ ts. passed ++ ts) (followed_one k.0 p [] f)
     ∙ ap (λ s. passed ++ t ∷ followed_texts k.0 s) (append-nil (rest_in (cut_of p) p))
-    ∙ ap (λ ts. passed ++ t ∷ ts) (followed_none k.0 (rest_in (cut_of p) p) o) in
-    subst (λ cs. IsPrefix (said_to traced (front cs)) (said_to traced passed)) (sym e) (subst (λ cs. IsPrefix (said_to traced cs) (said_to traced passed)) (sym (front_one passed t)) (prefix_self (said_to traced passed)))
+    ∙ ap (λ ts. passed ++ t ∷ ts) (followed_none k.0 (rest_in (cut_of p) p) o)
+
+pub enough_followed : (traced : Traced) (passed : List (List ℕ)) (taken p : List ℕ) → Cuts passed taken p → IsFollowed p → IsOpen (rest_in (cut_of p) p)
+    → 2 ≤ length p → IsPrefix (said_to traced (all_but_last (taken_whole taken))) (said_to traced passed)
+enough_followed traced passed taken p c f o two =
+    let t = text_in (cut_of p) p in
+    subst (λ cs. IsPrefix (said_to traced (all_but_last cs)) (said_to traced passed)) (sym (whole_followed passed taken p c f o two))
+    (subst (λ cs. IsPrefix (said_to traced cs) (said_to traced passed)) (sym (front_one passed t)) (prefix_self (said_to traced passed)))
 
 -- all that is to be said, behind what was said
 pub session_more : (traced : Traced) (passed : List (List ℕ)) (taken p r : List ℕ) (m : ℕ) → Cuts passed taken p → length (taken ++ r) ≡ length passed + m → session_text traced (taken ++ r) ≡ said_to traced (passed ++ commands_from m (p ++ r))

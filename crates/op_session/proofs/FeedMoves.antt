@@ -5,7 +5,7 @@ use Rattle.std.proofs.lemmas.Bool.Decides.{nat_tests}
 use Rattle.op_term.specs.Ops.{Table}
 use Rattle.op_store.specs.Stored.{Stored}
 use Rattle.op_session.specs.Traced.{Traced}
-use Rattle.op_session.specs.Reader.{IsReader}
+use Rattle.op_session.specs.inner.Reader.{IsReader}
 use Rattle.op_trace.specs.World.{World, Event, loaded}
 use Rattle.op_trace.specs.Run.{Run, events_of, worlds_of, steps_at}
 use Rattle.op_trace.specs.Ending as ending
@@ -16,7 +16,7 @@ use Rattle.op_session.specs.declared.feed.Feed.{Feed}
 use Rattle.op_session.specs.Line.{event_line}
 use Rattle.op_session.specs.Moves.{Stand, At, next_from, moved, event_count, end_found}
 use Rattle.op_session.specs.Session.{line_at}
-use Rattle.op_session.specs.Feeding.{AtEnd, Feeds, ShowsEvent, ShowsEnd, Shows, Arrives, ArrivesAt, Finds, IsHere, next_of}
+use Rattle.op_session.specs.inner.Feeding.{AtEnd, Feeds, ShowsEvent, ShowsEnd, Shows, Arrives, ArrivesAt, Finds, IsHere, next_of}
 
 -- where a list goes on
 pub record GoesOn {X : Type 0} (xs : List X) (p : ℕ) (x : X) (ys : List X) : Type 0 where

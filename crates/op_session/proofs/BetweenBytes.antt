@@ -1,5 +1,5 @@
 -- A session between two bytes of its commands.
-use Rattle.std.proofs.Common.{◌≡◌, ℕ, suc, ◌-◌, ◌≤◌, List, [], ◌∷◌, ◌++◌, length, take, get_or, Some, None, ◌⊎◌, inl, inr, refl, sym, ap, ◌∙◌, subst, arith, append_assoc, length-append}
+use Rattle.std.proofs.Common.{◌≡◌, ℕ, suc, ◌-◌, ◌<◌, ◌≤◌, List, [], ◌∷◌, ◌++◌, length, take, get_or, Some, None, ◌⊎◌, inl, inr, refl, sym, ap, ◌∙◌, subst, arith, append_assoc, length-append}
 use Rattle.std.proofs.lemmas.List.{append-nil, get_or_default}
 use Rattle.std.specs.Io.KnownBytes.{Appends, Consumes}
 use Rattle.op_desk.specs.Contents.{Known}
@@ -9,16 +9,17 @@ use Rattle.op_token.proofs.Cutting as cutting
 use Rattle.op_session.specs.declared.feed.Feed.{Feed}
 use Rattle.op_session.specs.declared.status.Status.{Status}
 use Rattle.op_session.specs.declared.status.Status.TheVariants as status
-use Rattle.op_session.specs.Call.{Session}
+use Rattle.op_session.specs.Call.{channel_limit}
 use Rattle.op_session.specs.Moves.{at_start}
-use Rattle.op_session.specs.Session.{answer_to, session_text}
-use Rattle.op_session.specs.Promise.{WhenTold, BrokenAs, IsPrefix, limit_line, answered_text, CountsAs}
-use Rattle.op_session.specs.Sight.{Sight, Quiet, Calm, Fault, TakesByte, TakesNothing, SaysFront}
-use Rattle.op_session.specs.Feeding.{Feeds}
-use Rattle.op_session.specs.Giving.{GivesAll}
-use Rattle.op_session.specs.Progress.{Holds, BreaksOff, said_to}
-use Rattle.op_session.proofs.Texts.{one_more, followed_length, cuts_start, cuts_byte, cuts_text}
-use Rattle.op_session.proofs.Saying.{stand_at, said_one, stand_more, enough_open, enough_followed, front_so_far, front_of_answer, prefix_longer}
+use Rattle.op_session.specs.Session.{answer_to, said_to, session_text}
+use Rattle.op_session.specs.Promise.{WhenTold, IsPrefix, taken_whole, all_but_last, Met, InTaking, InAnswering, IsMet, IsCount, Answered, line_met, BrokenOff, CountsAs}
+use Rattle.op_session.specs.Sight.{Sight}
+use Rattle.op_session.specs.inner.Steps.{Quiet, Calm, Fault, TakesByte, TakesNothing, SaysFront}
+use Rattle.op_session.specs.inner.Feeding.{Feeds}
+use Rattle.op_session.specs.inner.Giving.{GivesAll}
+use Rattle.op_session.specs.inner.Progress.{Holds, BreaksOff}
+use Rattle.op_session.proofs.CommandTexts.{one_more, followed_length, cuts_start, cuts_byte, cuts_text}
+use Rattle.op_session.proofs.SaidToCommands.{stand_at, said_one, stand_more, whole_open, enough_open, enough_followed, front_so_far, front_of_answer, prefix_longer}
 
 pub consumes_more : (a b c : Known) (xs ys : List ℕ) → Consumes a b xs → Consumes b c ys → Consumes a c (xs ++ ys)
 consumes_more None b c xs ys p q = tt
@@ -117,24 +118,48 @@ holds_text traced a b c d n before after paid byte p feed new h t f o g =
     }
 
 -- what a session that was broken off leaves, where the commands are told
-pub left_broken : (traced : Traced) (commands left talk said : Known) (taken w : List ℕ) → Consumes commands left taken → Appends talk said w
-    → ((rest : List ℕ) → IsPrefix w (session_text traced (taken ++ rest))) → IsPrefix (answered_text traced taken) w
-    → WhenTold commands (λ bytes. BrokenAs (Session traced) bytes talk said left)
-left_broken traced None left talk said taken w c t front enough = tt
-left_broken traced (Some bytes) None talk said taken w c t front enough = absurd c
-left_broken traced (Some bytes) (Some rest) talk said taken w c t front enough =
-    (taken, rest, w, [], record { taken_is = c; front = subst (λ bytes. IsPrefix w (session_text traced bytes)) (sym c) (front rest); enough = enough }, (limit_line taken, refl), subst (Appends talk said) (sym (append-nil w)) t, refl)
+pub left_broken : (traced : Traced) (s : Status) (m : Met) (commands left talk said : Known) (taken answers line : List ℕ) → IsMet m s → IsCount m (length taken)
+    → Consumes commands left taken → Appends talk said (answers ++ line)
+    → ((rest : List ℕ) → left ≡ Some rest → IsPrefix answers (session_text traced (taken ++ rest)))
+    → Answered m traced (taken_whole taken) answers → IsPrefix line (line_met m)
+    → WhenTold commands (λ bytes. BrokenOff traced s bytes talk said left)
+left_broken traced s m None left talk said taken answers line i n c w front enough l = tt
+left_broken traced s m (Some bytes) None talk said taken answers line i n c w front enough l = absurd c
+left_broken traced s m (Some bytes) (Some rest) talk said taken answers line i n c w front enough l = record {
+  met = m;
+  taken = taken;
+  rest = rest;
+  answers = answers;
+  line = line;
+  is_met = i;
+  bytes_are = c;
+  left = refl;
+  count = n;
+  front = subst (λ bytes. IsPrefix answers (session_text traced bytes)) (sym c) (front rest refl);
+  answered = enough;
+  line_front = l;
+  written = w;
+}
+
+-- nothing stands behind the answers
+pub no_line : (talk said : Known) (answers : List ℕ) → Appends talk said answers → Appends talk said (answers ++ [])
+no_line talk said answers = subst (Appends talk said) (sym (append-nil answers))
 
 -- a byte could not be taken
-pub breaks_take : (traced : Traced) (s : Status) (a b c : Sight) (n before after : ℕ) (p : List ℕ) (feed : Feed) → Holds traced a b n before after p feed → TakesNothing s b c → BreaksOff traced s a c
-breaks_take traced s a b c n before after p feed h t = record {
-  fault = fault_more s a b c h.calm t.fault;
-  left = left_broken traced a.commands c.commands a.talk c.talk h.taken (said_to traced h.passed)
-      (subst (λ k. Consumes a.commands k h.taken) (sym t.commands) h.commands)
-      (subst (λ k. Appends a.talk k (said_to traced h.passed)) (sym t.talk) h.talk)
-      (λ rest. front_so_far traced h.passed h.taken p rest h.cuts)
-      (enough_open traced h.passed h.taken p h.cuts h.unended);
-}
+pub breaks_take : (traced : Traced) (s : Status) (a b c : Sight) (n before after : ℕ) (p : List ℕ) (feed : Feed) → n < channel_limit
+    → Holds traced a b n before after p feed → TakesNothing s b c → BreaksOff traced s a c
+breaks_take traced s a b c n before after p feed short h t =
+    let answers = said_to traced h.passed in
+    record {
+      fault = fault_more s a b c h.calm t.fault;
+      left = left_broken traced s InTaking a.commands c.commands a.talk c.talk h.taken answers [] t.unread
+          (subst (λ n. n < channel_limit) (sym h.count) short)
+          (subst (λ k. Consumes a.commands k h.taken) (sym t.commands) h.commands)
+          (no_line a.talk c.talk answers (subst (λ k. Appends a.talk k answers) (sym t.talk) h.talk))
+          (λ rest e. front_so_far traced h.passed h.taken p rest h.cuts)
+          (ap (said_to traced) (sym (whole_open h.passed h.taken p h.cuts h.unended)))
+          ([], refl);
+    }
 
 -- behind a text that ended no other has
 pub rest_open : (q : List ℕ) → IsFollowed q → IsOpen (rest_in (cut_of q) q)
@@ -148,21 +173,29 @@ rest_open q f = by (last_of q (followed_length q f))
         let two = followed_length q f in
         cutting.rest_open q l.0 (length q - 1) f (omega arith) l.1
 
+-- one byte more may be taken
+pub count_byte : (n : ℕ) (taken : List ℕ) (byte : ℕ) → length taken ≡ n → n < channel_limit → length (taken ++ byte ∷ []) ≤ channel_limit
+count_byte n taken byte e h = let l = length-append taken (byte ∷ []) in omega arith
+
 -- a byte could not be kept
-pub breaks_push : (traced : Traced) (a b c : Sight) (n before after byte : ℕ) (p : List ℕ) (feed : Feed) → Holds traced a b n before after p feed → TakesByte b c byte → BreaksOff traced status.Memory a c
-breaks_push traced a b c n before after byte p feed h t =
+pub breaks_push : (traced : Traced) (a b c : Sight) (n before after byte : ℕ) (p : List ℕ) (feed : Feed) → n < channel_limit
+    → Holds traced a b n before after p feed → TakesByte b c byte → BreaksOff traced status.Memory a c
+breaks_push traced a b c n before after byte p feed short h t =
     let q = p ++ byte ∷ [] in
     let taken = h.taken ++ byte ∷ [] in
+    let answers = said_to traced h.passed in
     let cuts = cuts_byte h.passed h.taken p byte h.cuts in
-    let ended : IsFollowed q → IsPrefix (answered_text traced taken) (said_to traced h.passed) =
+    let ended : IsFollowed q → IsPrefix (said_to traced (all_but_last (taken_whole taken))) answers =
     λ f. enough_followed traced h.passed taken q cuts f (rest_open q f) (followed_length q f) in
     record {
       fault = fault_more status.Memory a c c (calm_more a b c h.calm t.calm) (memory_fault c);
-      left = left_broken traced a.commands c.commands a.talk c.talk taken (said_to traced h.passed)
+      left = left_broken traced status.Memory InAnswering a.commands c.commands a.talk c.talk taken answers [] tt
+          (count_byte n h.taken byte h.count short)
           (consumes_more a.commands b.commands c.commands h.taken (byte ∷ []) h.commands t.front)
-          (subst (λ k. Appends a.talk k (said_to traced h.passed)) (sym t.talk) h.talk)
-          (λ rest. front_so_far traced h.passed taken q rest cuts)
-          (either (one_more p byte h.unended) (λ o. enough_open traced h.passed taken q cuts o) ended);
+          (no_line a.talk c.talk answers (subst (λ k. Appends a.talk k answers) (sym t.talk) h.talk))
+          (λ rest e. front_so_far traced h.passed taken q rest cuts)
+          (either (one_more p byte h.unended) (λ o. enough_open traced h.passed taken q cuts o) ended)
+          ([], refl);
     }
   where
     either : {A B C : Type 0} → A ⊎ B → (A → C) → (B → C) → C
@@ -170,22 +203,29 @@ breaks_push traced a b c n before after byte p feed h t =
     either (inr b) f g = g b
 
 -- an answer could not be written
-pub breaks_say : (traced : Traced) (s : Status) (a b c d : Sight) (n before after byte : ℕ) (p : List ℕ) (feed : Feed) (h : Holds traced a b n before after p feed) → TakesByte b c byte → IsFollowed (p ++ byte ∷ [])
+pub breaks_say : (traced : Traced) (s : Status) (a b c d : Sight) (n before after byte : ℕ) (p : List ℕ) (feed : Feed) → n < channel_limit
+    → (h : Holds traced a b n before after p feed) → TakesByte b c byte → IsFollowed (p ++ byte ∷ [])
     → SaysFront s c d (answer_to traced (stand_at traced h.passed) (text_in (cut_of (p ++ byte ∷ [])) (p ++ byte ∷ []))).text
     → BreaksOff traced s a d
-breaks_say traced s a b c d n before after byte p feed h t f g =
+breaks_say traced s a b c d n before after byte p feed short h t f g =
     let q = p ++ byte ∷ [] in
     let taken = h.taken ++ byte ∷ [] in
     let cuts = cuts_byte h.passed h.taken p byte h.cuts in
     let text = (answer_to traced (stand_at traced h.passed) (text_in (cut_of q) q)).text in
-    let w = said_to traced h.passed ++ take g.talk.count text in
+    let said = said_to traced h.passed in
+    let front = take g.talk.count text in
     record {
       fault = fault_more s a c d (calm_more a b c h.calm t.calm) g.fault;
-      left = left_broken traced a.commands d.commands a.talk d.talk taken w
-          (subst (λ k. Consumes a.commands k taken) (sym g.commands) (consumes_more a.commands b.commands c.commands h.taken (byte ∷ []) h.commands t.front))
-          (appends_more a.talk c.talk d.talk (said_to traced h.passed) (take g.talk.count text) (subst (λ k. Appends a.talk k (said_to traced h.passed)) (sym t.talk) h.talk) g.talk.front)
-          (λ rest. front_of_answer traced h.passed taken q rest g.talk.count cuts f (followed_length q f))
-          (prefix_longer (answered_text traced taken) (said_to traced h.passed) (take g.talk.count text) (enough_followed traced h.passed taken q cuts f (rest_open q f) (followed_length q f)));
+      left = left_broken traced s InAnswering a.commands d.commands a.talk d.talk taken (said ++ front) [] g.unwritten
+          (count_byte n h.taken byte h.count short)
+          (subst (λ k. Consumes a.commands k taken) (sym g.commands)
+          (consumes_more a.commands b.commands c.commands h.taken (byte ∷ []) h.commands t.front))
+          (no_line a.talk d.talk (said ++ front)
+          (appends_more a.talk c.talk d.talk said front (subst (λ k. Appends a.talk k said) (sym t.talk) h.talk) g.talk.front))
+          (λ rest e. front_of_answer traced h.passed taken q rest g.talk.count cuts f (followed_length q f))
+          (prefix_longer (said_to traced (all_but_last (taken_whole taken))) said front
+          (enough_followed traced h.passed taken q cuts f (rest_open q f) (followed_length q f)))
+          ([], refl);
     }
 
 -- the same, as a session meets it
@@ -203,10 +243,11 @@ goes_text traced a b c d n before after paid byte p q text rest feed new h t e f
     (holds_text traced a b c d n before after paid byte p feed new h t (subst IsFollowed e f) (subst IsOpen z o)
     (subst (λ t. GivesAll traced (stand_at traced h.passed) t feed new after paid c d) (et ∙ ap (λ q. text_in (cut_of q) q) e) g))
 
-pub stops_text : (traced : Traced) (s : Status) (a b c d : Sight) (n before after byte : ℕ) (p q text : List ℕ) (feed : Feed) (h : Holds traced a b n before after p feed) → TakesByte b c byte
+pub stops_text : (traced : Traced) (s : Status) (a b c d : Sight) (n before after byte : ℕ) (p q text : List ℕ) (feed : Feed) → n < channel_limit
+    → (h : Holds traced a b n before after p feed) → TakesByte b c byte
     → q ≡ p ++ byte ∷ [] → IsFollowed q → text ≡ text_in (cut_of q) q
     → SaysFront s c d (answer_to traced (stand_at traced h.passed) text).text
     → BreaksOff traced s a d
-stops_text traced s a b c d n before after byte p q text feed h t e f et g =
-    breaks_say traced s a b c d n before after byte p feed h t (subst IsFollowed e f)
+stops_text traced s a b c d n before after byte p q text feed short h t e f et g =
+    breaks_say traced s a b c d n before after byte p feed short h t (subst IsFollowed e f)
     (subst (λ t. SaysFront s c d (answer_to traced (stand_at traced h.passed) t).text) (et ∙ ap (λ q. text_in (cut_of q) q) e) g)

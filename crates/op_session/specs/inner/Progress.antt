@@ -1,4 +1,4 @@
--- What holds of a session between two bytes of its commands, and what it leaves behind.
+-- What holds of a session between two bytes of its commands, and what a call leaves behind.
 use Rattle.std.specs.Prelude.{◌≡◌, ℕ, ◌+◌, ◌≤◌, suc, List, ◌++◌, length, Option, Some, IsTrue, Result, Ok, Err, Bool, true, false}
 use Rattle.std.specs.Io.KnownBytes.{Appends, Consumes, IsAtEnd}
 use Rattle.op_session.specs.Traced.{Traced}
@@ -6,12 +6,13 @@ use Rattle.op_token.specs.Cut.{texts, behind_texts, IsOpen}
 use Rattle.op_session.specs.declared.feed.Feed.{Feed}
 use Rattle.op_session.specs.declared.status.Status.{Status}
 use Rattle.op_session.specs.declared.status.Status.TheVariants as status
-use Rattle.op_session.specs.Call.{Outcome, Line, Session}
+use Rattle.op_session.specs.Call.{Outcome, Session}
 use Rattle.op_session.specs.Moves.{at_start}
-use Rattle.op_session.specs.Session.{answers_from, stand_after, joined}
-use Rattle.op_session.specs.Promise.{WhenTold, DoneAs, CostsAs, BrokenAs, TooLongAs, RefusedAs, CountsAs, IsBroken, IsRefused, IsFaultless, HasFile, followed_texts}
-use Rattle.op_session.specs.Sight.{Sight, Calm, Fault}
-use Rattle.op_session.specs.Feeding.{Feeds}
+use Rattle.op_session.specs.Session.{stand_after, said_to}
+use Rattle.op_session.specs.Promise.{WhenTold, DoneAs, CostsAs, LoadAs, TooLongAs, BrokenOff, BrokenAs, CountsAs, IsBroken, IsRefused, IsFaultless, HasFile, followed_texts}
+use Rattle.op_session.specs.Sight.{Sight}
+use Rattle.op_session.specs.inner.Steps.{Calm, Fault}
+use Rattle.op_session.specs.inner.Feeding.{Feeds}
 
 -- these texts were cut from the bytes that were taken, and p is what is left of them, whatever comes behind
 pub record Cuts (passed : List (List ℕ)) (taken p : List ℕ) : Type 0 where
@@ -19,10 +20,6 @@ pub record Cuts (passed : List (List ℕ)) (taken p : List ℕ) : Type 0 where
   pub behind : (n : ℕ) (r : List ℕ) → behind_texts (length passed + n) (taken ++ r) ≡ behind_texts n (p ++ r)
   pub followed : (n : ℕ) (r : List ℕ) → followed_texts (length passed + n) (taken ++ r) ≡ passed ++ followed_texts n (p ++ r)
   pub short : length passed + length p ≤ length taken
-
--- what was said so far: the answers to these texts
-abbrev pub said_to : Traced → List (List ℕ) → List ℕ
-said_to traced passed = joined (answers_from traced at_start passed)
 
 -- n bytes were taken, and the texts among them were answered; since the start the desk has come from a to b, and the steps from
 -- before to after
@@ -38,19 +35,16 @@ pub record Holds (traced : Traced) (a b : Sight) (n before after : ℕ) (p : Lis
   pub cost : after ≡ before + feed.machine.steps
   pub calm : Calm a b
 
--- the words were refused
-abbrev pub IsUsage : Outcome → Type 0
-IsUsage (Line status.Usage text) = Unit {0}
-IsUsage o = ⊥
-
 -- the promises of a call whose outcome may be told
 pub record Leaves (o : Option Outcome) (s : Status) (a b : Sight) (before after : ℕ) : Type 0 where
-  pub done : s ≡ status.Done → WhenTold o (λ x. WhenTold a.commands (λ bytes. DoneAs x bytes a.talk b.talk b.commands))
-  pub cost : s ≡ status.Done → WhenTold o (λ x. WhenTold a.commands (λ bytes. CostsAs x bytes before after))
-  pub refused : IsRefused s → WhenTold o (λ x. WhenTold a.commands (λ bytes. RefusedAs x s bytes a.talk b.talk b.commands))
-  pub too_long : s ≡ status.TooLong → WhenTold o (λ x. WhenTold a.commands (λ bytes. TooLongAs x bytes a.talk b.talk b.commands))
-  pub broken : IsBroken s → WhenTold o (λ x. WhenTold a.commands (λ bytes. BrokenAs x bytes a.talk b.talk b.commands))
-  pub usage : s ≡ status.Usage → WhenTold o IsUsage
+  pub done : s ≡ status.Done → WhenTold o (λ x. DoneAs x a b)
+  pub cost : s ≡ status.Done → WhenTold o (λ x. CostsAs x a before after)
+  pub load : s ≡ status.Load → WhenTold o (λ x. LoadAs x a b)
+  pub too_long : s ≡ status.TooLong → WhenTold o (λ x. TooLongAs x a b)
+  pub broken : IsBroken s → WhenTold o (λ x. BrokenAs x s a b)
+  pub untaken : IsRefused s → b.commands ≡ a.commands
+  pub unpaid : IsRefused s → after ≡ before
+  pub usage : s ≡ status.Usage → ⊥
   pub different : s ≡ status.Different → ⊥
   pub counts : CountsAs s a.reads b.reads a.writes b.writes
   pub input : b.input ≡ a.input
@@ -65,7 +59,7 @@ IsOutcome o x = WhenTold o (λ y. y ≡ x)
 -- a session that was broken off by this status
 pub record BreaksOff (traced : Traced) (s : Status) (a b : Sight) : Type 0 where
   pub fault : Fault s a b
-  pub left : WhenTold a.commands (λ bytes. BrokenAs (Session traced) bytes a.talk b.talk b.commands)
+  pub left : WhenTold a.commands (λ bytes. BrokenOff traced s bytes a.talk b.talk b.commands)
 
 -- a byte was taken and answered, or no more is there, or the session was broken off
 abbrev pub Goes : Traced → Sight → ℕ → ℕ → Sight → ℕ → List ℕ → Feed → Result Bool Status → Type 0

@@ -9,7 +9,7 @@ use Rattle.op_session.specs.declared.status.Status.TheVariants as status
 use Rattle.op_session.specs.Words.{fault_words, load_line}
 use Rattle.op_session.specs.Call.{Outcome, Line}
 use Rattle.op_session.specs.Sight.{Sight}
-use Rattle.op_session.specs.Progress.{Leaves}
+use Rattle.op_session.specs.inner.Progress.{Leaves}
 
 -- its line; nothing for want of memory
 abbrev pub Refuses : List Text → List ℕ → LoadFault → Status → Sight → Sight → Type 0

@@ -14,7 +14,7 @@ use Rattle.op_store.specs.Queries.{fault_named, IsKnownFault, IsSoundLoadFault, 
 use Rattle.op_store.specs.Stored.{Stored, world_of}
 use Rattle.op_store.specs.declared.load_fault.LoadFault.{LoadFault}
 use Rattle.op_store.specs.declared.load_fault.LoadFault.TheVariants as load_faults
-use Rattle.op_session.specs.Refusing.{Refuses}
+use Rattle.op_session.specs.inner.Refusing.{Refuses}
 use Rattle.op_store.specs.declared.load_fault.LoadFaultKind.{LoadFaultKind}
 use Rattle.op_store.specs.declared.load_fault.LoadFaultKind.TheVariants as kinds
 use Rattle.op_logic.specs.Term.{Term}
@@ -28,11 +28,12 @@ use Rattle.op_session.specs.declared.status.Status.{Status}
 use Rattle.op_session.specs.declared.status.Status.TheVariants as status
 use Rattle.op_session.specs.Words.{fault_words, load_line}
 use Rattle.op_session.specs.Runnable.{is_runnable, are_runnable}
-use Rattle.op_session.specs.Call.{Outcome, Line, Session, file_limit, first_world, traced_of, unrunnable, goal_name, with_bytes, with_loaded, with_world, with_goal, with_query, outcome_of, long_line}
-use Rattle.op_session.specs.Promise.{WhenTold, IsBroken, IsRefused, IsFaultless, IsWordsRefusal, HasFile, DoneAs, CostsAs, RefusedAs, TooLongAs, BrokenAs}
-use Rattle.op_session.proofs.Leaving.{retell, leaves_usage, leaves_memory, leaves_load}
-use Rattle.op_session.specs.Progress.{Leaves, IsOutcome}
-use Rattle.op_session.specs.Sight.{Sight, Says, Unread, Untouched, ended_as}
+use Rattle.op_session.specs.Call.{Outcome, Line, Session, file_limit, first_world, traced_of, unrunnable, goal_name, with_bytes, with_loaded, with_world, with_goal, with_query, outcome_of, long_line, usage_line}
+use Rattle.op_session.specs.Promise.{WhenTold, IsBroken, IsFaultless, HasFile, DoneAs, CostsAs, LoadAs, TooLongAs, BrokenAs, WordsRefusedAs}
+use Rattle.op_session.proofs.CallEnds.{leaves_memory, leaves_load}
+use Rattle.op_session.specs.inner.Progress.{Leaves, IsOutcome}
+use Rattle.op_session.specs.Sight.{Sight}
+use Rattle.op_session.specs.inner.Steps.{Says, Unread, Untouched, ended_as}
 
 abbrev pub told_outcome : Option Files → List ℕ → List ℕ → Option Outcome
 told_outcome shelf name goal = option_map (λ files. outcome_of files (name ∷ goal ∷ [])) shelf
@@ -95,33 +96,8 @@ outcome_session w q e = ap (λ b. cond b (Session (traced_of 10000000 w q)) (unr
 pub outcome_no_session : (w : World) (q : Query) → false ≡ is_runnable w q.body → unrunnable goal_name ≡ with_query w q
 outcome_no_session w q e = ap (λ b. cond b (Session (traced_of 10000000 w q)) (unrunnable goal_name)) e
 
-pub no_usage_long : (a b : Sight) (line : List ℕ) (r : Result (Unit {0}) Status) → Says a b line r → ended_as status.TooLong r ≡ status.Usage → ⊥
-no_usage_long a b line (Ok x) g h = cc
-no_usage_long a b line (Err status.Write) g h = cc
-no_usage_long a b line (Err status.Memory) g h = cc
-no_usage_long a b line (Err s) g h = g.unwritten
-
-pub no_usage_unread : (name : List ℕ) (s : Status) (a b : Sight) → Unread name s a b → s ≡ status.Usage → ⊥
-no_usage_unread name status.Read a b u h = cc
-no_usage_unread name status.Memory a b u h = cc
-no_usage_unread name s a b u h = u.unread
-
-pub words_unwritten : (a b : Sight) (line : List ℕ) (r : Result (Unit {0}) Status) → Says a b line r → IsWordsRefusal (ended_as status.Usage r)
-words_unwritten a b line (Ok x) g = tt
-words_unwritten a b line (Err status.Write) g = tt
-words_unwritten a b line (Err status.Memory) g = tt
-words_unwritten a b line (Err s) g = absurd g.unwritten
-
--- what is told by the outcome is told by the shelf
-pub by_shelf : (shelf : Option Files) (f : Files → Outcome) (P : Outcome → Type 0) → WhenTold (option_map f shelf) P → WhenTold shelf (λ files. P (f files))
-by_shelf None f P h = tt
-by_shelf (Some files) f P h = h
-
 pub renamed : (x y : Outcome) (s : Status) (a b : Sight) (before after : ℕ) → x ≡ y → Leaves (Some x) s a b before after → Leaves (Some y) s a b before after
 renamed x y s a b before after e l = subst (λ x. Leaves (Some x) s a b before after) e l
-
-abbrev pub usage_line : List ℕ
-usage_line = codes "opium: usage words\n"
 
 outcome_words : (files : Files) (ws : List (List ℕ)) → (length ws ≡ 2 → ⊥) → Line status.Usage usage_line ≡ outcome_of files ws
 outcome_words files [] n = refl
@@ -129,39 +105,29 @@ outcome_words files (a ∷ []) n = refl
 outcome_words files (a ∷ b ∷ []) n = absurd (n refl)
 outcome_words files (a ∷ b ∷ c ∷ ws) n = refl
 
-abbrev pub outcome_by : Option Files → List (List ℕ) → Option Outcome
-outcome_by shelf ws = option_map (λ files. outcome_of files ws) shelf
+-- words that aren't two
+told_words : (shelf : Option Files) (ws : List (List ℕ)) (P : Outcome → Type 0) → (length ws ≡ 2 → ⊥) → P (Line status.Usage usage_line)
+    → WhenTold shelf (λ files. P (outcome_of files ws))
+told_words None ws P n p = tt
+told_words (Some files) ws P n p = subst P (outcome_words files ws n) p
 
-pub usage_leaves : (shelf : Option Files) (ws : List (List ℕ)) (s : Status) (a b : Sight) (n : ℕ) (r : Result (Unit {0}) Status) → s ≡ ended_as status.Usage r → (length ws ≡ 2 → ⊥) → Says a b usage_line r → Leaves (outcome_by shelf ws) s a b n n
-usage_leaves shelf ws s a b n r e w g = subst (λ s. Leaves (outcome_by shelf ws) s a b n n) (sym e) (retell (outcome_by shelf ws) (Line status.Usage usage_line) (ended_as status.Usage r) a b n n (is_told shelf) (leaves_usage usage_line a b n r g))
+pub words_refused : (a b : Sight) (r : Result (Unit {0}) Status) → Says a b usage_line r → WordsRefusedAs (ended_as status.Usage r) a b
+words_refused a b (Ok x) g = (g.talk, g.commands)
+words_refused a b (Err status.Write) g = (tt, g.talk, g.commands)
+words_refused a b (Err status.Memory) g = (tt, g.talk, g.commands)
+words_refused a b (Err s) g = absurd g.unwritten
+
+pub words_broken : (shelf : Option Files) (ws : List (List ℕ)) (s : Status) (a b : Sight) (r : Result (Unit {0}) Status) → s ≡ ended_as status.Usage r
+    → (length ws ≡ 2 → ⊥) → Says a b usage_line r → IsBroken s → WhenTold shelf (λ files. BrokenAs (outcome_of files ws) s a b)
+words_broken shelf ws s a b r e n g i =
+    subst (λ s. WhenTold shelf (λ files. BrokenAs (outcome_of files ws) s a b)) (sym e) (by r g (subst IsBroken e i))
   where
-    is_told : (shelf : Option Files) → IsOutcome (outcome_by shelf ws) (Line status.Usage usage_line)
-    is_told None = tt
-    is_told (Some files) = sym (outcome_words files ws w)
-
-pub told_done : (shelf : Option Files) (ws : List (List ℕ)) (s : Status) (a b : Sight) (n m : ℕ) → Leaves (outcome_by shelf ws) s a b n m → s ≡ status.Done → WhenTold shelf (λ files. WhenTold a.commands (λ bytes. DoneAs (outcome_of files ws) bytes a.talk b.talk b.commands))
-told_done None ws s a b n m l h = tt
-told_done (Some files) ws s a b n m l h = l.done h
-
-pub told_cost : (shelf : Option Files) (ws : List (List ℕ)) (s : Status) (a b : Sight) (n m : ℕ) → Leaves (outcome_by shelf ws) s a b n m → s ≡ status.Done → WhenTold shelf (λ files. WhenTold a.commands (λ bytes. CostsAs (outcome_of files ws) bytes n m))
-told_cost None ws s a b n m l h = tt
-told_cost (Some files) ws s a b n m l h = l.cost h
-
-pub told_refused : (shelf : Option Files) (ws : List (List ℕ)) (s : Status) (a b : Sight) (n m : ℕ) → Leaves (outcome_by shelf ws) s a b n m → IsRefused s → WhenTold shelf (λ files. WhenTold a.commands (λ bytes. RefusedAs (outcome_of files ws) s bytes a.talk b.talk b.commands))
-told_refused None ws s a b n m l h = tt
-told_refused (Some files) ws s a b n m l h = l.refused h
-
-pub told_too_long : (shelf : Option Files) (ws : List (List ℕ)) (s : Status) (a b : Sight) (n m : ℕ) → Leaves (outcome_by shelf ws) s a b n m → s ≡ status.TooLong → WhenTold shelf (λ files. WhenTold a.commands (λ bytes. TooLongAs (outcome_of files ws) bytes a.talk b.talk b.commands))
-told_too_long None ws s a b n m l h = tt
-told_too_long (Some files) ws s a b n m l h = l.too_long h
-
-pub told_broken : (shelf : Option Files) (ws : List (List ℕ)) (s : Status) (a b : Sight) (n m : ℕ) → Leaves (outcome_by shelf ws) s a b n m → IsBroken s → WhenTold shelf (λ files. WhenTold a.commands (λ bytes. BrokenAs (outcome_of files ws) bytes a.talk b.talk b.commands))
-told_broken None ws s a b n m l h = tt
-told_broken (Some files) ws s a b n m l h = l.broken h
-
-pub told_steady : (shelf : Option Files) (ws : List (List ℕ)) (s : Status) (a b : Sight) (n m : ℕ) → Leaves (outcome_by shelf ws) s a b n m → IsTrue a.steady → WhenTold shelf (λ files. HasFile (outcome_of files ws) → IsFaultless s)
-told_steady None ws s a b n m l h = tt
-told_steady (Some files) ws s a b n m l h = l.faultless h
+    by : (r : Result (Unit {0}) Status) → Says a b usage_line r → IsBroken (ended_as status.Usage r)
+        → WhenTold shelf (λ files. BrokenAs (outcome_of files ws) (ended_as status.Usage r) a b)
+    by (Ok x) g i = absurd i
+    by (Err status.Write) g i = told_words shelf ws (λ o. BrokenAs o status.Write a b) n (g.talk, g.commands)
+    by (Err status.Memory) g i = told_words shelf ws (λ o. BrokenAs o status.Memory a b) n (g.talk, g.commands)
+    by (Err s) g i = absurd g.unwritten
 
 -- what was said, by an equal line
 pub says_as : (a b : Sight) (x y : List ℕ) (r : Result (Unit {0}) Status) → x ≡ y → Says a b x r → Says a b y r

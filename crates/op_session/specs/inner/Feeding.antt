@@ -1,6 +1,6 @@
 -- What the feed of a run's events keeps.
 use Rattle.std.specs.Prelude.{◌≡◌, ◌+◌, ◌≤◌, true, [], ◌∷◌, drop, Option, Some, None}
-use Rattle.op_session.specs.Reader.{IsReader}
+use Rattle.op_session.specs.inner.Reader.{IsReader}
 use Rattle.op_trace.specs.World.{loaded}
 use Rattle.op_trace.specs.Run.{Run, events_of, worlds_of, steps_at}
 use Rattle.op_machine.specs.declared.core_state.Ending.{Ending}
