@@ -214,8 +214,8 @@ impl Core {
         requires there { rest < length self.old.continuations }
         requires goal { IsGoal (length self.old.store.names) self.old.bindings.terms goal }
         ensures choices { OnOk result (choice_points_in self.new
-            ≡ visit.Branch (goal_now self.old goal) barrier (bindings_now self.old) (items_now self.old rest) ∷ choice_points_in self.old)
-                }
+            ≡ visit.Branch (goal_now self.old goal) barrier (bindings_now self.old) (items_now self.old rest)
+            ∷ choice_points_in self.old) }
         ensures good { OnOk result (IsGood self.new) }
         ensures rest { self.new ≡ record self.old { frames = self.new.frames } }
         ensures boxes { self.new.frames.boxes ≡ self.old.frames.boxes }

@@ -5,7 +5,7 @@ ghost use Rattle.op_trace.specs.declared.barrier.Barrier.TheVariants.{InConditio
 ghost use Rattle.op_trace.specs.World.{Goal, Cut};
 ghost use Rattle.op_trace.specs.Visit.{IfThenElse, control_of_disjunction};
 ghost use Rattle.op_machine.specs.Meaning.{world_in, items_now, goal_now, bindings_now, choice_points_in};
-ghost use Rattle.op_machine.specs.inner.Invariant.{IsGood, IsGoal};
+ghost use Rattle.op_machine.specs.inner.Invariant.{IsGood, IsGoal, Fits};
 ghost use Rattle.op_machine.specs.Program.{goal_named};
 ghost use Rattle.op_machine.specs.Resume.{chosen, silent, Forward};
 ghost use Rattle.op_machine.specs.inner.Moves.{Keeps, Advances, branch_tried, disjunction_before, if_then_else_before, chosen_now};
@@ -23,12 +23,9 @@ impl Core {
     // A goal is selected.
     pub(crate) fn select(&mut self, goal: Ref, barrier: Barrier, rest: u64) -> Result<Step, Memory>
         requires good { IsGood self.old }
+        requires fits { Fits self.old }
         requires there { rest < length self.old.continuations }
         requires goal { IsGoal (length self.old.store.names) self.old.bindings.terms goal }
-        requires fits { self.old.events < 2 ^ 63 }
-        requires calls { self.old.calls < 2 ^ 63 }
-        requires conditions { self.old.conditions < 2 ^ 63 }
-        requires steps { self.old.steps ≤ self.old.budget }
         ensures advances { IfOk result (Advances self.old self.new (goal_moved self.old (goal_now self.old goal) barrier rest)) }
         ensures keeps { Keeps self.old self.new }
     {
@@ -41,11 +38,9 @@ impl Core {
     // A goal of which the step was paid.
     fn execute(&mut self, goal: Ref, barrier: Barrier, rest: u64) -> Result<Step, Memory>
         requires good { IsGood self.old }
+        requires fits { Fits self.old }
         requires there { rest < length self.old.continuations }
         requires goal { IsGoal (length self.old.store.names) self.old.bindings.terms goal }
-        requires fits { self.old.events < 2 ^ 63 }
-        requires calls { self.old.calls < 2 ^ 63 }
-        requires conditions { self.old.conditions < 2 ^ 63 }
         ensures advances { IfOk result (Advances self.old self.new
             (chosen_now self.old (goal_now self.old goal) barrier rest (world_in self.old))) }
         ensures keeps { Keeps self.old self.new }

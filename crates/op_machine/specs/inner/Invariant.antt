@@ -1,5 +1,5 @@
 -- What holds of a machine's parts between two moves.
-use Rattle.std.specs.Prelude.{◌≡◌, ℕ, ◌<◌, ◌≤◌, List, [], ◌∷◌, length, reverse, take, All}
+use Rattle.std.specs.Prelude.{◌≡◌, ℕ, ◌+◌, ◌^◌, ◌<◌, ◌≤◌, List, [], ◌∷◌, length, reverse, take, All}
 use Rattle.op_logic.specs.Term.{Term, var, atom}
 use Rattle.op_logic.specs.Names.{HasNames, HaveNames}
 use Rattle.op_term.specs.Places.{term_at}
@@ -96,6 +96,15 @@ pub record IsGood (c : Core) : Type 0 where
   pub failure : IsFailure (take c.floor.terms c.bindings.terms) c.failure
   pub boxes : AreBoxes c.frames.boxes c.calls c.continuations
   pub boxed : AreBoxed c.frames.boxes c.continuations c.calls (length c.continuations) (reverse c.frames.choices)
+
+-- no count is near its type's end, and the budget isn't passed
+pub record Fits (c : Core) : Type 0 where
+  pub steps : c.steps ≤ c.budget
+  pub events : c.events < 2 ^ 63
+  pub solutions : c.solutions < 2 ^ 63
+  pub calls : c.calls < 2 ^ 63
+  pub conditions : c.conditions < 2 ^ 63
+  pub turns : c.events + c.solutions < 2 ^ 63
 
 -- the last event's goal is there
 abbrev pub IsSeen : Core → Type 0
