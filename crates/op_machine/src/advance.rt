@@ -1,7 +1,7 @@
-ghost use Rattle.std.specs.Prelude.{◌≡◌, ◌<◌, ◌≤◌, ◌^◌, ◌∷◌, length, IfOk};
+ghost use Rattle.std.specs.Prelude.{◌≡◌, ◌≤◌, ◌∷◌, length, IfOk};
 ghost use Rattle.op_machine.specs.Meaning.{world_in, level_in, items_now, bindings_now, choice_points_in, setup_of, state_of};
 ghost use Rattle.op_machine.specs.Meaning.{choice_point_of, item_term};
-ghost use Rattle.op_machine.specs.inner.Invariant.{IsGood, IsItem, IsFrame, IsSound, Fits};
+ghost use Rattle.op_machine.specs.inner.Invariant.{IsGood, IsItem, IsFrame, IsSound, Fits, HasItems, CanGrow};
 ghost use Rattle.op_machine.specs.inner.Moves.{Keeps, Advances};
 ghost use Rattle.op_machine.specs.inner.Boxes.{IsTried};
 ghost use Rattle.op_machine.specs.Resume.{Forward, move, Backward, at_solution};
@@ -53,7 +53,7 @@ impl Core {
     fn forward(&mut self, items: u64) -> Result<Step, Memory>
         requires good { IsGood self.old }
         requires fits { Fits self.old }
-        requires there { items < length self.old.continuations }
+        requires there { HasItems self.old items }
         ensures advances { IfOk result (Advances self.old self.new (move (setup_of self.old)
             (Forward (items_now self.old items) (choice_points_in self.old) (bindings_now self.old) (world_in self.old)))) }
         ensures keeps { Keeps self.old self.new }
@@ -69,7 +69,7 @@ impl Core {
         requires good { IsGood self.old }
         requires fits { Fits self.old }
         requires item { IsItem (length self.old.store.names) self.old.bindings.terms item }
-        requires there { rest < length self.old.continuations }
+        requires there { HasItems self.old rest }
         ensures advances { IfOk result (Advances self.old self.new (move (setup_of self.old)
             (Forward (item_term self.old.store (level_in self.old) item ∷ items_now self.old rest) (choice_points_in self.old)
             (bindings_now self.old) (world_in self.old)))) }
@@ -143,9 +143,9 @@ impl Core {
     }
 
     // No item is left: a solution, which is the last if it is the wanted one.
-    pub(crate) fn show_solution(&mut self) -> Step
+    fn show_solution(&mut self) -> Step
         requires good { IsGood self.old }
-        requires fits { self.old.solutions < 2 ^ 63 }
+        requires fits { CanGrow self.old.solutions }
         ensures advances { Advances self.old self.new
             (at_solution (setup_of self.old) (choice_points_in self.old) (bindings_now self.old) (world_in self.old)) result }
         ensures keeps { Keeps self.old self.new }
