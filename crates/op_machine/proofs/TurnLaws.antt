@@ -15,7 +15,7 @@ use Rattle.op_store.specs.Snapshots.{snapshot_clauses}
 use Rattle.op_store.specs.Stored.{Stored}
 use Rattle.op_machine.specs.Meaning.{Level, level_at, level_in, setup_of, world_in, state_of, state_with, items_in, term_in, bindings_in}
 use Rattle.op_machine.specs.Meaning.{choice_points_of, choice_point_by}
-use Rattle.op_machine.specs.inner.Invariant.{IsSound, AreFrames, IsKind}
+use Rattle.op_machine.specs.inner.Invariant.{IsSound, AreFrames, IsKind, Fits}
 use Rattle.op_machine.specs.inner.Bounds.{Counted, event_bound}
 use Rattle.op_machine.specs.Resume.{State, Forward, Backward, Over, Moved, owed, move, world_of}
 use Rattle.op_machine.specs.inner.Barriers.{InStep}
@@ -34,15 +34,6 @@ world-with t v F w (mode.Over e) = refl
 
 pub world-is : (c : Core) → world_of (state_of c) ≡ world_in c
 world-is c = world-with c.store (level_in c) c.frames.choices (world_in c) c.mode
-
--- what the bounds say of a machine's numbers
-pub record Fits (c : Core) : Type 0 where
-  pub steps : c.steps ≤ c.budget
-  pub events : c.events < 2 ^ 63
-  pub solutions : c.solutions < 2 ^ 63
-  pub calls : c.calls < 2 ^ 63
-  pub conditions : c.conditions < 2 ^ 63
-  pub turns : turns_in c < 2 ^ 63
 
 pub counted-numbers : (s : Setup) (t : State) → s.budget ≤ 1000000000 → Counted s t
     → ((world_of t).steps ≤ s.budget) × ((world_of t).events ≤ event_bound (world_of t).steps)

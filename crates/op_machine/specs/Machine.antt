@@ -106,7 +106,7 @@ has_event k = is_event k.last && not k.faulted
 abbrev pub has_solution : Kept → Bool
 has_solution k = is_solution k.last && not k.faulted
 
--- how many turns were answered, where no call has answered a fault
+-- how many turns were answered
 abbrev pub answered : Kept → ℕ
 answered k = k.events + k.solutions
 

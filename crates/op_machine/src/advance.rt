@@ -1,7 +1,7 @@
-ghost use Rattle.std.specs.Prelude.{◌≡◌, ◌<◌, ◌≤◌, ◌^◌, ◌∷◌, length, IfOk};
+ghost use Rattle.std.specs.Prelude.{◌≡◌, ◌≤◌, ◌∷◌, length, IfOk};
 ghost use Rattle.op_machine.specs.Meaning.{world_in, level_in, items_now, bindings_now, choice_points_in, setup_of, state_of};
 ghost use Rattle.op_machine.specs.Meaning.{choice_point_of, item_term};
-ghost use Rattle.op_machine.specs.inner.Invariant.{IsGood, IsItem, IsFrame, IsSound};
+ghost use Rattle.op_machine.specs.inner.Invariant.{IsGood, IsItem, IsFrame, IsSound, Fits, HasItems, CanGrow};
 ghost use Rattle.op_machine.specs.inner.Moves.{Keeps, Advances};
 ghost use Rattle.op_machine.specs.inner.Boxes.{IsTried};
 ghost use Rattle.op_machine.specs.Resume.{Forward, move, Backward, at_solution};
@@ -38,11 +38,7 @@ impl Core {
     // One small move.
     pub(crate) fn advance(&mut self) -> Result<Step, Memory>
         requires good { IsGood self.old }
-        requires events { self.old.events < 2 ^ 63 }
-        requires solutions { self.old.solutions < 2 ^ 63 }
-        requires calls { self.old.calls < 2 ^ 63 }
-        requires conditions { self.old.conditions < 2 ^ 63 }
-        requires steps { self.old.steps ≤ self.old.budget }
+        requires fits { Fits self.old }
         ensures advances { IfOk result (Advances self.old self.new (move (setup_of self.old) (state_of self.old))) }
         ensures keeps { Keeps self.old self.new }
     {
@@ -56,12 +52,8 @@ impl Core {
     // The first item of a continuation is done, or there is none.
     fn forward(&mut self, items: u64) -> Result<Step, Memory>
         requires good { IsGood self.old }
-        requires there { items < length self.old.continuations }
-        requires events { self.old.events < 2 ^ 63 }
-        requires solutions { self.old.solutions < 2 ^ 63 }
-        requires calls { self.old.calls < 2 ^ 63 }
-        requires conditions { self.old.conditions < 2 ^ 63 }
-        requires steps { self.old.steps ≤ self.old.budget }
+        requires fits { Fits self.old }
+        requires there { HasItems self.old items }
         ensures advances { IfOk result (Advances self.old self.new (move (setup_of self.old)
             (Forward (items_now self.old items) (choice_points_in self.old) (bindings_now self.old) (world_in self.old)))) }
         ensures keeps { Keeps self.old self.new }
@@ -75,12 +67,9 @@ impl Core {
     // An item is done.
     fn perform(&mut self, item: Item, rest: u64) -> Result<Step, Memory>
         requires good { IsGood self.old }
+        requires fits { Fits self.old }
         requires item { IsItem (length self.old.store.names) self.old.bindings.terms item }
-        requires there { rest < length self.old.continuations }
-        requires events { self.old.events < 2 ^ 63 }
-        requires calls { self.old.calls < 2 ^ 63 }
-        requires conditions { self.old.conditions < 2 ^ 63 }
-        requires steps { self.old.steps ≤ self.old.budget }
+        requires there { HasItems self.old rest }
         ensures advances { IfOk result (Advances self.old self.new (move (setup_of self.old)
             (Forward (item_term self.old.store (level_in self.old) item ∷ items_now self.old rest) (choice_points_in self.old)
             (bindings_now self.old) (world_in self.old)))) }
@@ -100,10 +89,8 @@ impl Core {
     // The last choice point is taken, or there is none.
     fn backward(&mut self) -> Result<Step, Memory>
         requires good { IsGood self.old }
+        requires fits { Fits self.old }
         requires mode { self.old.mode ≡ mode.Backward }
-        requires events { self.old.events < 2 ^ 63 }
-        requires calls { self.old.calls < 2 ^ 63 }
-        requires steps { self.old.steps ≤ self.old.budget }
         ensures advances { IfOk result (Advances self.old self.new
             (move (setup_of self.old) (Backward (choice_points_in self.old) (world_in self.old)))) }
         ensures keeps { Keeps self.old self.new }
@@ -125,11 +112,10 @@ impl Core {
     // What a choice point, made at the present moment, does after a failure.
     fn resume(&mut self, choice: &Choice<Held>) -> Result<Step, Memory>
         requires good { IsGood self.old }
+        requires fits { Fits self.old }
         requires frame { IsFrame self.old.store (level_in self.old) choice.now }
         requires calls { choice.now.kept.calls ≤ self.old.calls }
         requires tried { IsTried self.old.frames.boxes self.old.continuations choice.now.kind choice.now.kept choice.now.rest }
-        requires events { self.old.events < 2 ^ 63 }
-        requires steps { self.old.steps ≤ self.old.budget }
         ensures advances { IfOk result (Advances self.old self.new (move (setup_of self.old)
             (Backward (choice_point_of self.old.store (level_in self.old) choice.now ∷ choice_points_in self.old) (world_in self.old)))) }
         ensures keeps { Keeps self.old self.new }
@@ -157,9 +143,9 @@ impl Core {
     }
 
     // No item is left: a solution, which is the last if it is the wanted one.
-    pub(crate) fn show_solution(&mut self) -> Step
+    fn show_solution(&mut self) -> Step
         requires good { IsGood self.old }
-        requires fits { self.old.solutions < 2 ^ 63 }
+        requires fits { CanGrow self.old.solutions }
         ensures advances { Advances self.old self.new
             (at_solution (setup_of self.old) (choice_points_in self.old) (bindings_now self.old) (world_in self.old)) result }
         ensures keeps { Keeps self.old self.new }

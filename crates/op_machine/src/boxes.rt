@@ -1,8 +1,7 @@
-ghost use Rattle.std.specs.Prelude.{◌≡◌, ◌+◌, ◌<◌, ◌^◌, length, IfOk, OnOk};
+ghost use Rattle.std.specs.Prelude.{◌≡◌, ◌+◌, length, IfOk, OnOk};
 ghost use Rattle.op_machine.specs.Meaning.{world_in, items_now, goal_now, bindings_now, choice_points_in, event_seen};
-ghost use Rattle.op_machine.specs.inner.Invariant.{IsGood, IsGoal};
+ghost use Rattle.op_machine.specs.inner.Invariant.{IsGood, HasItems, HasGoal, HasCalled, CanGrow};
 ghost use Rattle.op_machine.specs.inner.Moves.{Keeps, Advances, exit_moved, box_invoked};
-ghost use Rattle.op_machine.specs.inner.Boxes.{IsCalled};
 ghost use Rattle.op_machine.specs.Resume.{Backward, showing};
 ghost use Rattle.op_trace.specs.Visit.{event_of, with_event};
 
@@ -15,10 +14,10 @@ impl Core {
     // A goal with a box is invoked: its clauses are tried by going back to them.
     pub(crate) fn invoke(&mut self, goal: Ref, rest: u64) -> Result<Step, Memory>
         requires good { IsGood self.old }
-        requires there { rest < length self.old.continuations }
-        requires goal { IsGoal (length self.old.store.names) self.old.bindings.terms goal }
-        requires fits { self.old.events < 2 ^ 63 }
-        requires calls { self.old.calls < 2 ^ 63 }
+        requires there { HasItems self.old rest }
+        requires goal { HasGoal self.old goal }
+        requires fits { CanGrow self.old.events }
+        requires calls { CanGrow self.old.calls }
         ensures advances { IfOk result (Advances self.old self.new (box_invoked self.old goal rest)) }
         ensures keeps { Keeps self.old self.new }
     {
@@ -33,10 +32,10 @@ impl Core {
     // A box is called before a continuation, and gets the next number.
     fn call_box(&mut self, goal: Ref, rest: u64) -> Result<u64, Memory>
         requires good { IsGood self.old }
-        requires there { rest < length self.old.continuations }
-        requires calls { self.old.calls < 2 ^ 63 }
+        requires there { HasItems self.old rest }
+        requires calls { CanGrow self.old.calls }
         ensures number { IfOk result (λ k. k ≡ self.old.calls + 1) }
-        ensures called { IfOk result (λ k. IsCalled self.new.frames.boxes self.new.calls self.new.continuations k goal rest) }
+        ensures called { IfOk result (λ k. HasCalled self.new k goal rest) }
         ensures choices { self.new.frames.choices ≡ self.old.frames.choices }
         ensures good { OnOk result (IsGood self.new) }
         ensures calls { OnOk result (self.new.calls ≡ self.old.calls + 1) }
@@ -53,9 +52,9 @@ impl Core {
     // The exit of a box, which is redone when the machine comes back to it.
     pub(crate) fn exit_box(&mut self, call: u64, goal: Ref, rest: u64) -> Result<Step, Memory>
         requires good { IsGood self.old }
-        requires there { rest < length self.old.continuations }
-        requires goal { IsGoal (length self.old.store.names) self.old.bindings.terms goal }
-        requires fits { self.old.events < 2 ^ 63 }
+        requires there { HasItems self.old rest }
+        requires goal { HasGoal self.old goal }
+        requires fits { CanGrow self.old.events }
         ensures advances { IfOk result (Advances self.old self.new (exit_moved self.old call goal rest)) }
         ensures keeps { Keeps self.old self.new }
     {
@@ -68,9 +67,9 @@ impl Core {
     // A box is entered again, or has failed: an event, and the machine goes on back.
     pub(crate) fn show_and_go_back(&mut self, port: Port, call: u64, goal: Ref, rest: u64) -> Step
         requires good { IsGood self.old }
-        requires there { rest < length self.old.continuations }
-        requires goal { IsGoal (length self.old.store.names) self.old.bindings.terms goal }
-        requires fits { self.old.events < 2 ^ 63 }
+        requires there { HasItems self.old rest }
+        requires goal { HasGoal self.old goal }
+        requires fits { CanGrow self.old.events }
         ensures advances { Advances self.old self.new (showing port call (goal_now self.old goal) (bindings_now self.old)
             (items_now self.old rest) (world_in self.old)
             (Backward (choice_points_in self.old) (with_event (world_in self.old)))) result }
@@ -82,9 +81,9 @@ impl Core {
     }
 
     // Shows an event of a box with these items behind it.
-    pub(crate) fn show_event(&mut self, port: Port, call: u64, goal: Ref, rest: u64)
-        requires there { rest < length self.old.continuations }
-        requires fits { self.old.events < 2 ^ 63 }
+    fn show_event(&mut self, port: Port, call: u64, goal: Ref, rest: u64)
+        requires there { HasItems self.old rest }
+        requires fits { CanGrow self.old.events }
         ensures seen { event_seen self.old.store self.old.bindings self.new.seen
             ≡ event_of port call (goal_now self.old goal) (bindings_now self.old) (items_now self.old rest) (world_in self.old) }
         ensures goal { self.new.seen.goal ≡ goal }

@@ -1,9 +1,9 @@
 ghost use Rattle.std.specs.Prelude.{◌≡◌, ◌+◌, ◌<◌, ◌≤◌, ◌^◌, ◌∷◌, length, OnOk, [], take, reverse, IfNone, MatchOption, ℕ};
 ghost use Rattle.op_machine.specs.Meaning.{level_in, items_now, goal_now, bindings_now, choice_points_in, choice_point_by};
-ghost use Rattle.op_machine.specs.inner.Invariant.{IsGood, IsGoal, IsKind, IsEarlier};
+ghost use Rattle.op_machine.specs.inner.Invariant.{IsGood, IsKind, IsEarlier, HasItems, HasGoal, HasCalled};
 ghost use Rattle.op_machine.specs.Program.{clauses_from, AreKnown};
 ghost use Rattle.op_machine.specs.Resume.{keep, with_more};
-ghost use Rattle.op_machine.specs.inner.Boxes.{IsCalled, IsTried, boxes_before};
+ghost use Rattle.op_machine.specs.inner.Boxes.{IsTried, boxes_before};
 ghost use Rattle.op_machine.specs.inner.Cuts.{frame_stays, frame_goes, keep_frames};
 ghost use Rattle.op_bind.specs.State.{undone};
 ghost use Rattle.op_frames.specs.Frames.{open_from};
@@ -86,8 +86,8 @@ impl Core {
         kept: Held,
     ) -> Result<(), Memory>
         requires good { IsGood self.old }
-        requires there { rest < length self.old.continuations }
-        requires goal { IsGoal (length self.old.store.names) self.old.bindings.terms kept.goal }
+        requires there { HasItems self.old rest }
+        requires goal { HasGoal self.old kept.goal }
         requires continuations { kept.continuations ≡ length self.old.continuations }
         requires kind { IsKind (length self.old.store.names) kind kept }
         requires calls { kept.calls ≡ self.old.calls }
@@ -111,8 +111,8 @@ impl Core {
     // The exit of a box is redone.
     pub(crate) fn push_redo(&mut self, call: u64, goal: Ref, rest: u64) -> Result<(), Memory>
         requires good { IsGood self.old }
-        requires there { rest < length self.old.continuations }
-        requires goal { IsGoal (length self.old.store.names) self.old.bindings.terms goal }
+        requires there { HasItems self.old rest }
+        requires goal { HasGoal self.old goal }
         ensures choices { OnOk result (choice_points_in self.new
             ≡ visit.Redo call (goal_now self.old goal) (bindings_now self.old) (items_now self.old rest) ∷ choice_points_in self.old) }
         ensures good { OnOk result (IsGood self.new) }
@@ -139,8 +139,8 @@ impl Core {
     // A box has no further alternative.
     pub(crate) fn push_fail(&mut self, call: u64, goal: Ref, rest: u64) -> Result<(), Memory>
         requires good { IsGood self.old }
-        requires there { rest < length self.old.continuations }
-        requires goal { IsGoal (length self.old.store.names) self.old.bindings.terms goal }
+        requires there { HasItems self.old rest }
+        requires goal { HasGoal self.old goal }
         ensures choices { OnOk result (choice_points_in self.new
             ≡ visit.Fail call (goal_now self.old goal) (bindings_now self.old) (items_now self.old rest) ∷ choice_points_in self.old) }
         ensures good { OnOk result (IsGood self.new) }
@@ -174,10 +174,10 @@ impl Core {
         rest: u64,
     ) -> Result<(), Memory>
         requires good { IsGood self.old }
-        requires there { rest < length self.old.continuations }
-        requires goal { IsGoal (length self.old.store.names) self.old.bindings.terms goal }
+        requires there { HasItems self.old rest }
+        requires goal { HasGoal self.old goal }
         requires known { AreKnown (length self.old.store.names) snapshot.now }
-        requires called { IsCalled self.old.frames.boxes self.old.calls self.old.continuations call goal rest }
+        requires called { HasCalled self.old call goal rest }
         ensures choices { OnOk result (choice_points_in self.new
             ≡ with_more (clauses_from self.old.store snapshot.now next) call (goal_now self.old goal)
             (bindings_now self.old) (items_now self.old rest) (choice_points_in self.old)) }
@@ -211,11 +211,11 @@ impl Core {
         rest: u64,
     ) -> Result<(), Memory>
         requires good { IsGood self.old }
-        requires there { rest < length self.old.continuations }
-        requires goal { IsGoal (length self.old.store.names) self.old.bindings.terms goal }
+        requires there { HasItems self.old rest }
+        requires goal { HasGoal self.old goal }
         ensures choices { OnOk result (choice_points_in self.new
-            ≡ visit.Branch (goal_now self.old goal) barrier (bindings_now self.old) (items_now self.old rest) ∷ choice_points_in self.old)
-                }
+            ≡ visit.Branch (goal_now self.old goal) barrier (bindings_now self.old) (items_now self.old rest)
+            ∷ choice_points_in self.old) }
         ensures good { OnOk result (IsGood self.new) }
         ensures rest { self.new ≡ record self.old { frames = self.new.frames } }
         ensures boxes { self.new.frames.boxes ≡ self.old.frames.boxes }
@@ -246,8 +246,8 @@ impl Core {
         rest: u64,
     ) -> Result<(), Memory>
         requires good { IsGood self.old }
-        requires there { rest < length self.old.continuations }
-        requires goal { IsGoal (length self.old.store.names) self.old.bindings.terms goal }
+        requires there { HasItems self.old rest }
+        requires goal { HasGoal self.old goal }
         ensures choices { OnOk result (choice_points_in self.new
             ≡ visit.Condition condition (goal_now self.old goal) barrier (bindings_now self.old) (items_now self.old rest)
             ∷ choice_points_in self.old) }

@@ -1,10 +1,9 @@
 ghost use Rattle.std.specs.Prelude.{◌≡◌, ◌<◌, ◌≤◌, length, IfOk, OnOk};
 ghost use Rattle.op_machine.specs.Meaning.{items_now, goal_now, bindings_now, choice_points_in};
-ghost use Rattle.op_machine.specs.inner.Invariant.{IsGood, IsGoal};
+ghost use Rattle.op_machine.specs.inner.Invariant.{IsGood, HasItems, HasGoal, HasCalled};
 ghost use Rattle.op_machine.specs.inner.Moves.{Keeps, Advances, clause_unified, clause_tried, clauses_tried, body_entered, body_before};
 ghost use Rattle.op_machine.specs.Program.{clauses_from, AreKnown, IsKnown, clauses};
 ghost use Rattle.op_machine.specs.Resume.{with_more};
-ghost use Rattle.op_machine.specs.inner.Boxes.{IsCalled};
 ghost use Rattle.op_store.specs.Snapshots.{snapshot_clauses};
 ghost use Rattle.op_trace.specs.Visit.{is_true};
 ghost use Rattle.op_trace.specs.World.{procedure};
@@ -38,11 +37,11 @@ pub(crate) fn pi_of(node: Node) -> Option<Pi>
 
 impl Core {
     // A choice point of the clauses of a goal's procedure, where it has any.
-    fn push_clauses(&mut self, call: u64, goal: Ref, rest: u64) -> Result<(), Memory>
+    pub(crate) fn push_clauses(&mut self, call: u64, goal: Ref, rest: u64) -> Result<(), Memory>
         requires good { IsGood self.old }
-        requires there { rest < length self.old.continuations }
-        requires goal { IsGoal (length self.old.store.names) self.old.bindings.terms goal }
-        requires called { IsCalled self.old.frames.boxes self.old.calls self.old.continuations call goal rest }
+        requires there { HasItems self.old rest }
+        requires goal { HasGoal self.old goal }
+        requires called { HasCalled self.old call goal rest }
         ensures choices { OnOk result (choice_points_in self.new
             ≡ with_more (procedure (clauses self.old.store) (goal_now self.old goal)) call (goal_now self.old goal)
             (bindings_now self.old) (items_now self.old rest) (choice_points_in self.old)) }
@@ -69,13 +68,18 @@ impl Core {
     }
 
     // The next of the clauses that a choice point keeps is tried.
-    fn try_next_clause(&mut self, kept: &Held, call: u64, rest: u64) -> Result<Step, Memory>
+    pub(crate) fn try_next_clause(
+        &mut self,
+        kept: &Held,
+        call: u64,
+        rest: u64,
+    ) -> Result<Step, Memory>
         requires good { IsGood self.old }
-        requires there { rest < length self.old.continuations }
-        requires goal { IsGoal (length self.old.store.names) self.old.bindings.terms kept.now.goal }
+        requires there { HasItems self.old rest }
+        requires goal { HasGoal self.old kept.now.goal }
         requires here { kept.now.next < length (snapshot_clauses kept.now.snapshot) }
         requires known { AreKnown (length self.old.store.names) (snapshot_clauses kept.now.snapshot) }
-        requires called { IsCalled self.old.frames.boxes self.old.calls self.old.continuations call kept.now.goal rest }
+        requires called { HasCalled self.old call kept.now.goal rest }
         requires steps { self.old.steps ≤ self.old.budget }
         ensures advances { IfOk result (Advances self.old self.new
             (clauses_tried self.old (snapshot_clauses kept.now.snapshot) kept.now.next call kept.now.goal rest)) }
@@ -88,7 +92,7 @@ impl Core {
     }
 
     // One of some clauses is tried, and those behind it are kept as a choice point.
-    pub(crate) fn try_clauses(
+    fn try_clauses(
         &mut self,
         snapshot: &Snapshot,
         next: u64,
@@ -97,11 +101,11 @@ impl Core {
         rest: u64,
     ) -> Result<Step, Memory>
         requires good { IsGood self.old }
-        requires there { rest < length self.old.continuations }
-        requires goal { IsGoal (length self.old.store.names) self.old.bindings.terms goal }
+        requires there { HasItems self.old rest }
+        requires goal { HasGoal self.old goal }
         requires here { next < length snapshot.now }
         requires known { AreKnown (length self.old.store.names) snapshot.now }
-        requires called { IsCalled self.old.frames.boxes self.old.calls self.old.continuations call goal rest }
+        requires called { HasCalled self.old call goal rest }
         requires steps { self.old.steps ≤ self.old.budget }
         ensures advances { IfOk result (Advances self.old self.new (clauses_tried self.old snapshot.now next call goal rest)) }
         ensures keeps { Keeps self.old self.new }
@@ -120,10 +124,10 @@ impl Core {
         rest: u64,
     ) -> Result<Step, Memory>
         requires good { IsGood self.old }
-        requires there { rest < length self.old.continuations }
-        requires goal { IsGoal (length self.old.store.names) self.old.bindings.terms goal }
+        requires there { HasItems self.old rest }
+        requires goal { HasGoal self.old goal }
         requires known { IsKnown (length self.old.store.names) clause.now }
-        requires called { IsCalled self.old.frames.boxes self.old.calls self.old.continuations call goal rest }
+        requires called { HasCalled self.old call goal rest }
         requires steps { self.old.steps ≤ self.old.budget }
         ensures advances { IfOk result (Advances self.old self.new (clause_tried self.old clause.now call goal rest)) }
         ensures keeps { Keeps self.old self.new }
@@ -143,10 +147,10 @@ impl Core {
         rest: u64,
     ) -> Result<Step, Memory>
         requires good { IsGood self.old }
-        requires there { rest < length self.old.continuations }
-        requires goal { IsGoal (length self.old.store.names) self.old.bindings.terms goal }
+        requires there { HasItems self.old rest }
+        requires goal { HasGoal self.old goal }
         requires known { IsKnown (length self.old.store.names) clause.now }
-        requires called { IsCalled self.old.frames.boxes self.old.calls self.old.continuations call goal rest }
+        requires called { HasCalled self.old call goal rest }
         requires steps { self.old.steps ≤ self.old.budget }
         ensures advances { IfOk result (Advances self.old self.new (clause_unified self.old clause.now call goal rest)) }
         ensures keeps { Keeps self.old self.new }
@@ -173,18 +177,12 @@ impl Core {
     }
 
     // A clause was matched: its body comes next, and then the exit of the box.
-    pub(crate) fn enter_body(
-        &mut self,
-        body: Ref,
-        call: u64,
-        goal: Ref,
-        rest: u64,
-    ) -> Result<(), Memory>
+    fn enter_body(&mut self, body: Ref, call: u64, goal: Ref, rest: u64) -> Result<(), Memory>
         requires good { IsGood self.old }
-        requires there { rest < length self.old.continuations }
-        requires goal { IsGoal (length self.old.store.names) self.old.bindings.terms goal }
-        requires body { IsGoal (length self.old.store.names) self.old.bindings.terms body }
-        requires called { IsCalled self.old.frames.boxes self.old.calls self.old.continuations call goal rest }
+        requires there { HasItems self.old rest }
+        requires goal { HasGoal self.old goal }
+        requires body { HasGoal self.old body }
+        requires called { HasCalled self.old call goal rest }
         ensures advances { OnOk result (Advances self.old self.new (body_entered self.old body call goal rest) step.Silent) }
         ensures keeps { Keeps self.old self.new }
     {
@@ -195,10 +193,10 @@ impl Core {
     }
 
     // The body of a clause before a continuation: nothing for a fact.
-    pub(crate) fn add_body(&mut self, body: Ref, call: u64, rest: u64) -> Result<u64, Memory>
+    fn add_body(&mut self, body: Ref, call: u64, rest: u64) -> Result<u64, Memory>
         requires good { IsGood self.old }
-        requires there { rest < length self.old.continuations }
-        requires body { IsGoal (length self.old.store.names) self.old.bindings.terms body }
+        requires there { HasItems self.old rest }
+        requires body { HasGoal self.old body }
         ensures within { IfOk result (λ n. n < length self.new.continuations) }
         ensures items { IfOk result (λ n. items_now self.new n ≡ body_before self.old body call (items_now self.old rest)) }
         ensures choices { OnOk result (choice_points_in self.new ≡ choice_points_in self.old) }

@@ -1,6 +1,6 @@
-ghost use Rattle.std.specs.Prelude.{◌≡◌, ◌+◌, ◌<◌, ◌≤◌, ◌^◌, ◌∷◌, length, IfOk, OnOk, [], take, IfNone, MatchOption, ◌++◌, OnErr, IfSome};
+ghost use Rattle.std.specs.Prelude.{◌≡◌, ◌<◌, ◌≤◌, ◌^◌, ◌∷◌, length, IfOk, OnOk, [], take, IfNone, MatchOption, ◌++◌, OnErr, IfSome};
 ghost use Rattle.op_machine.specs.Meaning.{level_in, items_now, choice_points_in, item_term};
-ghost use Rattle.op_machine.specs.inner.Invariant.{IsGood, IsItem};
+ghost use Rattle.op_machine.specs.inner.Invariant.{IsGood, IsItem, HasItems};
 ghost use Rattle.op_machine.specs.inner.Boxes.{IsEntered};
 ghost use Rattle.op_machine.specs.inner.Continuations.{continuation_in, continuations_of, only_empty, opened, AreLinked, Begins};
 ghost use Rattle.op_trace.specs.World.{head_number};
@@ -172,7 +172,7 @@ impl Core {
     pub(crate) fn add(&mut self, item: Item, rest: u64) -> Result<u64, Memory>
         requires good { IsGood self.old }
         requires item { IsItem (length self.old.store.names) self.old.bindings.terms item }
-        requires there { rest < length self.old.continuations }
+        requires there { HasItems self.old rest }
         requires entered { IsEntered self.old.frames.boxes self.old.calls self.old.continuations item rest }
         ensures within { IfOk result (λ n. n < length self.new.continuations) }
         ensures items { IfOk result (λ n. items_now self.new n

@@ -1,11 +1,11 @@
-ghost use Rattle.std.specs.Prelude.{◌≡◌, ◌<◌, ◌≤◌, ◌^◌, ◌∷◌, length, codes, IfOk, OnOk};
+ghost use Rattle.std.specs.Prelude.{◌≡◌, ◌<◌, ◌≤◌, ◌∷◌, length, codes, IfOk, OnOk};
 ghost use Rattle.op_logic.specs.Term.{args_of, arity, nth_arg, atom};
 ghost use Rattle.op_term.specs.Places.{term_at};
 ghost use Rattle.op_trace.specs.declared.barrier.Barrier.TheVariants.{InCondition, AtSuccess};
 ghost use Rattle.op_trace.specs.World.{Goal, Cut};
 ghost use Rattle.op_trace.specs.Visit.{IfThenElse, control_of_disjunction};
 ghost use Rattle.op_machine.specs.Meaning.{world_in, items_now, goal_now, bindings_now, choice_points_in};
-ghost use Rattle.op_machine.specs.inner.Invariant.{IsGood, IsGoal};
+ghost use Rattle.op_machine.specs.inner.Invariant.{IsGood, Fits, HasItems, HasGoal, CanGrow};
 ghost use Rattle.op_machine.specs.Program.{goal_named};
 ghost use Rattle.op_machine.specs.Resume.{chosen, silent, Forward};
 ghost use Rattle.op_machine.specs.inner.Moves.{Keeps, Advances, branch_tried, disjunction_before, if_then_else_before, chosen_now};
@@ -23,12 +23,9 @@ impl Core {
     // A goal is selected.
     pub(crate) fn select(&mut self, goal: Ref, barrier: Barrier, rest: u64) -> Result<Step, Memory>
         requires good { IsGood self.old }
-        requires there { rest < length self.old.continuations }
-        requires goal { IsGoal (length self.old.store.names) self.old.bindings.terms goal }
-        requires fits { self.old.events < 2 ^ 63 }
-        requires calls { self.old.calls < 2 ^ 63 }
-        requires conditions { self.old.conditions < 2 ^ 63 }
-        requires steps { self.old.steps ≤ self.old.budget }
+        requires fits { Fits self.old }
+        requires there { HasItems self.old rest }
+        requires goal { HasGoal self.old goal }
         ensures advances { IfOk result (Advances self.old self.new (goal_moved self.old (goal_now self.old goal) barrier rest)) }
         ensures keeps { Keeps self.old self.new }
     {
@@ -41,11 +38,9 @@ impl Core {
     // A goal of which the step was paid.
     fn execute(&mut self, goal: Ref, barrier: Barrier, rest: u64) -> Result<Step, Memory>
         requires good { IsGood self.old }
-        requires there { rest < length self.old.continuations }
-        requires goal { IsGoal (length self.old.store.names) self.old.bindings.terms goal }
-        requires fits { self.old.events < 2 ^ 63 }
-        requires calls { self.old.calls < 2 ^ 63 }
-        requires conditions { self.old.conditions < 2 ^ 63 }
+        requires fits { Fits self.old }
+        requires there { HasItems self.old rest }
+        requires goal { HasGoal self.old goal }
         ensures advances { IfOk result (Advances self.old self.new
             (chosen_now self.old (goal_now self.old goal) barrier rest (world_in self.old))) }
         ensures keeps { Keeps self.old self.new }
@@ -83,8 +78,8 @@ impl Core {
     // Both goals of a conjunction come next.
     fn select_conjunction(&mut self, goal: Ref, barrier: Barrier, rest: u64) -> Result<(), Memory>
         requires good { IsGood self.old }
-        requires there { rest < length self.old.continuations }
-        requires goal { IsGoal (length self.old.store.names) self.old.bindings.terms goal }
+        requires there { HasItems self.old rest }
+        requires goal { HasGoal self.old goal }
         requires two { arity (args_of (term_at self.old.bindings.terms goal)) ≡ 2 }
         ensures advances { OnOk result (Advances self.old self.new
             (silent (Forward (conjunction_before self.old goal barrier rest) (choice_points_in self.old) (bindings_now self.old)
@@ -119,10 +114,10 @@ impl Core {
         rest: u64,
     ) -> Result<(), Memory>
         requires good { IsGood self.old }
-        requires there { rest < length self.old.continuations }
-        requires goal { IsGoal (length self.old.store.names) self.old.bindings.terms goal }
+        requires there { HasItems self.old rest }
+        requires goal { HasGoal self.old goal }
         requires two { arity (args_of (term_at self.old.bindings.terms goal)) ≡ 2 }
-        requires conditions { self.old.conditions < 2 ^ 63 }
+        requires conditions { CanGrow self.old.conditions }
         ensures advances { OnOk result (Advances self.old self.new (chosen
             (control_of_disjunction (goal_named self.old.store (nth_arg (args_of (term_at self.old.bindings.terms goal)) 0))
             (goal_named self.old.store (nth_arg (args_of (term_at self.old.bindings.terms goal)) 1)))
@@ -150,9 +145,9 @@ impl Core {
         rest: u64,
     ) -> Result<(), Memory>
         requires good { IsGood self.old }
-        requires there { rest < length self.old.continuations }
-        requires first { IsGoal (length self.old.store.names) self.old.bindings.terms first }
-        requires second { IsGoal (length self.old.store.names) self.old.bindings.terms second }
+        requires there { HasItems self.old rest }
+        requires first { HasGoal self.old first }
+        requires second { HasGoal self.old second }
         ensures advances { OnOk result (Advances self.old self.new (disjunction_before self.old first second barrier rest) step.Silent) }
         ensures keeps { Keeps self.old self.new }
     {
@@ -176,10 +171,10 @@ impl Core {
         rest: u64,
     ) -> Result<(), Memory>
         requires good { IsGood self.old }
-        requires there { rest < length self.old.continuations }
-        requires goal { IsGoal (length self.old.store.names) self.old.bindings.terms goal }
+        requires there { HasItems self.old rest }
+        requires goal { HasGoal self.old goal }
         requires two { arity (args_of (term_at self.old.bindings.terms goal)) ≡ 2 }
-        requires conditions { self.old.conditions < 2 ^ 63 }
+        requires conditions { CanGrow self.old.conditions }
         ensures advances { OnOk result (Advances self.old self.new (chosen
             (IfThenElse (goal_named self.old.store (nth_arg (args_of (term_at self.old.bindings.terms goal)) 0))
             (goal_named self.old.store (nth_arg (args_of (term_at self.old.bindings.terms goal)) 1)) (atom (codes "fail")))
@@ -203,11 +198,11 @@ impl Core {
         rest: u64,
     ) -> Result<(), Memory>
         requires good { IsGood self.old }
-        requires there { rest < length self.old.continuations }
-        requires condition { IsGoal (length self.old.store.names) self.old.bindings.terms condition }
-        requires then { IsGoal (length self.old.store.names) self.old.bindings.terms then }
-        requires otherwise { IsGoal (length self.old.store.names) self.old.bindings.terms otherwise }
-        requires conditions { self.old.conditions < 2 ^ 63 }
+        requires there { HasItems self.old rest }
+        requires condition { HasGoal self.old condition }
+        requires then { HasGoal self.old then }
+        requires otherwise { HasGoal self.old otherwise }
+        requires conditions { CanGrow self.old.conditions }
         ensures advances { OnOk result (Advances self.old self.new (if_then_else_before self.old condition then otherwise barrier rest)
             step.Silent) }
         ensures keeps { Keeps self.old self.new }
@@ -230,9 +225,9 @@ impl Core {
         rest: u64,
     ) -> Result<u64, Memory>
         requires good { IsGood self.old }
-        requires there { rest < length self.old.continuations }
-        requires condition { IsGoal (length self.old.store.names) self.old.bindings.terms condition }
-        requires then { IsGoal (length self.old.store.names) self.old.bindings.terms then }
+        requires there { HasItems self.old rest }
+        requires condition { HasGoal self.old condition }
+        requires then { HasGoal self.old then }
         ensures within { IfOk result (λ n. n < length self.new.continuations) }
         ensures items { IfOk result (λ n. items_now self.new n
             ≡ Goal (goal_now self.old condition) (InCondition number) ∷ Cut (AtSuccess number) ∷ Goal (goal_now self.old then)
@@ -271,8 +266,8 @@ impl Core {
         rest: u64,
     ) -> Result<Step, Memory>
         requires good { IsGood self.old }
-        requires there { rest < length self.old.continuations }
-        requires goal { IsGoal (length self.old.store.names) self.old.bindings.terms goal }
+        requires there { HasItems self.old rest }
+        requires goal { HasGoal self.old goal }
         requires steps { self.old.steps ≤ self.old.budget }
         ensures advances { IfOk result (Advances self.old self.new (branch_tried self.old goal barrier rest)) }
         ensures keeps { Keeps self.old self.new }

@@ -28,7 +28,7 @@ pub enum Mode {
     Over { ending: Ending },
 }
 
-/// What a row has shown.
+/// What a move has shown.
 #[derive(Clone, Copy, Debug, PartialEq, Eq)]
 pub enum Step {
     Silent,

@@ -84,7 +84,8 @@ impl Machine {
     }
 
     /// The next turn, or the ending, again each time. The ledger rises by the run's steps, but not by those of a call that
-    /// answers a fault. After `Memory` the machine has ended, and answers so from then on.
+    /// answers a fault. After `Memory` the machine has ended, and answers so from then on; its steps and the number of
+    /// turns answered are those before the call.
     pub fn next<H: Host, L: Ledger>(
         &mut self,
         host: &mut H,
@@ -94,6 +95,8 @@ impl Machine {
         ensures cost { OnOk result (steps.new ≡ steps.old + (self.new.steps - self.old.steps)) }
         ensures later { self.old.steps ≤ self.new.steps }
         ensures unpaid { OnErr result (steps.new ≡ steps.old) }
+        ensures unmade { OnErr result (self.new.steps ≡ self.old.steps) }
+        ensures unanswered { OnErr result (answered self.new ≡ answered self.old) }
         ensures tables { self.new.tables ≡ self.old.tables }
         ensures names { self.new.names ≡ self.old.names }
         ensures few { OnOk result (answered self.new < 2 ^ 63) }
@@ -107,6 +110,8 @@ impl Machine {
             return Err(MachineFault::Ended(Cause::Memory));
         }
         let before = self.core.steps;
+        let events = self.core.events;
+        let solutions = self.core.solutions;
         match self.core.turn() {
             Ok(turn) => {
                 self.last = last_of(turn);
@@ -114,13 +119,14 @@ impl Machine {
                 Ok(turn)
             }
             Err(Memory) => {
+                reset_counts(&mut self.core, before, events, solutions);
                 self.faulted = true;
                 Err(MachineFault::Memory)
             }
         }
     }
 
-    /// How many steps the run has made up to the last turn, or to its end; once a call has answered a fault, the number has no meaning.
+    /// How many steps the run has made up to the last turn, or to its end; a call that answered a fault adds none.
     pub fn used_steps(&self) -> u64
         ensures { result ≡ self.now.steps }
     {
@@ -175,6 +181,15 @@ impl Machine {
             self.core.store.symbols(),
         ))
     }
+}
+
+// The steps and the turns that were counted before a call that failed.
+fn reset_counts(core: &mut Core, steps: u64, events: u64, solutions: u64)
+    ensures { core.new ≡ record core.old { steps = steps; events = events; solutions = solutions } }
+{
+    core.steps = steps;
+    core.events = events;
+    core.solutions = solutions;
 }
 
 fn last_of(turn: Turn) -> Last

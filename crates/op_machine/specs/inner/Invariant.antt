@@ -1,5 +1,5 @@
 -- What holds of a machine's parts between two moves.
-use Rattle.std.specs.Prelude.{◌≡◌, ℕ, ◌<◌, ◌≤◌, List, [], ◌∷◌, length, reverse, take, All}
+use Rattle.std.specs.Prelude.{◌≡◌, ℕ, ◌+◌, ◌^◌, ◌<◌, ◌≤◌, List, [], ◌∷◌, length, reverse, take, All}
 use Rattle.op_logic.specs.Term.{Term, var, atom}
 use Rattle.op_logic.specs.Names.{HasNames, HaveNames}
 use Rattle.op_term.specs.Places.{term_at}
@@ -14,7 +14,7 @@ use Rattle.op_machine.specs.declared.core_state.Core.{Core}
 use Rattle.op_machine.specs.declared.core_state.Mode.{Mode}
 use Rattle.op_machine.specs.declared.core_state.Mode.TheVariants as mode
 use Rattle.op_machine.specs.inner.Continuations.{continuation_in}
-use Rattle.op_machine.specs.inner.Boxes.{AreBoxes, AreBoxed}
+use Rattle.op_machine.specs.inner.Boxes.{AreBoxes, AreBoxed, IsCalled}
 use Rattle.op_store.specs.Stored.{Stored}
 use Rattle.op_machine.specs.Program.{AreKnown}
 use Rattle.op_machine.specs.inner.Bounds.{Counted}
@@ -96,6 +96,29 @@ pub record IsGood (c : Core) : Type 0 where
   pub failure : IsFailure (take c.floor.terms c.bindings.terms) c.failure
   pub boxes : AreBoxes c.frames.boxes c.calls c.continuations
   pub boxed : AreBoxed c.frames.boxes c.continuations c.calls (length c.continuations) (reverse c.frames.choices)
+
+-- a machine has a continuation, a goal, and a box that was called with a goal before a continuation
+abbrev pub HasItems : Core → ℕ → Type 0
+HasItems c n = n < length c.continuations
+
+abbrev pub HasGoal : Core → ℕ → Type 0
+HasGoal c g = IsGoal (length c.store.names) c.bindings.terms g
+
+abbrev pub HasCalled : Core → ℕ → ℕ → ℕ → Type 0
+HasCalled c k g n = IsCalled c.frames.boxes c.calls c.continuations k g n
+
+-- a count that is far from its type's end
+abbrev pub CanGrow : ℕ → Type 0
+CanGrow n = n < 2 ^ 63
+
+-- each count of a machine is, and the budget isn't passed
+pub record Fits (c : Core) : Type 0 where
+  pub steps : c.steps ≤ c.budget
+  pub events : CanGrow c.events
+  pub solutions : CanGrow c.solutions
+  pub calls : CanGrow c.calls
+  pub conditions : CanGrow c.conditions
+  pub turns : CanGrow (c.events + c.solutions)
 
 -- the last event's goal is there
 abbrev pub IsSeen : Core → Type 0

@@ -12,7 +12,8 @@ use Rattle.op_machine.proofs.core_state.Core.call_box.Goals as goal
 pub push_box-requires : goal.push_box-requires
 push_box-requires c =
     let inner : c.parent-parent.result ≤ c.args.self.now.calls =
-    subst (λ (x : ℕ). x ≤ c.args.self.now.calls) (sym c.parent-parent.ensures) (c.requires.good.boxes.given c.args.rest c.requires.there) in
+    subst (λ (x : ℕ). x ≤ c.args.self.now.calls) (sym c.parent-parent.ensures)
+    (c.requires.good.boxes.given c.args.rest c.requires.there) in
     record { rises = λ i d h. omega (arith, c.requires.good.boxes.numbers i d h); below = omega (arith, inner) }
 
 pub returns-clause-called : goal.returns-clause-called
