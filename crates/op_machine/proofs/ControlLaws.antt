@@ -168,22 +168,6 @@ module _ (t : Stored) (table : IsTable t.names) (begins : take 8 t.names ≡ fir
       (λ q. other (arg x (arg y no_args)) (ap (λ (n : ℕ). node n (arg x (arg y no_args))) q) refl)) refl
   other-disjunction (node f (arg x (arg y (arg z us)))) e other = refl
 
-pub head-atom : (g : Term ℕ) (f : Sym) → head g ≡ nodes.Atom f → g ≡ node f.0 no_args
-head-atom (var v) f e = absurd cc
-head-atom (int i) f e = absurd cc
-head-atom (node h no_args) f e = let s : sym_of h ≡ f = cc in ap (λ (x : Sym). node x.0 no_args) s
-head-atom (node h (arg t ts)) f e = absurd cc
-
-pub head-struct : (g : Term ℕ) (f : Sym) (n : ℕ) → head g ≡ nodes.Struct f n → (g ≡ node f.0 (args_of g)) × (arity (args_of g) ≡ n)
-    × (0 < arity (args_of g))
-head-struct (var v) f n e = absurd cc
-head-struct (int i) f n e = absurd cc
-head-struct (node h no_args) f n e = absurd cc
-head-struct (node h (arg t ts)) f n e =
-    let s : sym_of h ≡ f = cc in
-    let k : suc (arity ts) ≡ n = cc in
-    (ap (λ (x : Sym). node x.0 (arg t ts)) s, k, omega arith)
-
 -- a term that is no atom is not true
 pub not-true : (t : Stored) (g : Term ℕ) → ((f : Sym) → head g ≡ nodes.Atom f → ⊥) → is_true (goal_named t g) ≡ false
 not-true t (var v) h = refl

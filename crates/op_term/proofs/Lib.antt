@@ -1,3 +1,4 @@
+pub mod Heads
 pub mod Operators
 mod Tables
 mod Texts

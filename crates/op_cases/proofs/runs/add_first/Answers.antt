@@ -1,6 +1,6 @@
 use Rattle.op_term.specs.Places.{term_at}
 use Rattle.std.proofs.Common.{sym, ◌∙◌}
-use Rattle.op_machine.proofs.Controls.{head-struct}
+use Rattle.op_term.proofs.Heads.{head-struct}
 use Rattle.op_cases.proofs.runs.add_first.Goals as goal
 
 pub argument-requires-clause-within : goal.argument-requires-clause-within

@@ -2,7 +2,7 @@ use Rattle.std.proofs.Common.{ℕ, length, sym, ◌∙◌, subst}
 use Rattle.op_logic.specs.Term.{Term}
 use Rattle.op_logic.specs.Names.{HasNames}
 use Rattle.op_bind.specs.State.{value_of}
-use Rattle.op_machine.proofs.Controls.{head-atom, head-struct}
+use Rattle.op_term.proofs.Heads.{head-atom, head-struct}
 use Rattle.op_cases.proofs.runs.add_value.Goals as goal
 
 pub name_of-requires : goal.name_of-requires

@@ -2,7 +2,8 @@ use Rattle.std.proofs.Common.{ap, ◌∙◌, sym, subst}
 use Rattle.op_logic.specs.Term.{args_of, node, arity}
 use Rattle.op_logic.specs.Names.{IsTable}
 use Rattle.op_store.specs.Stored.{Stored}
-use Rattle.op_machine.proofs.ControlLaws.{head-struct, on-true, on-false, name-of, if_then-disjunction, other-disjunction}
+use Rattle.op_term.proofs.Heads.{head-struct}
+use Rattle.op_machine.proofs.ControlLaws.{on-true, on-false, name-of, if_then-disjunction, other-disjunction}
 use Rattle.op_machine.proofs.goal_kind.is_if_then.Goals as goal
 
 pub returns-in-Struct-clause-yes : goal.returns-in-Struct-clause-yes

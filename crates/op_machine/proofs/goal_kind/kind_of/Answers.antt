@@ -6,7 +6,8 @@ use Rattle.op_trace.specs.Visit.{control}
 use Rattle.op_machine.specs.declared.goal_kind.GoalKind.{GoalKind}
 use Rattle.op_machine.specs.Program.{goal_named}
 use Rattle.op_machine.specs.inner.GoalKinds.{control_of_kind}
-use Rattle.op_machine.proofs.ControlLaws.{atom-control, struct-control, head-atom, head-struct, no-pair}
+use Rattle.op_term.proofs.Heads.{head-atom, head-struct}
+use Rattle.op_machine.proofs.ControlLaws.{atom-control, struct-control, no-pair}
 use Rattle.op_machine.proofs.goal_kind.kind_of.Goals as goal
 
 pub returns-in-Atom-clause-control : goal.returns-in-Atom-clause-control
