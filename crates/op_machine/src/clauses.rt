@@ -15,7 +15,7 @@ ghost use Rattle.op_machine.specs.declared.core_state.Step.TheVariants as step;
 use crate::choice_points::Held;
 use crate::continuations::Item;
 use crate::core_state::{Core, Mode, Step};
-use crate::goal_kind::is_true_atom;
+use crate::goal_kind::{is_true_atom, names_law};
 use op_base::Memory;
 use op_bind::{Clause, Ref};
 use op_store::{Pi, Snapshot};
@@ -155,7 +155,7 @@ impl Core {
         ensures advances { IfOk result (Advances self.old self.new (clause_unified self.old clause.now call goal rest)) }
         ensures keeps { Keeps self.old self.new }
     {
-        let _names = self.store.symbols().count();
+        names_law(&self.store);
         let mut fuel = Fuel::new(self.budget - self.steps);
         match self.bindings.rename(clause, &goal, &mut fuel) {
             Ok(Some(body)) => {

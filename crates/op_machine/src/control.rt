@@ -14,7 +14,7 @@ ghost use Rattle.op_machine.specs.declared.core_state.Step.TheVariants as step;
 
 use crate::continuations::Item;
 use crate::core_state::{Core, Mode, Step};
-use crate::goal_kind::{GoalKind, is_if_then, kind_of};
+use crate::goal_kind::{GoalKind, is_if_then, kind_of, names_law};
 use op_base::Memory;
 use op_bind::Ref;
 use op_trace::Barrier;
@@ -182,7 +182,7 @@ impl Core {
             (world_in self.old)) step.Silent) }
         ensures keeps { Keeps self.old self.new }
     {
-        let _names = self.store.symbols().count();
+        names_law(&self.store);
         let condition = self.bindings.argument(&goal, 0);
         let then = self.bindings.argument(&goal, 1);
         self.select_if_then_else(condition, then, self.failure, barrier, rest)

@@ -1,4 +1,6 @@
-ghost use Rattle.std.specs.Prelude.{◌≡◌, ◌≢◌, ◌<◌};
+ghost use Rattle.std.specs.Prelude.{◌≡◌, ◌≢◌, ◌<◌, take};
+ghost use Rattle.op_logic.specs.Names.{IsTable};
+ghost use Rattle.op_store.specs.Stored.{first_names};
 ghost use Rattle.std.specs.Bool.{OnTrue, OnFalse};
 ghost use Rattle.op_logic.specs.Term.{Term, args_of, arity, nth_arg};
 ghost use Rattle.op_term.specs.Head.{head};
@@ -30,12 +32,20 @@ pub enum GoalKind {
     Boxed,
 }
 
+/// A law for proofs: the names of a store are a table, in which those of the control constructs come first.
+pub(crate) fn names_law(store: &Store)
+    ensures table { IsTable store.now.names }
+    ensures begins { take 8 store.now.names ≡ first_names }
+{
+    let _ = store.symbols().count();
+}
+
 /// What kind of goal a term with this outermost node is, over the names of a store.
 pub(crate) fn kind_of(store: &Store, node: Node) -> GoalKind
     ensures control { (g : Term _) → head g ≡ node → control (goal_named store.now g) ≡ control_of_kind store.now g result }
     ensures two { (g : Term _) → head g ≡ node → IsPair result → arity (args_of g) ≡ 2 }
 {
-    let _names = store.symbols().count();
+    names_law(store);
     match node {
         Node::Atom(name) => atom_kind(name),
         Node::Struct(name, arity) => struct_kind(name, arity),
@@ -48,7 +58,7 @@ pub(crate) fn kind_of(store: &Store, node: Node) -> GoalKind
 pub(crate) fn is_true_atom(store: &Store, node: Node) -> bool
     ensures { (g : Term _) → head g ≡ node → result ≡ is_true (goal_named store.now g) }
 {
-    let _names = store.symbols().count();
+    names_law(store);
     match node {
         Node::Atom(name) => name.0 == 0,
         Node::Var(_) => false,
@@ -103,7 +113,7 @@ pub(crate) fn is_if_then(store: &Store, node: Node) -> bool
     ensures no { OnFalse result ((g : Term _) → head g ≡ node → (e : Term Text) → control_of_disjunction (goal_named store.now g) e
         ≡ Disjunction (goal_named store.now g) e) }
 {
-    let _names = store.symbols().count();
+    names_law(store);
     match node {
         Node::Struct(name, arity) => is_arrow(name, arity),
         Node::Var(_) => false,

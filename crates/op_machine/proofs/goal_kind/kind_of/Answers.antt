@@ -15,9 +15,9 @@ returns-in-Atom-clause-control c =
     λ g e.
     let t : Stored = c.args.store.now in
     let k : GoalKind = c.atom_kind.result in
-    let table : IsTable t.names = subst IsTable c.symbols.ensures.names c.count-names.ensures.table in
+    let table : IsTable t.names = c.names_law.ensures.table in
     ap (λ (x : Term ℕ). control (goal_named t x)) (head-atom g c.in-Atom.name (e ∙ c.in-Atom.is))
-    ∙ atom-control t table c.symbols.ensures.begins g c.in-Atom.name.0 k c.atom_kind.ensures.true_name c.atom_kind.ensures.fail_name
+    ∙ atom-control t table c.names_law.ensures.begins g c.in-Atom.name.0 k c.atom_kind.ensures.true_name c.atom_kind.ensures.fail_name
     c.atom_kind.ensures.false_name c.atom_kind.ensures.cut_name c.atom_kind.ensures.other
 
 pub returns-in-Atom-clause-two : goal.returns-in-Atom-clause-two
@@ -31,10 +31,10 @@ returns-in-Struct-clause-control c =
     λ g e.
     let t : Stored = c.args.store.now in
     let k : GoalKind = c.struct_kind.result in
-    let table : IsTable t.names = subst IsTable c.symbols.ensures.names c.count-names.ensures.table in
+    let table : IsTable t.names = c.names_law.ensures.table in
     let h = head-struct g c.in-Struct.name c.in-Struct.arity (e ∙ c.in-Struct.is) in
     subst (λ (x : Term ℕ). control (goal_named t x) ≡ control_of_kind t x k) (sym h.0)
-    (struct-control t table c.symbols.ensures.begins c.in-Struct.name.0 (args_of g) k h.2
+    (struct-control t table c.names_law.ensures.begins c.in-Struct.name.0 (args_of g) k h.2
     (λ a b. c.struct_kind.ensures.conjunction a (sym h.1 ∙ b)) (λ a b. c.struct_kind.ensures.disjunction a (sym h.1 ∙ b))
     (λ a b. c.struct_kind.ensures.if_then a (sym h.1 ∙ b))
     c.struct_kind.ensures.other (λ no. c.struct_kind.ensures.long (λ a. no (h.1 ∙ a))))

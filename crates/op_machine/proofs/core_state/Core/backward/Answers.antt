@@ -1,8 +1,9 @@
 use Rattle.std.proofs.Common.{◌≤◌, sym, ap, ◌∙◌, subst, arith}
 use Rattle.op_machine.specs.declared.core_state.Core.{Core}
 use Rattle.op_machine.specs.Meaning.{level_in}
-use Rattle.op_machine.specs.inner.Invariant.{IsFrame, IsGood}
+use Rattle.op_machine.specs.inner.Invariant.{IsFrame, IsGood, Fits}
 use Rattle.op_machine.specs.inner.Boxes.{IsTried}
+use Rattle.op_machine.proofs.StepLaws.{fits-frames, fits-elsewhere}
 use Rattle.op_machine.proofs.InvariantLaws.{restored-good, popped-frame, popped-tried, popped-calls}
 use Rattle.op_machine.proofs.core_state.Core.backward.Goals as goal
 
@@ -48,3 +49,9 @@ resume-requires-clause-tried c =
     subst P (sym c.restore.ensures.back)
     (popped-tried c.args.self.now c.pop_choice_point.new.self f c.requires.good c.in-Some.ensures.frames c.in-Some.ensures.rest
     c.in-Some.ensures.boxes c.restore.ensures.stays).1
+
+pub resume-requires-clause-fits : goal.resume-requires-clause-fits
+resume-requires-clause-fits c =
+    let popped : Core = c.pop_choice_point.new.self in
+    let fits : Fits popped = subst Fits (sym c.in-Some.ensures.rest) (fits-frames c.args.self.now popped.frames c.requires.fits) in
+    subst Fits (sym c.restore.ensures.back) (fits-elsewhere popped _ _ _ fits)

@@ -1,7 +1,10 @@
+use Rattle.std.proofs.Common.{sym, subst}
 use Rattle.op_machine.specs.declared.core_state.Core.{Core}
 use Rattle.op_machine.specs.declared.core_state.Step.{Step}
 use Rattle.op_machine.specs.Meaning.{goal_now, world_in}
 use Rattle.op_machine.specs.inner.Moves.{Advances, chosen_now, goal_moved}
+use Rattle.op_machine.specs.inner.Invariant.{Fits}
+use Rattle.op_machine.proofs.StepLaws.{with-step}
 use Rattle.op_machine.proofs.AdvanceLaws.{IfOk-then, chosen-paid}
 use Rattle.op_machine.proofs.core_state.Core.select.Goals as goal
 
@@ -16,3 +19,7 @@ returns-clause-advances c =
     IfOk-then c.execute.result P Q
     (λ s a. chosen-paid old paid new c.args.goal c.args.rest c.args.barrier s c.if-not-spend.ensures.paid c.if-not-spend.ensures.fits a)
     c.execute.ensures.advances
+
+pub execute-requires-clause-fits : goal.execute-requires-clause-fits
+execute-requires-clause-fits c =
+    subst Fits (sym c.if-not-spend.ensures.paid) (with-step c.args.self.now c.requires.fits c.if-not-spend.ensures.fits)

@@ -29,14 +29,14 @@ select_if_then_else-requires-clause-otherwise c =
     c.args.self.now.bindings.terms c.args.goal 1 c.argument-second.result c.requires.goal c.argument-second.ensures.there
     c.argument-second.ensures.value
 
-pub select_branches-self-requires-clause-first : goal.select_branches-self-requires-clause-first
-select_branches-self-requires-clause-first c =
+pub select_branches-requires-clause-first : goal.select_branches-requires-clause-first
+select_branches-requires-clause-first c =
     argument-goal (length c.args.self.now.store.names)
     c.args.self.now.bindings.terms c.args.goal 0 c.argument-first.result c.requires.goal c.argument-first.ensures.there
     c.argument-first.ensures.value
 
-pub select_branches-self-requires-clause-second : goal.select_branches-self-requires-clause-second
-select_branches-self-requires-clause-second c =
+pub select_branches-requires-clause-second : goal.select_branches-requires-clause-second
+select_branches-requires-clause-second c =
     argument-goal (length c.args.self.now.store.names)
     c.args.self.now.bindings.terms c.args.goal 1 c.argument-second.result c.requires.goal c.argument-second.ensures.there
     c.argument-second.ensures.value

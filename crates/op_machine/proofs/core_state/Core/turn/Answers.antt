@@ -2,7 +2,7 @@ use Rattle.std.proofs.Common.{refl, subst}
 use Rattle.op_machine.specs.declared.core_state.Step.{Step}
 use Rattle.op_machine.specs.declared.core_state.Step.TheVariants as step
 use Rattle.op_machine.specs.inner.Moves.{Advances}
-use Rattle.op_machine.proofs.TurnLaws.{moved_from, ended-at, walked-on, showed-on, lighter-on}
+use Rattle.op_machine.proofs.TurnLaws.{sound-fits, moved_from, ended-at, walked-on, showed-on, lighter-on}
 use Rattle.op_machine.proofs.core_state.Core.turn.Goals as goal
 
 pub returns-in-Over-clause-turned : goal.returns-in-Over-clause-turned
@@ -32,3 +32,6 @@ returns-in-Solution-clause-turned c =
     showed-on c.args.self.now c.loop-self.self c.advance.new.self step.Solution _ refl c.loop-self.invariant
     (subst (λ (s : Step). Advances c.loop-self.self c.advance.new.self (moved_from c.loop-self.self) s)
     c.in-Solution.is c.in_ok-advance.ensures.advances)
+
+pub advance-requires-clause-fits : goal.advance-requires-clause-fits
+advance-requires-clause-fits c = sound-fits c.loop-self.self c.loop-self.invariant.follows.sound

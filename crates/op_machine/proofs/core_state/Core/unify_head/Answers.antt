@@ -62,7 +62,7 @@ returns-in_ok-enter_body-in-Ok-Some-clause-advances c =
     let old : Core = c.args.self.now in
     let s : State = c.rename.new.self in
     let r : Clause = c.args.clause.now in
-    let table : IsTable old.store.names = subst IsTable c.symbols.ensures.names c.count-names.ensures.table in
+    let table : IsTable old.store.names = c.names_law.ensures.table in
     let m = matched old c.args.clause.now c.args.goal c.new-fuel.result c.rename.new.fuel s c.new-fuel.ensures
     (of-some c.in-Ok-Some.field-0 c.in-Ok-Some.body
     (λ _. with_variables c.args.clause.now.vars
@@ -89,7 +89,7 @@ pub returns-in-Ok-None-clause-advances : goal.returns-in-Ok-None-clause-advances
 returns-in-Ok-None-clause-advances c =
     let old : Core = c.args.self.now in
     let r : Clause = c.args.clause.now in
-    let table : IsTable old.store.names = subst IsTable c.symbols.ensures.names c.count-names.ensures.table in
+    let table : IsTable old.store.names = c.names_law.ensures.table in
     let none = paid-none r.vars (numbered_unifier old r c.args.goal) c.rename.new.fuel
     (paid-by old r c.args.goal c.new-fuel.result _ c.new-fuel.ensures (c.in-Ok-None.ensures.no (ap Ok c.in-Ok-None.field-0-is))) in
     let kept : c.rename.new.self ≡ old.bindings = c.in-Ok-None.ensures.kept (ap Ok c.in-Ok-None.field-0-is) in
@@ -100,7 +100,7 @@ pub returns-in-Err-Spent-clause-advances : goal.returns-in-Err-Spent-clause-adva
 returns-in-Err-Spent-clause-advances c =
     let old : Core = c.args.self.now in
     let r : Clause = c.args.clause.now in
-    let table : IsTable old.store.names = subst IsTable c.symbols.ensures.names c.count-names.ensures.table in
+    let table : IsTable old.store.names = c.names_law.ensures.table in
     let is = ap Err c.in-Err-Spent.field-0-is in
     let none = paid-by old r c.args.goal c.new-fuel.result _ c.new-fuel.ensures (c.in-Err-Spent.ensures.spent is) in
     let still : c.rename.new.self ≡ old.bindings = c.in-Err-Spent.ensures.still in
