@@ -1,10 +1,11 @@
 ghost use Rattle.std.specs.Prelude.{◌<◌, length, IfOk, OnOk};
 ghost use Rattle.op_bind.specs.Grown.{Grows};
+ghost use Rattle.op_bind.specs.State.{IsGoodMark};
 ghost use Rattle.op_logic.specs.Term.{IsWithin};
 
 use crate::show::shown;
 use op_base::Memory;
-use op_bind::{Bindings, Ref, Unified};
+use op_bind::{Bindings, Mark, Ref, Unified};
 use op_store::{Goal, Locked, Store};
 use op_term::{Fuel, Node, Symbols, WalkFault};
 use std::alloc::Global;
@@ -78,7 +79,40 @@ fn add_answer(
     add_value(alloc, line, symbols, bindings, equation, fuel)
 }
 
-// The same, and the equation's value once the bindings are undone.
+// The equation's value once the bindings are undone to a mark.
+fn add_undone(
+    alloc: Global,
+    line: &mut String,
+    symbols: &Symbols,
+    bindings: &mut Bindings,
+    mark: Mark,
+    equation: &Ref,
+) -> Result<(), Memory>
+    requires good { IsGoodMark bindings.old mark }
+    requires there { equation.now < mark.terms }
+{
+    bindings.undo_to(mark);
+    let mut fuel = Fuel::new(100);
+    add_value(alloc, line, symbols, bindings, equation, &mut fuel)
+}
+
+// The answer with what belongs to it, and the equation's value once the bindings are undone.
+fn add_unified(
+    alloc: Global,
+    line: &mut String,
+    symbols: &Symbols,
+    bindings: &mut Bindings,
+    equation: &Ref,
+    fuel: &mut Fuel,
+) -> Result<(), Memory>
+    requires { equation.now < length bindings.old.terms }
+{
+    let mark = bindings.mark();
+    add_answer(alloc, line, symbols, bindings, equation, fuel)?;
+    add_undone(alloc, line, symbols, bindings, mark, equation)
+}
+
+// The line of an equation.
 fn unify_arguments(
     alloc: Global,
     symbols: &Symbols,
@@ -89,17 +123,7 @@ fn unify_arguments(
     requires { equation.now < length bindings.old.terms }
 {
     let mut line = String::new(alloc);
-    let mark = bindings.mark();
-    add_answer(alloc, &mut line, symbols, bindings, equation, fuel)?;
-    bindings.undo_to(mark);
-    add_value(
-        alloc,
-        &mut line,
-        symbols,
-        bindings,
-        equation,
-        &mut Fuel::new(100),
-    )?;
+    add_unified(alloc, &mut line, symbols, bindings, equation, fuel)?;
     Ok(line)
 }
 

@@ -1,4 +1,4 @@
-ghost use Rattle.std.specs.Prelude.{◌≡◌, ◌<◌, ◌≤◌, length, IfOk};
+ghost use Rattle.std.specs.Prelude.{◌≡◌, ◌<◌, ◌≤◌, length, IfOk, IfSome};
 ghost use Rattle.op_logic.specs.Names.{HasNames};
 ghost use Rattle.op_bind.specs.State.{value_of};
 ghost use Rattle.op_store.specs.Queries.{IsSoundGoal};
@@ -203,23 +203,27 @@ fn add_shown<L: Ledger>(
 }
 
 fn run_by<L: Ledger>(
-    alloc: Global,
+    line: &mut String,
     machine: &mut Machine,
     blank: Blank,
     shown: Shown,
-) -> Result<String, Memory>
+) -> Result<(), Memory>
     requires name { blank.name ≡ L.name }
     requires parts { blank.parts ≡ L.parts }
     requires some { 0 < L.parts }
 {
-    let mut line = String::new(alloc);
     let mut steps = Steps::<L>::new(blank);
-    add_shown(&mut line, machine, &mut steps, shown)?;
-    Ok(line)
+    add_shown(line, machine, &mut steps, shown)
+}
+
+fn add_run(line: &mut String, machine: &mut Machine, shown: Shown) -> Result<(), Memory> {
+    run_by::<Brand>(line, machine, Blank::new(1), shown)
 }
 
 fn shown_run(alloc: Global, machine: &mut Machine, shown: Shown) -> Result<String, Memory> {
-    run_by::<Brand>(alloc, machine, Blank::new(1), shown)
+    let mut line = String::new(alloc);
+    add_run(&mut line, machine, shown)?;
+    Ok(line)
 }
 
 fn machine_run(alloc: Global, mut machine: Machine, shown: Shown) -> Result<String, Memory> {
@@ -244,6 +248,13 @@ fn goal_run(
     machine_run(alloc, machine, shown)
 }
 
+// The goal that a text is, where it is one.
+fn goal_in(store: &mut Store, text: &[u8]) -> Option<Goal>
+    ensures { IfSome result (λ g. IsSoundGoal (length store.new.names) g) }
+{
+    store.goal(text).ok()
+}
+
 // A run over a program that was loaded.
 fn loaded_run(
     alloc: Global,
@@ -253,9 +264,9 @@ fn loaded_run(
     wanted: u64,
     shown: Shown,
 ) -> Result<String, Memory> {
-    match store.goal(goal) {
-        Ok(goal) => goal_run(alloc, store, &goal, budget, wanted, shown),
-        Err(_) => Ok(String::from_str(alloc, "no goal")?),
+    match goal_in(&mut store, goal) {
+        Some(goal) => goal_run(alloc, store, &goal, budget, wanted, shown),
+        None => Ok(String::from_str(alloc, "no goal")?),
     }
 }
 

@@ -32,7 +32,7 @@ pub none_in : {A B : Type 0} (f : A → Option B) (o : Option A) → ((x : A) �
 none_in f None h = refl
 none_in f (Some x) h = h x refl
 
-map_some : {A B P : Type 0} (f : A → B) (o : Option A) (y : B) → option_map f o ≡ Some y → ((x : A) → o ≡ Some x → f x ≡ y → P) → P
+pub map_some : {A B P : Type 0} (f : A → B) (o : Option A) (y : B) → option_map f o ≡ Some y → ((x : A) → o ≡ Some x → f x ≡ y → P) → P
 map_some f None y h k = cc
 map_some f (Some x) y h k = k x refl (let i : Some (f x) ≡ Some y = h in cc)
 

@@ -21,3 +21,9 @@ mod Standing
 mod RowNames
 mod Later
 mod Refused
+mod Numbering
+mod TreeVariables
+mod RowsVariables
+mod WordsVariables
+mod TokensVariables
+mod ReadVariables

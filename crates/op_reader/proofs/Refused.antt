@@ -7,7 +7,7 @@ use Rattle.op_logic.proofs.Tests.{by_test, if_true, if_false}
 use Rattle.op_term.specs.Ops.{is_prefix, is_infix, is_postfix}
 use Rattle.op_term.specs.declared.ops.OpKind.{OpKind}
 use Rattle.op_term.specs.declared.ops.OpKind.TheVariants.{Xfx, Xfy, Yfx, Fy, Fx, Xf, Yf}
-use Rattle.op_reader.specs.Row.{Piece, operand, operator, Operator, alternates, is_row, top, root, left_bound, right_bound, is_empty, tree_of, tree}
+use Rattle.op_reader.specs.Row.{Piece, operand, operator, Operator, alternates, is_row, top, root, left_bound, right_bound, is_empty, with_one, with_two, tree_of, tree}
 use Rattle.op_reader.specs.Spine.{whole_priority, spine}
 use Rattle.op_reader.specs.Adding.{whole_term, taken, added_to}
 use Rattle.op_reader.specs.RowLaws.{HasNoTree}
@@ -39,20 +39,20 @@ postfix_keeps ps o k some h = no_tree (ps ++ operator o ∷ []) (spine-postfix o
 pub prefix_keeps : (ps : List (Piece ℕ)) (o : Operator ℕ) (t : Term ℕ) → is_prefix o.kind ≡ true → 0 < o.priority → HasNoTree (ps ++ operand t ∷ []) → HasNoTree (ps ++ operator o ∷ operand t ∷ [])
 prefix_keeps ps o t k some h = no_tree (ps ++ operator o ∷ operand t ∷ []) (spine-prefix o t k some ps ∙ ap (option_and_then (added_to o (by_prefix o t))) (no_spine (ps ++ operand t ∷ []) h))
 
--- the pieces of a row with a tree
-joined_when : {P : Type 0} (name : ℕ) (a b c d : Bool) (left right : Option (Term ℕ)) (t : Term ℕ) → joined_by name a b c d left right ≡ Some t →
-    (a ≡ true → c ≡ true → (r : Term ℕ) → right ≡ Some r → P)
-    → (a ≡ false → b ≡ true → d ≡ true → (l : Term ℕ) → left ≡ Some l → P)
-    → (a ≡ false → b ≡ false → (l : Term ℕ) → left ≡ Some l → (r : Term ℕ) → right ≡ Some r → P) → P
+-- the sides of a row with a tree
+pub joined_when : {N P : Type 0} (name : N) (a b c d : Bool) (left right : Option (Term N)) (t : Term N) → joined_by name a b c d left right ≡ Some t →
+    (a ≡ true → c ≡ true → (r : Term N) → right ≡ Some r → t ≡ with_one name r → P)
+    → (a ≡ false → b ≡ true → d ≡ true → (l : Term N) → left ≡ Some l → t ≡ with_one name l → P)
+    → (a ≡ false → b ≡ false → (l : Term N) → left ≡ Some l → (r : Term N) → right ≡ Some r → t ≡ with_two name l r → P) → P
 joined_when name true b true d left None t h f g k = cc
-joined_when name true b true d left (Some r) t h f g k = f refl refl r refl
+joined_when name true b true d left (Some r) t h f g k = f refl refl r refl (let i : with_one name r ≡ t = cc in sym i)
 joined_when name true b false d left right t h f g k = cc
 joined_when name false true c true None right t h f g k = cc
-joined_when name false true c true (Some l) right t h f g k = g refl refl refl l refl
+joined_when name false true c true (Some l) right t h f g k = g refl refl refl l refl (let i : with_one name l ≡ t = cc in sym i)
 joined_when name false true c false left right t h f g k = cc
 joined_when name false false c d None right t h f g k = cc
 joined_when name false false c d (Some l) None t h f g k = cc
-joined_when name false false c d (Some l) (Some r) t h f g k = k refl refl l refl r refl
+joined_when name false false c d (Some l) (Some r) t h f g k = k refl refl l refl r refl (let i : with_two name l r ≡ t = cc in sym i)
 
 infix_else : (k : OpKind) → is_prefix k ≡ false → is_postfix k ≡ false → is_infix k ≡ true
 infix_else Xfx h g = refl
@@ -116,9 +116,9 @@ of_row (suc n) bound ps t h =
     let i : ps ≡ s.before ++ operator o ∷ s.after = (root_splits (top ps) ps s refl r).pieces in
     by_test (leb o.priority bound)
     (λ y. joined_when o.name (is_prefix o.kind) (is_postfix o.kind) (is_empty s.before) (is_empty s.after) (tree_of n (left_bound o) s.before) (tree_of n (right_bound o) s.after) t (sym (if_true _ _ _ y) ∙ f)
-    (λ k z v g. ap is_row i ∙ prefix_row s.before o s.after k z (of_row n (right_bound o) s.after v g))
-    (λ p k z u g. ap is_row i ∙ postfix_row s.before o s.after p k z (of_row n (left_bound o) s.before u g))
-    (λ p k u g v w. ap is_row i ∙ infix_row s.before o s.after p k (of_row n (left_bound o) s.before u g) (of_row n (right_bound o) s.after v w)))
+    (λ k z v g _. ap is_row i ∙ prefix_row s.before o s.after k z (of_row n (right_bound o) s.after v g))
+    (λ p k z u g _. ap is_row i ∙ postfix_row s.before o s.after p k z (of_row n (left_bound o) s.before u g))
+    (λ p k u g v w _. ap is_row i ∙ infix_row s.before o s.after p k (of_row n (left_bound o) s.before u g) (of_row n (right_bound o) s.after v w)))
     (λ y. let j : None ≡ Some t = sym (if_false _ _ _ y) ∙ f in cc)))
 
 pub trees_of_rows : (bound : ℕ) (ps : List (Piece ℕ)) (t : Term ℕ) → tree bound ps ≡ Some t → is_row ps ≡ true

@@ -41,7 +41,7 @@ words_shown_more names more terms further held next us w u k l e s one =
     }
 
 -- the second token of a name [] or {} is no variable
-pair_step : (kind k : TokenKind) (u : Token) (us : List Token) → u.kind ≡ k → is_empty_pair kind (u ∷ us) ≡ true → is_variable k ≡ false
+pub pair_step : (kind k : TokenKind) (u : Token) (us : List Token) → u.kind ≡ k → is_empty_pair kind (u ∷ us) ≡ true → is_variable k ≡ false
 pair_step OpenSquare Variable u us e h = absurd (let g : is_empty_pair OpenSquare (u ∷ us) ≡ false = ap (λ j. elim j [ CloseSquare ↦ true | _ ↦ false ]) e in cc)
 pair_step OpenCurly Variable u us e h = absurd (let g : is_empty_pair OpenCurly (u ∷ us) ≡ false = ap (λ j. elim j [ CloseCurly ↦ true | _ ↦ false ]) e in cc)
 pair_step kind Variable u us e h = cc

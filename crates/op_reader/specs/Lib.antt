@@ -5,6 +5,7 @@ pub mod Words
 pub mod Roles
 pub mod Terms
 pub mod Reading
+pub mod Variables
 pub mod ReadingExamples
 pub mod Passes
 pub mod Marks

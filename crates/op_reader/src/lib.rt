@@ -13,6 +13,7 @@ mod name_word;
 mod names;
 mod piece;
 mod quotes;
+pub mod reading_laws;
 mod role;
 mod row;
 pub mod row_laws;

@@ -5,6 +5,7 @@ ghost use Rattle.op_reader.specs.Reading.{first_place as the_first_place, rows_o
 ghost use Rattle.op_reader.specs.Marks.{view, with_marks, no_layers, rows_of, word_in, WordBelow, MarkBelow};
 ghost use Rattle.op_reader.specs.Shown.{HasText};
 ghost use Rattle.op_reader.specs.Passes.{Tells, AreListNames, HasKnownNames};
+ghost use Rattle.op_reader.specs.Variables.{HasCount, HasItsVariables};
 
 use crate::bracket::unmatched;
 use crate::fault::{ReadFault, ReadFaultKind};
@@ -18,15 +19,16 @@ use crate::terms::term_node;
 use crate::word::Word;
 use crate::words::{Made, words_of};
 use op_base::Memory;
-use op_term::{Builder, Ops, Symbols, Term};
+use op_term::{Ops, Symbols, Term};
 use op_token::{Token, TokenFaultKind};
 use std::alloc::Global;
 
-/// A term that was read, with its named variables and the bytes up to the end of its end token.
+/// A term that was read, with its named variables, how many variables it has, and the bytes up to the end of its end token.
 #[derive(Drop)]
 pub struct Read {
     pub term: Term,
     pub names: Names,
+    pub vars: u64,
     pub used: u64,
 }
 
@@ -60,19 +62,24 @@ fn list_names(symbols: &mut Symbols) -> Result<ListNames, Memory>
 // The reading of a clause's marks; the clause begins at a place, and so many bytes are used.
 fn read_marks(
     alloc: Global,
-    nodes: Builder,
-    names: Names,
+    made: Made,
     known: ListNames,
     marks: &[Mark],
     place: u64,
     used: u64,
 ) -> Result<Reading, ReadFault>
-    requires { All (MarkBelow (length nodes)) marks.now }
-    ensures { (table : List (List ℕ)) → AreListNames table known → (with_marks (view table nodes) marks.now no_layers).outer ≡ [] →
-        Tells table result (rows_outcome place names used (rows_of (view table nodes) marks.now)) }
+    requires { All (MarkBelow (length made.nodes)) marks.now }
+    ensures tells { (table : List (List ℕ)) → AreListNames table known →
+        (with_marks (view table made.nodes) marks.now no_layers).outer ≡ [] →
+        Tells table result (rows_outcome place made.names used (rows_of (view table made.nodes) marks.now)) }
+    ensures counted { IfOk result (HasCount made.count) }
 {
-    let mut made = nodes;
-    match term_node(alloc, &mut made, known, marks)? {
+    let Made {
+        mut nodes,
+        names,
+        count,
+    } = made;
+    match term_node(alloc, &mut nodes, known, marks)? {
         None => Err(ReadFault::Bad {
             place: place,
             kind: ReadFaultKind::Priority,
@@ -83,7 +90,8 @@ fn read_marks(
                 kind: ReadFaultKind::Token(TokenFaultKind::NumberRange),
             }),
             None => Ok(Reading::Term(Read {
-                term: made.finish(root),
+                term: nodes.finish(root),
+                vars: count,
                 names,
                 used,
             })),
@@ -101,20 +109,17 @@ fn read_words(
     stop: Token,
 ) -> Result<Reading, ReadFault>
     requires { All (WordBelow (length made.nodes)) words.now }
-    ensures { (table : List (List ℕ)) → AreListNames table known → (levels_of stop.from (map (word_in (view table made.nodes)) words.now)).outer ≡ [] →
+    ensures tells { (table : List (List ℕ)) → AreListNames table known →
+        (levels_of stop.from (map (word_in (view table made.nodes)) words.now)).outer ≡ [] →
         Tells table result (words_outcome place made.names stop.from stop.to (map (word_in (view table made.nodes)) words.now)) }
+    ensures counted { IfOk result (HasCount made.count) }
 {
-    let Made {
-        nodes,
-        names,
-        count: _,
-    } = made;
     match roles_of(alloc, words, stop.from)? {
         Roles::Refused(at) => Err(ReadFault::Bad {
             place: at,
             kind: ReadFaultKind::NoOperand,
         }),
-        Roles::Marks(marks) => read_marks(alloc, nodes, names, known, &marks, place, stop.to),
+        Roles::Marks(marks) => read_marks(alloc, made, known, &marks, place, stop.to),
     }
 }
 
@@ -131,6 +136,7 @@ fn read_clause(
     requires { All (HasText bytes.now) tokens.now }
     ensures tells { Tells symbols.new result (sentence_outcome ops.now quotes bytes.now (sentence tokens.now stop)) }
     ensures known { IfOk result (HasKnownNames (length symbols.new)) }
+    ensures variables { IfOk result HasItsVariables }
     ensures kept { take (length symbols.old) symbols.new ≡ symbols.old }
 {
     if let Some(place) = unmatched(alloc, tokens)? {
@@ -156,6 +162,7 @@ pub fn read_term(
 ) -> Result<Reading, ReadFault>
     ensures tells { Tells symbols.new result (reading_of ops.now quotes bytes.now) }
     ensures known { IfOk result (HasKnownNames (length symbols.new)) }
+    ensures variables { IfOk result HasItsVariables }
     ensures kept { take (length symbols.old) symbols.new ≡ symbols.old }
 {
     match first_clause(alloc, bytes)? {

@@ -1,7 +1,10 @@
 ghost use Rattle.std.specs.Prelude.{◌≡◌, ◌<◌, ◌≤◌, ◌+◌, ◌^◌, ℕ, suc, List, [], All, length, take, drop, slice_index_or, codes, IfOk, OnOk};
 ghost use Rattle.std.specs.Str.{IsUtf8};
 ghost use Rattle.op_logic.specs.Term.{Term, var};
-ghost use Rattle.op_reader.specs.Words.{source, name_word as the_name_word, integer_word as the_integer_word, operand_word, empty_name as the_empty_name, empty_word as the_empty_word, opening_word as the_opening_word, comma, word_of as the_word_of, words_of as the_words_of, variables_of, named_from, met_behind, as_operator as the_as_operator, text_term, spelling, number_of};
+ghost use Rattle.op_reader.specs.Words.{source, name_word as the_name_word, integer_word as the_integer_word, operand_word};
+ghost use Rattle.op_reader.specs.Words.{empty_name as the_empty_name, empty_word as the_empty_word, opening_word as the_opening_word, comma};
+ghost use Rattle.op_reader.specs.Words.{word_of as the_word_of, words_of as the_words_of, as_operator as the_as_operator, text_term};
+ghost use Rattle.op_reader.specs.Words.{variables_of, named_from, met_behind, spelling, number_of};
 ghost use Rattle.op_reader.specs.Shown.{HasText, HasMet, ShowsWord, ShowsOperator, ShowsWords, Worded, text_in};
 
 use crate::ahead::{is_empty_pair, opens};
@@ -30,7 +33,8 @@ fn name_word(
     requires token { HasText bytes.now token }
     requires text { All (HasText bytes.now) rest.now }
     requires utf8 { IsUtf8 (text_in bytes.now token) }
-    ensures shown { IfOk result (λ w. ShowsWord symbols.new nodes.new w (the_name_word ops.now bytes.now token (text_in bytes.now token) rest.now)) }
+    ensures shown { IfOk result (λ w.
+        ShowsWord symbols.new nodes.new w (the_name_word ops.now bytes.now token (text_in bytes.now token) rest.now)) }
     ensures names_kept { take (length symbols.old) symbols.new ≡ symbols.old }
     ensures kept { take (length nodes.old) nodes.new ≡ nodes.old }
 {
@@ -127,7 +131,8 @@ fn opening_word(
 }
 
 fn comma_word(ops: &Ops, symbols: &mut Symbols, token: Token) -> Result<Word, Memory>
-    ensures shown { IfOk result (λ w. (terms : List (Term ℕ)) → ShowsWord symbols.new terms w (comma token.from (the_as_operator ops.now (codes ",")))) }
+    ensures shown { IfOk result (λ w. (terms : List (Term ℕ)) →
+        ShowsWord symbols.new terms w (comma token.from (the_as_operator ops.now (codes ",")))) }
     ensures names_kept { take (length symbols.old) symbols.new ≡ symbols.old }
 {
     let sym = symbols.intern(",")?;
@@ -149,7 +154,8 @@ fn variable_word(alloc: Global, bytes: &[u8], made: &mut Made, token: Token) -> 
     requires few { made.old.count + 1 < 2 ^ 64 }
     ensures shown { IfOk result (λ w. (names met : List (List ℕ)) → HasMet made.old.names made.old.count met →
         ShowsWord names made.new.nodes w (operand_word token (var (number_of met (spelling bytes.now token))))) }
-    ensures met { OnOk result ((met : List (List ℕ)) → HasMet made.old.names made.old.count met → HasMet made.new.names made.new.count (met_behind bytes.now met token)) }
+    ensures met { OnOk result ((met : List (List ℕ)) → HasMet made.old.names made.old.count met →
+        HasMet made.new.names made.new.count (met_behind bytes.now met token)) }
     ensures kept { take (length made.old.nodes) made.new.nodes ≡ made.old.nodes }
     ensures few { made.new.count ≤ made.old.count + 1 }
 {
@@ -176,7 +182,8 @@ fn word_of(
     requires few { made.old.count + 1 < 2 ^ 64 }
     ensures shown { IfOk result (λ w. (met : List (List ℕ)) → HasMet made.old.names made.old.count met →
         ShowsWord symbols.new made.new.nodes w (the_word_of (source ops.now quotes bytes.now) met token rest.now)) }
-    ensures met { OnOk result ((met : List (List ℕ)) → HasMet made.old.names made.old.count met → HasMet made.new.names made.new.count (met_behind bytes.now met token)) }
+    ensures met { OnOk result ((met : List (List ℕ)) → HasMet made.old.names made.old.count met →
+        HasMet made.new.names made.new.count (met_behind bytes.now met token)) }
     ensures names_kept { take (length symbols.old) symbols.new ≡ symbols.old }
     ensures kept { take (length made.old.nodes) made.new.nodes ≡ made.old.nodes }
     ensures few { made.new.count ≤ made.old.count + 1 }
@@ -272,8 +279,10 @@ pub(crate) fn words_of(
     tokens: &[Token],
 ) -> Result<(Vec<Word>, Made), Memory>
     requires { All (HasText bytes.now) tokens.now }
-    ensures words { IfOk result (λ r. ShowsWords symbols.new r.1.nodes r.0.items (the_words_of (source ops.now quotes bytes.now) tokens.now)) }
+    ensures words { IfOk result (λ r.
+        ShowsWords symbols.new r.1.nodes r.0.items (the_words_of (source ops.now quotes bytes.now) tokens.now)) }
     ensures names { IfOk result (λ r. r.1.names ≡ named_from 0 (variables_of bytes.now [] tokens.now)) }
+    ensures count { IfOk result (λ r. r.1.count ≡ length (variables_of bytes.now [] tokens.now)) }
     ensures names_kept { take (length symbols.old) symbols.new ≡ symbols.old }
 {
     let mut made = Made {

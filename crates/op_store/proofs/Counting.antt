@@ -1,9 +1,8 @@
 -- How many variables terms have.
-use Rattle.std.proofs.Common.{◌≡◌, ℕ, suc, ◌<◌, max, List, [], ◌∷◌, ◌++◌, length, refl, ap, ◌∙◌, arith}
-use Rattle.std.specs.Prelude.{slice_index_or}
-use Rattle.op_trace.specs.World.{Text}
-use Rattle.op_reader.specs.Reading.{AreCounted}
-use Rattle.op_logic.specs.Term.{Term, var, int, node, Args, no_args, arg, rename_args}
+use Rattle.std.proofs.Common.{◌≡◌, ℕ, zero, suc, ◌<◌, ◌≤◌, ◌||◌, true, max, List, [], ◌∷◌, ◌++◌, refl, ap, sym, ◌∙◌, arith}
+use Rattle.std.proofs.lemmas.Bool.{eqb-true}
+use Rattle.op_logic.specs.Term.{Term, var, int, node, Args, no_args, arg, occurs, occurs_args, rename_args, IsWithin, ArgsWithin}
+use Rattle.op_logic.proofs.Tests.{by_test}
 use Rattle.op_store.specs.Counted.{variable_count, args_variable_count}
 use Rattle.op_logic.specs.Names.{name_at, named}
 use Rattle.op_term.specs.declared.node.Node.{Node}
@@ -52,7 +51,30 @@ mutual
       let b : args_variable_count (rename_args (name_at names) ts) ≡ args_variable_count ts = count-args-named names ts in
       omega arith
 
--- numbers that are each below a count
-pub all-counted : (n : ℕ) (ns : List (Text × ℕ)) → ((k : ℕ) → k < length ns → (slice_index_or ns k ([], 0)).1 < n) → AreCounted n ns
-all-counted n [] h = tt
-all-counted n (e ∷ ns) h = (h 0 (omega arith), all-counted n ns (λ k l. h (suc k) (omega arith)))
+-- a term with exactly the variables below a number has so many
+mutual
+  within-counted : (n : ℕ) (t : Term ℕ) → IsWithin n t → variable_count t ≤ n
+  within-counted n (var v) h = omega (arith, h)
+  within-counted n (int i) h = omega arith
+  within-counted n (node f ts) h = args-within-counted n ts h
+
+  args-within-counted : (n : ℕ) (ts : Args ℕ) → ArgsWithin n ts → args_variable_count ts ≤ n
+  args-within-counted n no_args h = omega arith
+  args-within-counted n (arg t ts) h = let a = within-counted n t h.0 in let b = args-within-counted n ts h.1 in omega arith
+
+mutual
+  occurs-counted : (v : ℕ) (t : Term ℕ) → occurs v t ≡ true → v < variable_count t
+  occurs-counted v (var w) h = let e : v ≡ w = eqb-true v w h in omega arith
+  occurs-counted v (int i) h = cc
+  occurs-counted v (node f ts) h = args-occurs-counted v ts h
+
+  args-occurs-counted : (v : ℕ) (ts : Args ℕ) → occurs_args v ts ≡ true → v < args_variable_count ts
+  args-occurs-counted v no_args h = cc
+  args-occurs-counted v (arg t ts) h =
+      by_test (occurs v t)
+      (λ e. let a = occurs-counted v t e in omega arith)
+      (λ e. let a = args-occurs-counted v ts (sym (ap (λ b. b || occurs_args v ts) e) ∙ h) in omega arith)
+
+pub counted-exactly : (n : ℕ) (t : Term ℕ) → IsWithin n t → ((v : ℕ) → v < n → occurs v t ≡ true) → n ≡ variable_count t
+counted-exactly zero t h g = let a = within-counted 0 t h in omega arith
+counted-exactly (suc n) t h g = let a = within-counted (suc n) t h in let b = occurs-counted n t (g n (omega arith)) in omega arith

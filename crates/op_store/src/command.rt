@@ -1,5 +1,6 @@
 ghost use Rattle.std.specs.Prelude.{◌≡◌, length, take, IfOk, IfErr};
 ghost use Rattle.op_logic.specs.Names.{HasNames, named};
+ghost use Rattle.op_reader.specs.Variables.{HasVariables};
 ghost use Rattle.op_store.specs.Load.{command_of, command_read};
 ghost use Rattle.op_store.specs.Queries.{TellsCommand, IsSoundGoal, IsSoundFault};
 
@@ -11,7 +12,8 @@ use op_term::{Ops, Symbols};
 use std::alloc::Global;
 
 fn convert_command(alloc: Global, symbols: &mut Symbols, read: Read) -> Result<Goal, CommandFault>
-    requires { HasNames (length symbols.old) read.term }
+    requires names { HasNames (length symbols.old) read.term }
+    requires variables { HasVariables read.vars read.term read.names }
     ensures tells { TellsCommand symbols.new result (command_read (named symbols.new read.term) read.names) }
     ensures sound { IfOk result (IsSoundGoal (length symbols.new)) }
     ensures refused { IfErr result (IsSoundFault (length symbols.new)) }

@@ -1,9 +1,9 @@
-ghost use Rattle.std.specs.Prelude.{◌≡◌, true, length, take, IfOk};
+ghost use Rattle.std.specs.Prelude.{◌≡◌, length, take, IfOk};
 ghost use Rattle.op_logic.specs.Names.{HasNames};
-ghost use Rattle.op_reader.specs.Reading.{AreCounted};
+ghost use Rattle.op_reader.specs.Variables.{HasVariables};
 ghost use Rattle.op_store.specs.Queries.{IsConverted, IsSoundConverted};
 
-use crate::converted::{converted_term, count_variables};
+use crate::converted::converted_term;
 use op_base::Memory;
 use op_reader::{Names, Read};
 use op_term::{Symbols, Term, Whole};
@@ -25,25 +25,14 @@ pub(crate) enum Converted {
     NotBody(Term),
 }
 
-// Whether each named variable's number is below a count.
-fn are_counted(names: &Names, vars: u64) -> bool
-    ensures { result ≡ true → AreCounted vars names.now }
-{
-    'names: for i in 0..names.len() {
-        if names.var(i) >= vars {
-            return false;
-        }
-    }
-    true
-}
-
 /// Converts a term that was read.
 pub(crate) fn convert_read(
     alloc: Global,
     symbols: &mut Symbols,
     read: Read,
 ) -> Result<Converted, Memory>
-    requires { HasNames (length symbols.old) read.term }
+    requires names { HasNames (length symbols.old) read.term }
+    requires variables { HasVariables read.vars read.term read.names }
     ensures goal { IfOk result (λ c. IsConverted symbols.new read c) }
     ensures sound { IfOk result (IsSoundConverted (length symbols.new)) }
     ensures kept { take (length symbols.old) symbols.new ≡ symbols.old }
@@ -51,14 +40,10 @@ pub(crate) fn convert_read(
     let Read {
         term,
         names,
+        vars,
         used: _,
     } = read;
     let whole = Whole::new(&term);
-    let vars = count_variables(alloc, &whole, &whole.root())?;
-    let counted = are_counted(&names, vars);
-    if !counted {
-        return Err(Memory);
-    }
     match converted_term(alloc, symbols, &whole, &whole.root())? {
         Some(body) => Ok(Converted::Goal(Goal { body, names, vars })),
         None => Ok(Converted::NotBody(term)),

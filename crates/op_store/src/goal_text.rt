@@ -1,5 +1,6 @@
 ghost use Rattle.std.specs.Prelude.{◌≡◌, ◌<◌, ◌+◌, ◌^◌, ◌++◌, ◌∷◌, [], length, take, IfOk};
 ghost use Rattle.op_logic.specs.Names.{HasNames, named};
+ghost use Rattle.op_reader.specs.Variables.{HasVariables};
 ghost use Rattle.op_store.specs.Load.{goal_in, goal_read as the_goal_read, goal_of, goal_bytes as the_goal_bytes};
 ghost use Rattle.op_store.specs.Queries.{TellsGoal, IsSoundGoal};
 
@@ -20,6 +21,7 @@ fn goal_read(
     read: Read,
 ) -> Result<Goal, LoadFault>
     requires names { HasNames (length symbols.old) read.term }
+    requires variables { HasVariables read.vars read.term read.names }
     requires small { 1 + length bytes.now < 2 ^ 64 }
     ensures tells { TellsGoal symbols.new result (the_goal_read bytes.now (named symbols.new read.term) read.names read.used) }
     ensures sound { IfOk result (IsSoundGoal (length symbols.new)) }

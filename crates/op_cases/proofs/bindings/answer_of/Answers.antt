@@ -3,10 +3,10 @@ use Rattle.std.proofs.Common.{sym, ◌∙◌}
 use Rattle.op_term.proofs.Heads.{head-struct}
 use Rattle.op_cases.proofs.bindings.answer_of.Goals as goal
 
-pub argument-requires-clause-within : goal.argument-requires-clause-within
-argument-requires-clause-within c =
+pub argument-left-requires-clause-within : goal.argument-left-requires-clause-within
+argument-left-requires-clause-within c =
     (head-struct (term_at c.args.bindings.old.terms c.args.equation.now) _ _ (sym c.outline.ensures ∙ c.in-Struct.is)).2
 
-pub argument-requires-2-clause-within : goal.argument-requires-2-clause-within
-argument-requires-2-clause-within c =
+pub argument-right-requires-clause-within : goal.argument-right-requires-clause-within
+argument-right-requires-clause-within c =
     (head-struct (term_at c.args.bindings.old.terms c.args.equation.now) _ _ (sym c.outline.ensures ∙ c.in-Struct.is)).2

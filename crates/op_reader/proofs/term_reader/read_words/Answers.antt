@@ -11,7 +11,7 @@ read_marks-requires c =
     All-same (MarkBelow n) c.deref.result.now c.in-Marks.marks.items c.deref.ensures.value
     (subst (λ (r : Roles). RolesBelow n r) c.in-Marks.is (c.in_ok-at.ensures.below n c.requires))
 
-pub returns-in-Refused : goal.returns-in-Refused
-returns-in-Refused c table h outer =
+pub returns-in-Refused-clause-tells : goal.returns-in-Refused-clause-tells
+returns-in-Refused-clause-tells c table h outer =
     let roles = subst (λ (r : Roles). HasRoles c.args.stop.from c.args.words.now r) c.in-Refused.is c.in_ok-at.ensures.roles in
     misplaced_word c.args.place c.args.stop.from c.args.stop.to c.in-Refused.at c.args.made.names (map (word_in (view table c.args.made.nodes)) c.args.words.now) (roles (view table c.args.made.nodes) outer)

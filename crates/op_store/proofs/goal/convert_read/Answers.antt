@@ -1,40 +1,36 @@
-use Rattle.std.proofs.Common.{◌≡◌, ℕ, Option, sym, ap, ◌∙◌, subst, refl, arith}
+use Rattle.std.proofs.Common.{◌≡◌, ℕ, Option, sym, ap, ◌∙◌, subst, refl}
 use Rattle.std.specs.Prelude.{option_map}
 use Rattle.op_logic.specs.Term.{Term, IsWithin}
-use Rattle.op_store.specs.Counted.{variable_count}
 use Rattle.op_logic.specs.Names.{named}
 use Rattle.op_term.specs.Places.{term_at}
 use Rattle.op_store.specs.Body.{converted}
-use Rattle.op_store.proofs.Counting.{count-named}
+use Rattle.op_store.proofs.Counting.{count-named, counted-exactly}
 use Rattle.op_store.proofs.Bodies.{kept-has}
-use Rattle.op_store.proofs.Converting.{within-count}
 use Rattle.op_store.proofs.goal.convert_read.Goals as goal
 
 pub returns-in-Some-clause-goal : goal.returns-in-Some-clause-goal
 returns-in-Some-clause-goal c =
     let names = c.converted_term.new.symbols in
     let w = c.new-whole.result in
-    let e1 : term_at w.terms c.root.result ≡ c.args.read.term = ap (term_at w.terms) c.root.ensures.root ∙ c.new-whole.ensures.value in
-    let e2 : term_at w.terms c.root-2.result ≡ c.args.read.term = ap (term_at w.terms) c.root-2.ensures.root ∙ c.new-whole.ensures.value in (
-      ap (λ (t : Term ℕ). (converted (named names t)).body) (sym e2) ∙ (sym c.in_ok-body.ensures.body ∙ ap (λ (o : Option (Term ℕ)). option_map (named names) o) c.in-Some.is),
+    let t : Term ℕ = c.args.read.term in
+    let e : term_at w.terms c.root.result ≡ t = ap (term_at w.terms) c.root.ensures.root ∙ c.new-whole.ensures.value in (
+      ap (λ (t : Term ℕ). (converted (named names t)).body) (sym e) ∙ (sym c.in_ok-body.ensures.body ∙ ap (λ (o : Option (Term ℕ)). option_map (named names) o) c.in-Some.is),
       refl,
-      c.in_ok-vars.ensures ∙ (ap variable_count e1 ∙ sym (count-named names c.args.read.term)),
+      counted-exactly c.args.read.vars t c.requires.variables.within c.requires.variables.there ∙ sym (count-named names t),
     )
 
 pub returns-in-Some-clause-sound : goal.returns-in-Some-clause-sound
 returns-in-Some-clause-sound c =
     let w = c.new-whole.result in
     let t : Term ℕ = c.args.read.term in
-    let e1 : term_at w.terms c.root.result ≡ t = ap (term_at w.terms) c.root.ensures.root ∙ c.new-whole.ensures.value in
-    let e2 : term_at w.terms c.root-2.result ≡ t = ap (term_at w.terms) c.root-2.ensures.root ∙ c.new-whole.ensures.value in
-    let vars : c.in_ok-vars.vars ≡ variable_count t = c.in_ok-vars.ensures ∙ ap variable_count e1 in
-    let n : ℕ = c.in_ok-vars.vars in
-    let within : IsWithin n (term_at w.terms c.root-2.result) = subst (λ (x : Term ℕ). IsWithin n x) (sym e2) (within-count t n (omega (arith, vars))) in
+    let n : ℕ = c.args.read.vars in
+    let e : term_at w.terms c.root.result ≡ t = ap (term_at w.terms) c.root.ensures.root ∙ c.new-whole.ensures.value in
+    let within : IsWithin n (term_at w.terms c.root.result) = subst (λ (x : Term ℕ). IsWithin n x) (sym e) c.requires.variables.within in
     record {
       names = rw c.in-Some.is at c.in_ok-body.ensures.has;
       within = rw c.in-Some.is at c.in_ok-body.ensures.within n within;
-      counted = c.are_counted-counted.ensures c.if-not-counted.false;
+      counted = c.requires.variables.named;
     }
 
 pub returns-in-None-clause-sound : goal.returns-in-None-clause-sound
-returns-in-None-clause-sound c = kept-has c.args.symbols.now c.converted_term.new.symbols c.args.read.term c.converted_term.ensures.kept c.requires
+returns-in-None-clause-sound c = kept-has c.args.symbols.now c.converted_term.new.symbols c.args.read.term c.converted_term.ensures.kept c.requires.names

@@ -1,0 +1,71 @@
+-- The variables of a row's tree are those of its operands, from left to right.
+use Rattle.std.proofs.Common.{◌≡◌, ℕ, zero, suc, Bool, true, List, [], ◌∷◌, ◌++◌, Option, Some, None, length, refl, ap, sym, ◌∙◌, leb, append_assoc}
+use Rattle.std.proofs.lemmas.List.{append-nil}
+use Rattle.op_logic.specs.Term.{Term}
+use Rattle.op_logic.proofs.Tests.{by_test, if_true, if_false}
+use Rattle.op_term.specs.Ops.{is_prefix, is_postfix}
+use Rattle.op_reader.specs.Row.{Piece, operand, operator, Operator, top, root, left_bound, right_bound, is_empty, with_one, with_two, tree_of, tree}
+use Rattle.op_reader.specs.Variables.{variables}
+use Rattle.op_reader.proofs.Roots.{root_splits}
+use Rattle.op_reader.proofs.Spines.{single_or, tree_step, tree_at, tree_single}
+use Rattle.op_reader.proofs.Adds.{only_when}
+use Rattle.op_reader.proofs.Refused.{joined_when}
+
+module _ {N : Type 0} where
+  abbrev pub piece_variables : Piece N → List ℕ
+  piece_variables (operand t) = variables t
+  piece_variables (operator o) = []
+
+  abbrev pub pieces_variables : List (Piece N) → List ℕ
+  pieces_variables [] = []
+  pieces_variables (p ∷ ps) = piece_variables p ++ pieces_variables ps
+
+  pieces-append : (ps qs : List (Piece N)) → pieces_variables (ps ++ qs) ≡ pieces_variables ps ++ pieces_variables qs
+  pieces-append [] qs = refl
+  pieces-append (p ∷ ps) qs =
+      ap (λ (vs : List ℕ). piece_variables p ++ vs) (pieces-append ps qs)
+      ∙ sym (append_assoc (piece_variables p) (pieces_variables ps) (pieces_variables qs))
+
+  none_there : (ps : List (Piece N)) → is_empty ps ≡ true → [] ≡ pieces_variables ps
+  none_there [] h = refl
+  none_there (p ∷ ps) h = cc
+
+  tree_variables_of : (n bound : ℕ) (ps : List (Piece N)) (t : Term N) → tree_of n bound ps ≡ Some t → variables t ≡ pieces_variables ps
+  unfolding tree_of
+  tree_variables_of zero bound ps t h = cc
+  tree_variables_of (suc n) bound ps t h =
+      single_or ps
+      (λ u e. single u e)
+      (λ e. only_when (tree_at n bound) (root ps) t (sym (tree_step n bound ps e) ∙ h)
+      (λ s r f.
+      let o = s.root in
+      let split : ps ≡ s.before ++ operator o ∷ s.after = (root_splits (top ps) ps s refl r).pieces in
+      let all : pieces_variables ps ≡ pieces_variables s.before ++ pieces_variables s.after =
+      ap (λ (qs : List (Piece N)). pieces_variables qs) split ∙ pieces-append s.before (operator o ∷ s.after) in
+      by_test (leb o.priority bound)
+      (λ y. joined_when o.name (is_prefix o.kind) (is_postfix o.kind) (is_empty s.before) (is_empty s.after)
+      (tree_of n (left_bound o) s.before) (tree_of n (right_bound o) s.after) t (sym (if_true _ _ _ y) ∙ f)
+      (λ k z v g i.
+      ap (λ (x : Term N). variables x) i
+      ∙ (append-nil (variables v)
+      ∙ (tree_variables_of n (right_bound o) s.after v g
+      ∙ (ap (λ (vs : List ℕ). vs ++ pieces_variables s.after) (none_there s.before z) ∙ sym all))))
+      (λ p k z u g i.
+      ap (λ (x : Term N). variables x) i
+      ∙ (ap (λ (vs : List ℕ). variables u ++ vs) (none_there s.after z)
+      ∙ (ap (λ (vs : List ℕ). vs ++ pieces_variables s.after) (tree_variables_of n (left_bound o) s.before u g) ∙ sym all)))
+      (λ p k u g v w i.
+      ap (λ (x : Term N). variables x) i
+      ∙ (ap (λ (vs : List ℕ). variables u ++ vs) (append-nil (variables v) ∙ tree_variables_of n (right_bound o) s.after v w)
+      ∙ (ap (λ (vs : List ℕ). vs ++ pieces_variables s.after) (tree_variables_of n (left_bound o) s.before u g) ∙ sym all))))
+      (λ y. let j : None ≡ Some t = sym (if_false _ _ _ y) ∙ f in cc)))
+    where
+      single : (u : Term N) → ps ≡ operand u ∷ [] → variables t ≡ pieces_variables ps
+      single u e =
+          let i : Some u ≡ Some t = sym (tree_single n bound u) ∙ (sym (ap (λ (qs : List (Piece N)). tree_of (suc n) bound qs) e) ∙ h) in
+          let j : u ≡ t = cc in
+          ap (λ (x : Term N). variables x) (sym j)
+          ∙ (sym (append-nil (variables u)) ∙ sym (ap (λ (qs : List (Piece N)). pieces_variables qs) e))
+
+  pub tree_variables : (bound : ℕ) (ps : List (Piece N)) (t : Term N) → tree bound ps ≡ Some t → variables t ≡ pieces_variables ps
+  tree_variables bound ps t h = tree_variables_of (length ps) bound ps t h
