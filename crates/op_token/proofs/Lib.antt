@@ -12,3 +12,4 @@ pub mod Names
 pub mod TokenTexts
 pub mod Prefixes
 pub mod Longest
+pub mod Spelt

@@ -84,7 +84,7 @@ module _ (P : TokenKind → Type 0) (no_integer : (n : ℕ) → P (Integer n) �
       (λ e. decimal_not at minus (b ∷ s)))))
 
 -- a byte that begins a name or a variable is ASCII
-class_low : (b : ℕ) → (class_of b ≡ Bad → ⊥) → b < 128
+pub class_low : (b : ℕ) → (class_of b ≡ Bad → ⊥) → b < 128
 class_low b =
     let P : Class → Type 0 = λ c. (c ≡ Bad → ⊥) → b < 128 in
     if_either P (b == 32 || (nat_le 9 b && nat_le b 13)) Layout _ (λ e h. layout b e)

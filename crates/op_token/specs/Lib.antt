@@ -8,3 +8,4 @@ pub mod Class
 pub mod Spelling
 pub mod Tokens
 pub mod MadeUp
+pub mod Spellings

@@ -5,6 +5,7 @@ ghost use Rattle.std.specs.Char.{IsScalar};
 ghost use Rattle.op_token.specs.Character.{char_at, first_char};
 ghost use Rattle.op_token.specs.Tokens.{scan_of, unquoted, IsPlain, IsQuoted};
 ghost use Rattle.op_token.specs.MadeUp.{MadeUp};
+ghost use Rattle.op_token.specs.Spellings.{IsToken, IsBefore};
 ghost use Rattle.op_token.specs.declared.token.Token.{Token};
 ghost use Rattle.op_token.specs.declared.token.TokenKind.{TokenKind};
 ghost use Rattle.op_token.specs.declared.spelling.Spelling.TheVariants.{Whole};
@@ -73,4 +74,10 @@ pub fn tokens_are_longest()
     ensures { (at : ℕ) (minus : Bool) (s : List ℕ) (kind other : TokenKind) (end n : ℕ) →
         begins at minus s ≡ Whole kind end → end < at + n →
         begins at minus (take n s) ≡ Whole other (at + n) → ⊥ }
+{}
+
+/// A token is spelt as its kind is.
+pub fn tokens_are_spellings()
+    ensures { (at : ℕ) (minus : Bool) (s : List ℕ) (kind : TokenKind) (end : ℕ) → begins at minus s ≡ Whole kind end →
+        IsToken minus kind (take (end - at) s) × IsBefore kind (take (end - at) s) (drop (end - at) s) }
 {}
