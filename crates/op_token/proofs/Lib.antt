@@ -13,3 +13,7 @@ pub mod TokenTexts
 pub mod Prefixes
 pub mod Longest
 pub mod Spelt
+pub mod SpeltSound
+pub mod SpeltWhole
+pub mod FaultsTold
+pub mod FaultsFound

@@ -187,7 +187,7 @@ number_take at minus b s n kind e l h =
     h
 
 -- a comment is no token
-line_never : (at inside : ℕ) (s : List ℕ) (kind : TokenKind) (e : ℕ) → line_from at inside s ≡ Whole kind e → ⊥
+pub line_never : (at inside : ℕ) (s : List ℕ) (kind : TokenKind) (e : ℕ) → line_from at inside s ≡ Whole kind e → ⊥
 line_never at inside [] kind e = λ h. cc
 line_never at (suc n) (b ∷ s) kind e = line_never (suc at) n s kind e
 line_never at zero (b ∷ s) kind e =
@@ -195,7 +195,7 @@ line_never at zero (b ∷ s) kind e =
     if_either P (b == 10) (Gap (suc at)) _ (λ t h. cc)
     (λ t. map_either P (λ (c : Character). line_from (suc at) c.more s) (char_at b s) (fault at BadChar) (λ c t. line_never (suc at) c.more s kind e) (λ t h. cc))
 
-block_never : (start at inside : ℕ) (s : List ℕ) (kind : TokenKind) (e : ℕ) → block_from start at inside s ≡ Whole kind e → ⊥
+pub block_never : (start at inside : ℕ) (s : List ℕ) (kind : TokenKind) (e : ℕ) → block_from start at inside s ≡ Whole kind e → ⊥
 block_never start at inside [] kind e = λ h. cc
 block_never start at (suc n) (b ∷ s) kind e = block_never start (suc at) n s kind e
 block_never start at zero (b ∷ s) kind e =
@@ -204,7 +204,7 @@ block_never start at zero (b ∷ s) kind e =
     (λ t. map_either P (λ (c : Character). block_from start (suc at) c.more s) (char_at b s) (fault at BadChar) (λ c t. block_never start (suc at) c.more s kind e) (λ t h. cc))
 
 -- quoted text is a token of its kind
-quoted_kind : (k : TokenKind) (q start at inside : ℕ) (s : List ℕ) (kind : TokenKind) (e : ℕ) → quoted_from k q start at inside s ≡ Whole kind e → k ≡ kind
+pub quoted_kind : (k : TokenKind) (q start at inside : ℕ) (s : List ℕ) (kind : TokenKind) (e : ℕ) → quoted_from k q start at inside s ≡ Whole kind e → k ≡ kind
 quoted_kind k q start at inside [] kind e = λ h. cc
 quoted_kind k q start at (suc n) (b ∷ s) kind e = quoted_kind k q start (suc at) n s kind e
 quoted_kind k q start at zero (b ∷ s) kind e =

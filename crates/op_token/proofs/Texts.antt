@@ -87,7 +87,7 @@ text_inside q zero s h = refl
 text_inside q (suc n) [] h = absurd (omega arith)
 text_inside q (suc n) (b ∷ s) h = text_inside q n s (omega arith)
 
-quoted_inside : (kind : TokenKind) (q start at n : ℕ) (s : List ℕ) → n ≤ length s → quoted_from kind q start at n s ≡ quoted_from kind q start (at + n) 0 (drop n s)
+pub quoted_inside : (kind : TokenKind) (q start at n : ℕ) (s : List ℕ) → n ≤ length s → quoted_from kind q start at n s ≡ quoted_from kind q start (at + n) 0 (drop n s)
 quoted_inside kind q start at zero s h = let e : at + 0 ≡ at = omega arith in rw e refl
 quoted_inside kind q start at (suc n) [] h = absurd (omega arith)
 quoted_inside kind q start at (suc n) (b ∷ s) h = let e : at + suc n ≡ suc at + n = omega arith in rw e (quoted_inside kind q start (suc at) n s (omega arith))

@@ -9,3 +9,4 @@ pub mod Spelling
 pub mod Tokens
 pub mod MadeUp
 pub mod Spellings
+pub mod SpellingFaults

@@ -46,10 +46,10 @@ is_symbol_name (b ∷ s) = are_of symbol_characters (b ∷ s) && not (opens_comm
 
 -- an unquoted name (6.4.2)
 pub data IsName (s : List ℕ) : Type 0 where
-  word : is_word_from small_letters s ≡ true → IsName s
-  symbols : is_symbol_name s ≡ true → IsName s
-  cut : s ≡ codes "!" → IsName s
-  semicolon : s ≡ codes ";" → IsName s
+  word_name : is_word_from small_letters s ≡ true → IsName s
+  symbol_name : is_symbol_name s ≡ true → IsName s
+  cut_name : s ≡ codes "!" → IsName s
+  semicolon_name : s ≡ codes ";" → IsName s
 
 -- the number that digits spell to a base (6.4.4)
 abbrev pub place_in : List ℕ → ℕ → ℕ
@@ -90,14 +90,14 @@ sign_value b =
 pub data IsEscape (s : List ℕ) (value : Option ℕ) : Type 0 where
   sign : (b : ℕ) → is_one_of signs b ≡ true → s ≡ b ∷ [] → value ≡ Some (sign_value b) → IsEscape s value
   newline : s ≡ 10 ∷ [] → value ≡ None → IsEscape s value
-  octal : (digits : List ℕ) (n : ℕ) → IsNumber 8 octal_digits digits n → IsScalar n → s ≡ digits ++ codes "\\" → value ≡ Some n → IsEscape s value
-  hexadecimal : (digits : List ℕ) (n : ℕ) → IsNumber 16 hexadecimal_digits digits n → IsScalar n → s ≡ codes "x" ++ digits ++ codes "\\" → value ≡ Some n → IsEscape s value
+  octal_code : (digits : List ℕ) (n : ℕ) → IsNumber 8 octal_digits digits n → IsScalar n → s ≡ digits ++ codes "\\" → value ≡ Some n → IsEscape s value
+  hexadecimal_code : (digits : List ℕ) (n : ℕ) → IsNumber 16 hexadecimal_digits digits n → IsScalar n → s ≡ codes "x" ++ (digits ++ codes "\\") → value ≡ Some n → IsEscape s value
 
 -- one character of a text in quotes: itself, but no quote, backslash or newline; the quote doubled; or an escape
 pub data IsQuotedCharacter (quote : ℕ) (s : List ℕ) : Type 0 where
   plain : (c : ℕ) → IsScalar c → (c ≡ quote → ⊥) → (c ≡ 92 → ⊥) → (c ≡ 10 → ⊥) → s ≡ encode_utf8 c → IsQuotedCharacter quote s
   doubled : s ≡ quote ∷ quote ∷ [] → IsQuotedCharacter quote s
-  escape : (e : List ℕ) (value : Option ℕ) → IsEscape e value → s ≡ 92 ∷ e → IsQuotedCharacter quote s
+  escaped : (e : List ℕ) (value : Option ℕ) → IsEscape e value → s ≡ 92 ∷ e → IsQuotedCharacter quote s
 
 -- some characters of a text in quotes, one behind the other
 pub record AreQuoted (quote : ℕ) (s : List ℕ) : Type 0 where
@@ -113,8 +113,8 @@ pub record IsQuoted (quote : ℕ) (s : List ℕ) : Type 0 where
 
 -- what stands behind 0' : a character but the quote and the backslash, the quote doubled, or an escape that stands for a character
 pub data IsCharacterCode (s : List ℕ) (n : ℕ) : Type 0 where
-  plain : IsScalar n → (n ≡ 39 → ⊥) → (n ≡ 92 → ⊥) → s ≡ encode_utf8 n → IsCharacterCode s n
-  doubled : s ≡ codes "''" → n ≡ 39 → IsCharacterCode s n
+  character : IsScalar n → (n ≡ 39 → ⊥) → (n ≡ 92 → ⊥) → s ≡ encode_utf8 n → IsCharacterCode s n
+  quote_twice : s ≡ codes "''" → n ≡ 39 → IsCharacterCode s n
   escape : (e : List ℕ) → IsEscape e (Some n) → s ≡ 92 ∷ e → IsCharacterCode s n
 
 -- the integers: up to the greatest of 64 bits, and one more where the name - stands directly before
@@ -131,7 +131,7 @@ pub data AreDigits (s : List ℕ) (n : ℕ) : Type 0 where
 
 -- an integer (6.4.4)
 pub data IsInteger (minus : Bool) (s : List ℕ) (n : ℕ) : Type 0 where
-  digits : AreDigits s n → IsInRange minus n → IsInteger minus s n
+  number : AreDigits s n → IsInRange minus n → IsInteger minus s n
   code : (c : List ℕ) → IsCharacterCode c n → s ≡ codes "0'" ++ c → IsInteger minus s n
 
 -- the spellings of each kind of token; `minus` says that the unquoted name - stands directly before
