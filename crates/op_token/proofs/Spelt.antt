@@ -1,19 +1,22 @@
 -- The classes of characters and the sets of bytes are those of the spellings.
-use Rattle.std.proofs.Common.{◌≡◌, ℕ, zero, suc, ◌+◌, ◌-◌, ◌*◌, ◌<◌, ◌≤◌, Bool, true, false, ◌&&◌, ◌||◌, List, [], ◌∷◌, ◌++◌, Option, Some, None, length, map, take, drop, refl, ap, sym, ◌∙◌, subst, cond, arith, inl, inr}
-use Rattle.std.specs.Prelude.{◌==◌, not, nat_lt, nat_le, fold, codes, if◌then◌else◌}
-use Rattle.std.specs.List.{list_all, list_any}
+use Rattle.std.proofs.Common.{◌≡◌, ℕ, zero, suc, ◌+◌, ◌*◌, ◌<◌, ◌≤◌, Bool, true, false, ◌&&◌, ◌||◌, List, [], ◌∷◌, map, take, refl, ap}
+use Rattle.std.proofs.Common.{sym, ◌∙◌, subst, cond, arith, inl, inr}
+use Rattle.std.specs.Prelude.{◌==◌, not, fold, codes}
 use Rattle.std.proofs.lemmas.Bool.{eqb-true, cases_lt}
 use Rattle.std.proofs.lemmas.Bool.Decides.{nat_tests}
 use Rattle.op_token.specs.declared.class.Class.{Class}
-use Rattle.op_token.specs.declared.class.Class.TheVariants.{Layout, Percent, Small, Capital, Digit, SingleQuote, DoubleQuote, Slash, Dot, Symbol, Solo, Mark, Bad}
+use Rattle.op_token.specs.declared.class.Class.TheVariants.{Layout, Percent, Small, Capital, Digit, SingleQuote, DoubleQuote, Slash}
+use Rattle.op_token.specs.declared.class.Class.TheVariants.{Dot, Symbol, Solo, Mark, Bad}
 use Rattle.op_token.specs.declared.set.Set.{Set}
 use Rattle.op_token.specs.declared.set.Set.TheVariants.{Word, Symbol as symbols, Decimal, Hexadecimal, Octal, Binary}
 use Rattle.op_token.specs.declared.token.TokenKind.{TokenKind}
-use Rattle.op_token.specs.declared.token.TokenKind.TheVariants.{OpenRound, CloseRound, OpenSquare, CloseSquare, OpenCurly, CloseCurly, Comma, Bar}
+use Rattle.op_token.specs.declared.token.TokenKind.TheVariants.{OpenRound, CloseRound, OpenSquare, CloseSquare, OpenCurly, CloseCurly}
+use Rattle.op_token.specs.declared.token.TokenKind.TheVariants.{Comma, Bar}
 use Rattle.op_token.specs.Set.{has, run}
 use Rattle.op_token.specs.Class.{class_of}
 use Rattle.op_token.specs.Spelling.{digit_value, number_of}
-use Rattle.op_token.specs.Spellings.{small_letters, variable_starts, alphanumeric, symbol_characters, layout_characters, is_one_of, are_of, value_of_digit, value_of_digits, octal_digits, decimal_digits, hexadecimal_digits}
+use Rattle.op_token.specs.Spellings.{small_letters, variable_starts, alphanumeric, symbol_characters, layout_characters, is_one_of}
+use Rattle.op_token.specs.Spellings.{are_of, value_of_digit, value_of_digits, octal_digits, decimal_digits, hexadecimal_digits}
 use Rattle.op_token.proofs.Names.{class_low}
 use Rattle.op_token.proofs.Texts.{word_low, symbol_low}
 
@@ -77,7 +80,8 @@ set_checked Octal = refl
 set_checked Binary = refl
 
 pub set_is : (set : Set) (b : ℕ) → has set b ≡ true → is_one_of (characters set) b ≡ true
-set_is set b h = implied (has set b) (is_one_of (characters set) b) (below (λ b. not (has set b) || is_one_of (characters set) b) 128 b (set_checked set) (set_low set b h)) h
+set_is set b h = implied (has set b) (is_one_of (characters set) b)
+    (below (λ b. not (has set b) || is_one_of (characters set) b) 128 b (set_checked set) (set_low set b h)) h
 
 characters_checked : (set : Set) → map (has set) (characters set) ≡ map (λ b. true) (characters set)
 characters_checked Word = refl
@@ -146,7 +150,8 @@ pub are_set : (set : Set) (s : List ℕ) → are_of (characters set) (take (run 
 are_set set [] = refl
 are_set set (b ∷ s) = go (has set b) refl (are_set set s)
   where
-    go : (t : Bool) → has set b ≡ t → are_of (characters set) (take (run set s) s) ≡ true → are_of (characters set) (take (cond t (suc (run set s)) 0) (b ∷ s)) ≡ true
+    go : (t : Bool) → has set b ≡ t → are_of (characters set) (take (run set s) s) ≡ true
+        → are_of (characters set) (take (cond t (suc (run set s)) 0) (b ∷ s)) ≡ true
     go true e r = ap (λ t. t && are_of (characters set) (take (run set s) s)) (set_is set b e) ∙ r
     go false e r = refl
 
@@ -157,7 +162,8 @@ are_within xs ys (b ∷ s) h e =
     let w = and_both (is_one_of xs b) (are_of xs s) e in
     ap (λ t. t && are_of ys s) (same_on (is_one_of ys) (λ b. true) xs b h w.0) ∙ are_within xs ys s h w.1
 
-values_from : (base n : ℕ) (s : List ℕ) → are_of hexadecimal_digits s ≡ true → fold (λ n b. n * base + value_of_digit b) n s ≡ fold (λ n b. n * base + digit_value b) n s
+values_from : (base n : ℕ) (s : List ℕ) → are_of hexadecimal_digits s ≡ true
+    → fold (λ n b. n * base + value_of_digit b) n s ≡ fold (λ n b. n * base + digit_value b) n s
 values_from base n [] e = refl
 values_from base n (b ∷ s) e =
     let w = and_both (is_one_of hexadecimal_digits b) (are_of hexadecimal_digits s) e in

@@ -10,3 +10,4 @@ pub mod Tokens
 pub mod MadeUp
 pub mod Spellings
 pub mod SpellingFaults
+pub mod SpellingsExamples

@@ -1,12 +1,14 @@
 -- The faults of tokens (ISO/IEC 13211-1, 6.4), each as what is said of the bytes from the place on where it begins; and layout and
 -- comments, each as what is said of the whole of its bytes. Nothing here says how a text is walked over.
-use Rattle.std.specs.Prelude.{◌≡◌, ℕ, ◌==◌, ◌+◌, ◌<◌, ◌≤◌, Bool, true, false, ◌&&◌, ◌||◌, List, [], ◌∷◌, ◌++◌, length, map, codes, All, encode_utf8, Option}
+use Rattle.std.specs.Prelude.{◌≡◌, ℕ, ◌==◌, ◌+◌, ◌<◌, Bool, true, false, ◌&&◌, ◌||◌, List, [], ◌∷◌, ◌++◌, length, map, codes, All}
+use Rattle.std.specs.Prelude.{encode_utf8, Option}
 use Rattle.std.specs.List.{concat}
 use Rattle.std.specs.Char.{IsScalar}
 use Rattle.op_token.specs.declared.token.TokenFaultKind.{TokenFaultKind}
 use Rattle.op_token.specs.declared.token.TokenFaultKind.TheVariants.{BadChar, OpenQuote, OpenComment, BadEscape, BadNumber, NumberRange}
 use Rattle.op_token.specs.Set.{begins_with}
-use Rattle.op_token.specs.Spellings.{layout_characters, alphanumeric, symbol_characters, octal_digits, decimal_digits, hexadecimal_digits, is_one_of, IsNumber, IsInRange, IsEscape, AreQuoted, IsCharacterCode}
+use Rattle.op_token.specs.Spellings.{layout_characters, alphanumeric, symbol_characters, octal_digits, decimal_digits}
+use Rattle.op_token.specs.Spellings.{hexadecimal_digits, is_one_of, IsNumber, IsInRange, IsEscape, AreQuoted, IsCharacterCode}
 
 -- some characters in UTF-8
 pub record AreCharacters (s : List ℕ) : Type 0 where
@@ -92,21 +94,22 @@ pub data IsBadNumber (s : List ℕ) : Type 0 where
   no_binary : (rest : List ℕ) → s ≡ codes "0b" ++ rest → starts_with (codes "01") rest ≡ false → IsBadNumber s
   no_octal : (rest : List ℕ) → s ≡ codes "0o" ++ rest → starts_with octal_digits rest ≡ false → IsBadNumber s
   no_hexadecimal : (rest : List ℕ) → s ≡ codes "0x" ++ rest → starts_with hexadecimal_digits rest ≡ false → IsBadNumber s
-  fraction : (digits rest : List ℕ) (n : ℕ) → IsNumber 10 decimal_digits digits n → starts_fraction rest ≡ true → s ≡ digits ++ rest → IsBadNumber s
+  fraction : (digits rest : List ℕ) (n : ℕ) → IsNumber 10 decimal_digits digits n → starts_fraction rest ≡ true
+      → s ≡ digits ++ rest → IsBadNumber s
   no_code : (rest : List ℕ) → s ≡ codes "0'" ++ rest → begins_with 92 rest ≡ false
-    → ((c behind : List ℕ) (n : ℕ) → IsCharacterCode c n → rest ≡ c ++ behind → ⊥) → IsBadNumber s
+      → ((c behind : List ℕ) (n : ℕ) → IsCharacterCode c n → rest ≡ c ++ behind → ⊥) → IsBadNumber s
   newline_code : (rest : List ℕ) → s ≡ codes "0'\\" ++ 10 ∷ rest → IsBadNumber s
 
 -- digits that no further digit and no fraction follow, for a number that is too great
 pub data IsTooGreat (minus : Bool) (s : List ℕ) : Type 0 where
   great_decimal : (digits rest : List ℕ) (n : ℕ) → IsNumber 10 decimal_digits digits n → (IsInRange minus n → ⊥)
-    → starts_with decimal_digits rest ≡ false → starts_fraction rest ≡ false → s ≡ digits ++ rest → IsTooGreat minus s
+      → starts_with decimal_digits rest ≡ false → starts_fraction rest ≡ false → s ≡ digits ++ rest → IsTooGreat minus s
   great_binary : (digits rest : List ℕ) (n : ℕ) → IsNumber 2 (codes "01") digits n → (IsInRange minus n → ⊥)
-    → starts_with (codes "01") rest ≡ false → s ≡ codes "0b" ++ (digits ++ rest) → IsTooGreat minus s
+      → starts_with (codes "01") rest ≡ false → s ≡ codes "0b" ++ (digits ++ rest) → IsTooGreat minus s
   great_octal : (digits rest : List ℕ) (n : ℕ) → IsNumber 8 octal_digits digits n → (IsInRange minus n → ⊥)
-    → starts_with octal_digits rest ≡ false → s ≡ codes "0o" ++ (digits ++ rest) → IsTooGreat minus s
+      → starts_with octal_digits rest ≡ false → s ≡ codes "0o" ++ (digits ++ rest) → IsTooGreat minus s
   great_hexadecimal : (digits rest : List ℕ) (n : ℕ) → IsNumber 16 hexadecimal_digits digits n → (IsInRange minus n → ⊥)
-    → starts_with hexadecimal_digits rest ≡ false → s ≡ codes "0x" ++ (digits ++ rest) → IsTooGreat minus s
+      → starts_with hexadecimal_digits rest ≡ false → s ≡ codes "0x" ++ (digits ++ rest) → IsTooGreat minus s
 
 -- the faults: what stands from a place on where one begins, and how far behind that place it is told
 abbrev pub IsFault : Bool → TokenFaultKind → List ℕ → ℕ → Type 0

@@ -1,10 +1,12 @@
 -- The tokens (ISO/IEC 13211-1, 6.4), each as what is said of the whole of its bytes; and the faults, each as what is said of the bytes
 -- from a place on. Nothing here says how a text is walked over.
-use Rattle.std.specs.Prelude.{◌≡◌, ◌⊎◌, ℕ, suc, ◌==◌, ◌+◌, ◌*◌, ◌<◌, ◌≤◌, Bool, true, false, ◌&&◌, ◌||◌, not, List, [], ◌∷◌, ◌++◌, length, codes, fold, All, encode_utf8, IsUtf8, Option, Some, None, if◌then◌else◌}
+use Rattle.std.specs.Prelude.{◌≡◌, ℕ, suc, ◌==◌, ◌+◌, ◌*◌, ◌<◌, ◌≤◌, Bool, true, false, ◌&&◌, ◌||◌, not, List, [], ◌∷◌, ◌++◌, length}
+use Rattle.std.specs.Prelude.{codes, fold, All, encode_utf8, Option, Some, None, if◌then◌else◌}
 use Rattle.std.specs.List.{list_all, list_any, concat}
 use Rattle.std.specs.Char.{IsScalar}
 use Rattle.op_token.specs.declared.token.TokenKind.{TokenKind}
-use Rattle.op_token.specs.declared.token.TokenKind.TheVariants.{Name, QuotedName, Variable, Integer, Text, OpenRound, CloseRound, OpenSquare, CloseSquare, OpenCurly, CloseCurly, Comma, Bar, End}
+use Rattle.op_token.specs.declared.token.TokenKind.TheVariants.{Name, QuotedName, Variable, Integer, Text, OpenRound, CloseRound}
+use Rattle.op_token.specs.declared.token.TokenKind.TheVariants.{OpenSquare, CloseSquare, OpenCurly, CloseCurly, Comma, Bar, End}
 
 -- the characters (6.5)
 abbrev pub small_letters : List ℕ
@@ -90,8 +92,10 @@ sign_value b =
 pub data IsEscape (s : List ℕ) (value : Option ℕ) : Type 0 where
   sign : (b : ℕ) → is_one_of signs b ≡ true → s ≡ b ∷ [] → value ≡ Some (sign_value b) → IsEscape s value
   newline : s ≡ 10 ∷ [] → value ≡ None → IsEscape s value
-  octal_code : (digits : List ℕ) (n : ℕ) → IsNumber 8 octal_digits digits n → IsScalar n → s ≡ digits ++ codes "\\" → value ≡ Some n → IsEscape s value
-  hexadecimal_code : (digits : List ℕ) (n : ℕ) → IsNumber 16 hexadecimal_digits digits n → IsScalar n → s ≡ codes "x" ++ (digits ++ codes "\\") → value ≡ Some n → IsEscape s value
+  octal_code : (digits : List ℕ) (n : ℕ) → IsNumber 8 octal_digits digits n → IsScalar n
+      → s ≡ digits ++ codes "\\" → value ≡ Some n → IsEscape s value
+  hexadecimal_code : (digits : List ℕ) (n : ℕ) → IsNumber 16 hexadecimal_digits digits n → IsScalar n
+      → s ≡ codes "x" ++ (digits ++ codes "\\") → value ≡ Some n → IsEscape s value
 
 -- one character of a text in quotes: itself, but no quote, backslash or newline; the quote doubled; or an escape
 pub data IsQuotedCharacter (quote : ℕ) (s : List ℕ) : Type 0 where

@@ -1,6 +1,7 @@
 //! Laws of the definitions, for the layers above. Each is a function without a parameter, whose contract is the law.
 
-ghost use Rattle.std.specs.Prelude.{◌≡◌, ◌⊎◌, ℕ, suc, List, [], ◌≤◌, ◌<◌, ◌+◌, ◌++◌, ◌∷◌, length, drop, take, ◌-◌, Some, Bool, encode_utf8, Contains, IsUtf8, slice_range};
+ghost use Rattle.std.specs.Prelude.{◌≡◌, ◌⊎◌, ℕ, suc, List, [], ◌≤◌, ◌<◌, ◌+◌, ◌++◌, ◌∷◌};
+ghost use Rattle.std.specs.Prelude.{length, drop, take, ◌-◌, Some, Bool, encode_utf8, Contains, IsUtf8, slice_range};
 ghost use Rattle.std.specs.Char.{IsScalar};
 ghost use Rattle.op_token.specs.Character.{char_at, first_char};
 ghost use Rattle.op_token.specs.Tokens.{scan_of, unquoted, IsPlain, IsQuoted};
