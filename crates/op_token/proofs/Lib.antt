@@ -17,3 +17,4 @@ pub mod SpeltSound
 pub mod SpeltWhole
 pub mod FaultsTold
 pub mod FaultsFound
+pub mod GapsPassed

@@ -1,6 +1,6 @@
 -- A token is the longest at its place.
-use Rattle.std.proofs.Common.{◌≡◌, ℕ, zero, suc, ◌+◌, ◌-◌, ◌<◌, ◌≤◌, Bool, true, false, ◌&&◌, ◌||◌, List, [], ◌∷◌, ◌++◌, Option, Some, None, length, take, drop, refl, ap, sym, ◌∙◌, subst, cond, arith, length-take}
-use Rattle.std.specs.Prelude.{◌==◌, nat_lt, nat_le, if◌then◌else◌, unwrap_or}
+use Rattle.std.proofs.Common.{◌≡◌, ℕ, zero, suc, ◌+◌, ◌<◌, ◌≤◌, Bool, true, false, ◌&&◌, ◌||◌, List, [], ◌∷◌, Option, Some, None, length, take, drop, refl, ap, sym, ◌∙◌, subst, cond, arith}
+use Rattle.std.specs.Prelude.{◌==◌, nat_lt, if◌then◌else◌, unwrap_or}
 use Rattle.std.specs.Option.{option_map_or}
 use Rattle.op_token.specs.declared.character.Character.{Character}
 use Rattle.op_token.specs.declared.escape.Escape.{Escape}
@@ -13,10 +13,10 @@ use Rattle.op_token.specs.declared.spelling.Spelling.TheVariants.{Gap, Whole, Fa
 use Rattle.op_token.specs.declared.token.TokenKind.{TokenKind}
 use Rattle.op_token.specs.declared.token.TokenKind.TheVariants.{Name, QuotedName, Variable, Integer, Text, End}
 use Rattle.op_token.specs.declared.token.TokenFaultKind.TheVariants.{BadChar, OpenQuote, BadEscape, BadNumber, NumberRange}
-use Rattle.op_token.specs.Set.{run, has, begins_with}
+use Rattle.op_token.specs.Set.{run, begins_with}
 use Rattle.op_token.specs.Character.{char_at}
 use Rattle.op_token.specs.Class.{class_of}
-use Rattle.op_token.specs.Spelling.{fault, number_of, escape_at, quoted_from, ranged, least_magnitude, based, is_fraction, decimal, escaped_code_at, code_at, number_at, ends_clause, dot_at, slash_at, line_from, block_from, spelled, begins, EndsBy}
+use Rattle.op_token.specs.Spelling.{fault, number_of, escape_at, quoted_from, ranged, least_magnitude, based, is_fraction, decimal, escaped_code_at, code_at, number_at, ends_clause, dot_at, line_from, block_from, spelled, begins, EndsBy}
 use Rattle.std.proofs.lemmas.Bool.{eqb-true}
 use Rattle.op_token.proofs.Within.{if_either, map_either, and_left, begins_ends}
 use Rattle.op_token.proofs.Prefixes.{run_take, front_take, take_less, drop_one_take, escape_take, char_take}

@@ -115,3 +115,9 @@ pub fn gaps_are_layout_or_comments()
     ensures { (at : ℕ) (minus : Bool) (s : List ℕ) (end : ℕ) → begins at minus s ≡ Gap end →
         (s ≡ []) ⊎ IsGap (take (end - at) s) (drop (end - at) s) }
 {}
+
+/// Layout and comments are passed over.
+pub fn layout_and_comments_are_gaps()
+    ensures { (at : ℕ) (minus : Bool) (s behind : List ℕ) → IsGap s behind →
+        begins at minus (s ++ behind) ≡ Gap (at + length s) }
+{}
