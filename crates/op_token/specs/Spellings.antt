@@ -1,5 +1,4 @@
--- The tokens (ISO/IEC 13211-1, 6.4), each as what is said of the whole of its bytes; and the faults, each as what is said of the bytes
--- from a place on. Nothing here says how a text is walked over.
+-- The tokens (ISO/IEC 13211-1, 6.4), each as what is said of the whole of its bytes. Nothing here says how a text is walked over.
 use Rattle.std.specs.Prelude.{◌≡◌, ℕ, suc, ◌==◌, ◌+◌, ◌*◌, ◌<◌, ◌≤◌, Bool, true, false, ◌&&◌, ◌||◌, not, List, [], ◌∷◌, ◌++◌, length}
 use Rattle.std.specs.Prelude.{codes, fold, All, encode_utf8, Option, Some, None, if◌then◌else◌}
 use Rattle.std.specs.List.{list_all, list_any, concat}
