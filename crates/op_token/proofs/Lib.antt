@@ -12,3 +12,9 @@ pub mod Names
 pub mod TokenTexts
 pub mod Prefixes
 pub mod Longest
+pub mod Spelt
+pub mod SpeltSound
+pub mod SpeltWhole
+pub mod FaultsTold
+pub mod FaultsFound
+pub mod GapsPassed

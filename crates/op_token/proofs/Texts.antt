@@ -1,5 +1,6 @@
 -- The text of a quoted token is UTF-8.
-use Rattle.std.proofs.Common.{◌≡◌, ℕ, zero, suc, ◌+◌, ◌<◌, ◌≤◌, Bool, true, false, ◌&&◌, ◌||◌, List, [], ◌∷◌, ◌++◌, Option, Some, None, length, take, drop, refl, ap, sym, ◌∙◌, subst, cond, arith, length-drop}
+use Rattle.std.proofs.Common.{◌≡◌, ℕ, zero, suc, ◌+◌, ◌<◌, ◌≤◌, Bool, true, false, ◌&&◌, ◌||◌, List, [], ◌∷◌, ◌++◌, Option, Some, None}
+use Rattle.std.proofs.Common.{length, take, drop, refl, ap, sym, ◌∙◌, subst, cond, arith, length-drop}
 use Rattle.std.specs.Prelude.{◌==◌, nat_lt, IsUtf8}
 use Rattle.std.specs.Option.{option_map_or}
 use Rattle.std.proofs.lemmas.Bool.{ne_eqb, eqb-true}
@@ -34,8 +35,10 @@ numbered_code : (base : ℕ) (set : Set) (lead : ℕ) (s : List ℕ) → IsCode 
 unfolding IsCode
 numbered_code base set lead s =
     let code = number_of base (take (run set s) s) in
-    if_either IsCode (nat_lt 0 (run set s) && begins_with 92 (drop (run set s) s) && is_scalar code) (Some (record { code = Some code; len = lead + run set s + 1 })) None
-    (λ e. IsUtf8-encode code (sym (scalar_is code) ∙ and_right (nat_lt 0 (run set s) && begins_with 92 (drop (run set s) s)) (is_scalar code) e))
+    if_either IsCode (nat_lt 0 (run set s) && begins_with 92 (drop (run set s) s) && is_scalar code)
+    (Some (record { code = Some code; len = lead + run set s + 1 })) None
+    (λ e. IsUtf8-encode code (sym (scalar_is code) ∙ and_right (nat_lt 0 (run set s) && begins_with 92 (drop (run set s) s))
+    (is_scalar code) e))
     (λ e. tt)
 
 either : {P : Type 0} (x y : Bool) → (x ≡ true → P) → (y ≡ true → P) → (x || y) ≡ true → P
@@ -61,7 +64,8 @@ simple_low b c h =
         λ x y f g h. either x y f g h in
         let is : (n : ℕ) → n < 128 → (b == n) ≡ true → b < 128 = λ n l t. let q = eqb-true b n t in omega arith in
         or_either (b == 92 || b == 39 || b == 34) (b == 96)
-        (or_either (b == 92 || b == 39) (b == 34) (or_either (b == 92) (b == 39) (is 92 (omega arith)) (is 39 (omega arith))) (is 34 (omega arith)))
+        (or_either (b == 92 || b == 39) (b == 34) (or_either (b == 92) (b == 39) (is 92 (omega arith)) (is 39 (omega arith)))
+        (is 34 (omega arith)))
         (is 96 (omega arith)) e
 
 escape_code : (s : List ℕ) → IsCode (escape_at s)
@@ -87,17 +91,20 @@ text_inside q zero s h = refl
 text_inside q (suc n) [] h = absurd (omega arith)
 text_inside q (suc n) (b ∷ s) h = text_inside q n s (omega arith)
 
-quoted_inside : (kind : TokenKind) (q start at n : ℕ) (s : List ℕ) → n ≤ length s → quoted_from kind q start at n s ≡ quoted_from kind q start (at + n) 0 (drop n s)
+pub quoted_inside : (kind : TokenKind) (q start at n : ℕ) (s : List ℕ) → n ≤ length s
+    → quoted_from kind q start at n s ≡ quoted_from kind q start (at + n) 0 (drop n s)
 quoted_inside kind q start at zero s h = let e : at + 0 ≡ at = omega arith in rw e refl
 quoted_inside kind q start at (suc n) [] h = absurd (omega arith)
-quoted_inside kind q start at (suc n) (b ∷ s) h = let e : at + suc n ≡ suc at + n = omega arith in rw e (quoted_inside kind q start (suc at) n s (omega arith))
+quoted_inside kind q start at (suc n) (b ∷ s) h = let e : at + suc n ≡ suc at + n = omega arith in
+    rw e (quoted_inside kind q start (suc at) n s (omega arith))
 
 abbrev pub IsWhole : Spelling → Type 0
 IsWhole (Whole kind end) = Unit {0}
 IsWhole x = ⊥
 
 -- quoted text and what it stands for, case by case
-by_cases : (b10 bq bw b92 : Bool) (oe : Option Escape) (oc : Option Character) (f1 f2 f3 q1 w : Spelling) (qe : Escape → Spelling) (qc : Character → Spelling) (t1 t0 tx tc : List ℕ) (te : Escape → List ℕ)
+by_cases : (b10 bq bw b92 : Bool) (oe : Option Escape) (oc : Option Character) (f1 f2 f3 q1 w : Spelling)
+    (qe : Escape → Spelling) (qc : Character → Spelling) (t1 t0 tx tc : List ℕ) (te : Escape → List ℕ)
     → (IsWhole f1 → ⊥) → (IsWhole f2 → ⊥) → (IsWhole f3 → ⊥)
     → (bq ≡ true → bw ≡ true → IsWhole q1 → IsUtf8 t1) → IsUtf8 t0
     → ((x : Escape) → oe ≡ Some x → IsWhole (qe x) → IsUtf8 (te x))
@@ -115,13 +122,15 @@ by_cases false false bw false oe (Some c) f1 f2 f3 q1 w qe qc t1 t0 tx tc te n1 
 pub one_ascii : (b : ℕ) (t : List ℕ) → b < 128 → IsUtf8 t → IsUtf8 (b ∷ t)
 one_ascii b t h u = IsUtf8-append (b ∷ []) t (subst IsUtf8 (encode_ascii b h) (IsUtf8-encode b (low_scalar b (omega arith)))) u
 
-pub quoted_utf8 : (f : ℕ) (kind : TokenKind) (q start at : ℕ) (s : List ℕ) → length s ≤ f → q < 128 → IsWhole (quoted_from kind q start at 0 s) → IsUtf8 (text_from q 0 s)
+pub quoted_utf8 : (f : ℕ) (kind : TokenKind) (q start at : ℕ) (s : List ℕ) → length s ≤ f → q < 128
+    → IsWhole (quoted_from kind q start at 0 s) → IsUtf8 (text_from q 0 s)
 unfolding IsCode
 quoted_utf8 f kind q start at [] l h w = IsUtf8-nil
 quoted_utf8 zero kind q start at (b ∷ s) l h w = absurd (omega arith)
 quoted_utf8 (suc f) kind q start at (b ∷ s) l h w =
     let further : (n : ℕ) → n ≤ length s → IsWhole (quoted_from kind q start (suc at) n s) → IsUtf8 (text_from q 0 (drop n s)) =
-    λ n m v. quoted_utf8 f kind q start (suc at + n) (drop n s) (omega (arith, length-drop n s)) h (subst IsWhole (quoted_inside kind q start (suc at) n s m) v) in
+    λ n m v. quoted_utf8 f kind q start (suc at + n) (drop n s) (omega (arith, length-drop n s)) h
+    (subst IsWhole (quoted_inside kind q start (suc at) n s m) v) in
     by_cases (b == 10) (b == q) (begins_with q s) (b == 92) (escape_at s) (char_at b s)
     (fault start OpenQuote) (fault at BadEscape) (fault at BadChar) (quoted_from kind q start (suc at) 1 s) (Whole kind (suc at))
     (λ x. quoted_from kind q start (suc at) x.len s) (λ c. quoted_from kind q start (suc at) c.more s)
@@ -132,12 +141,14 @@ quoted_utf8 (suc f) kind q start at (b ∷ s) l h w =
     one_ascii b (text_from q 1 s) (omega (arith, eqb-true b q e)) (subst IsUtf8 (sym (text_inside q 1 s m)) (further 1 m v)))
     IsUtf8-nil
     (λ x e v. let m = escape_within s x e in
-    IsUtf8-append (escaped x.code) (text_from q x.len s) (subst IsCode e (escape_code s)) (subst IsUtf8 (sym (text_inside q x.len s m)) (further x.len m v)))
+    IsUtf8-append (escaped x.code) (text_from q x.len s) (subst IsCode e (escape_code s))
+    (subst IsUtf8 (sym (text_inside q x.len s m)) (further x.len m v)))
     (λ n n2 c e v.
     let m = char_within b s c e in
     let r : IsRead b s (Some c) = subst (IsRead b s) e (char_is b s) in
     let u : IsUtf8 (b ∷ take c.more s) = subst IsUtf8 r.1 (IsUtf8-encode c.code r.0) in
-    subst IsUtf8 (ap (λ t. b ∷ t) (sym (copies q c.more s h m r.2))) (IsUtf8-append (b ∷ take c.more s) (text_from q 0 (drop c.more s)) u (further c.more m v)))
+    subst IsUtf8 (ap (λ t. b ∷ t) (sym (copies q c.more s h m r.2)))
+    (IsUtf8-append (b ∷ take c.more s) (text_from q 0 (drop c.more s)) u (further c.more m v)))
     w
 
 -- a byte of a set is ASCII

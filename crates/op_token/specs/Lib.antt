@@ -8,3 +8,6 @@ pub mod Class
 pub mod Spelling
 pub mod Tokens
 pub mod MadeUp
+pub mod Spellings
+pub mod SpellingFaults
+pub mod SpellingsExamples

@@ -1,14 +1,19 @@
 //! Laws of the definitions, for the layers above. Each is a function without a parameter, whose contract is the law.
 
-ghost use Rattle.std.specs.Prelude.{◌≡◌, ℕ, suc, List, ◌≤◌, ◌<◌, ◌+◌, ◌++◌, ◌∷◌, length, drop, take, ◌-◌, Some, Bool, encode_utf8, Contains, IsUtf8, slice_range};
+ghost use Rattle.std.specs.Prelude.{◌≡◌, ◌⊎◌, ℕ, suc, List, [], ◌≤◌, ◌<◌, ◌+◌, ◌++◌, ◌∷◌};
+ghost use Rattle.std.specs.Prelude.{length, drop, take, ◌-◌, Some, Bool, encode_utf8, Contains, IsUtf8, slice_range};
 ghost use Rattle.std.specs.Char.{IsScalar};
 ghost use Rattle.op_token.specs.Character.{char_at, first_char};
 ghost use Rattle.op_token.specs.Tokens.{scan_of, unquoted, IsPlain, IsQuoted};
 ghost use Rattle.op_token.specs.MadeUp.{MadeUp};
+ghost use Rattle.op_token.specs.Spellings.{IsToken, IsBefore};
+ghost use Rattle.op_token.specs.SpellingFaults.{IsFault, IsGap};
 ghost use Rattle.op_token.specs.declared.token.Token.{Token};
 ghost use Rattle.op_token.specs.declared.token.TokenKind.{TokenKind};
-ghost use Rattle.op_token.specs.declared.spelling.Spelling.TheVariants.{Whole};
-ghost use Rattle.op_token.specs.Spelling.{begins};
+ghost use Rattle.op_token.specs.declared.token.TokenFaultKind.{TokenFaultKind};
+ghost use Rattle.op_token.specs.declared.token.TokenFault.{TokenFault};
+ghost use Rattle.op_token.specs.declared.spelling.Spelling.TheVariants.{Whole, Fault, Gap};
+ghost use Rattle.op_token.specs.Spelling.{begins, fault};
 ghost use Rattle.op_token.specs.declared.character.Character.{Character};
 ghost use Rattle.op_token.specs.Cut.{cut_of, text_in, rest_in, IsText, IsFollowed, IsBehindGap, moved, texts, behind_texts};
 ghost use Rattle.op_token.specs.Kind.{kind_of};
@@ -73,4 +78,46 @@ pub fn tokens_are_longest()
     ensures { (at : ℕ) (minus : Bool) (s : List ℕ) (kind other : TokenKind) (end n : ℕ) →
         begins at minus s ≡ Whole kind end → end < at + n →
         begins at minus (take n s) ≡ Whole other (at + n) → ⊥ }
+{}
+
+/// A token is spelt as its kind is.
+pub fn tokens_are_spellings()
+    ensures { (at : ℕ) (minus : Bool) (s : List ℕ) (kind : TokenKind) (end : ℕ) → begins at minus s ≡ Whole kind end →
+        IsToken minus kind (take (end - at) s) × IsBefore kind (take (end - at) s) (drop (end - at) s) }
+{}
+
+/// A spelling of a token, alone, is that token. A full stop alone is the end.
+pub fn spellings_are_tokens()
+    ensures { (at : ℕ) (minus : Bool) (s : List ℕ) (kind : TokenKind) → IsToken minus kind s → IsBefore kind s [] →
+        begins at minus s ≡ Whole kind (at + length s) }
+{}
+
+/// A token that is taken is the longest spelling that begins there.
+pub fn longest_spelling_is_taken()
+    ensures { (at : ℕ) (minus : Bool) (s : List ℕ) (kind other : TokenKind) (end n : ℕ) →
+        begins at minus s ≡ Whole kind end → end < at + n → n ≤ length s → IsToken minus other (take n s) → ⊥ }
+{}
+
+/// Where a fault stands it is told, with its place.
+pub fn faults_are_told()
+    ensures { (at : ℕ) (minus : Bool) (s : List ℕ) (kind : TokenFaultKind) (place : ℕ) →
+        IsFault minus kind s place → begins at minus s ≡ fault (at + place) kind }
+{}
+
+/// A fault that is told stands there, at its place.
+pub fn faults_stand()
+    ensures { (at : ℕ) (minus : Bool) (s : List ℕ) (told : TokenFault) → begins at minus s ≡ Fault told →
+        (place : ℕ) × (told.place ≡ at + place) × IsFault minus told.kind s place }
+{}
+
+/// What is passed over is layout or a comment.
+pub fn gaps_are_layout_or_comments()
+    ensures { (at : ℕ) (minus : Bool) (s : List ℕ) (end : ℕ) → begins at minus s ≡ Gap end →
+        (s ≡ []) ⊎ IsGap (take (end - at) s) (drop (end - at) s) }
+{}
+
+/// Layout and comments are passed over.
+pub fn layout_and_comments_are_gaps()
+    ensures { (at : ℕ) (minus : Bool) (s behind : List ℕ) → IsGap s behind →
+        begins at minus (s ++ behind) ≡ Gap (at + length s) }
 {}

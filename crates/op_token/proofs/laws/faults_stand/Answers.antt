@@ -1,0 +1,5 @@
+use Rattle.op_token.proofs.FaultsFound.{fault_found}
+use Rattle.op_token.proofs.laws.faults_stand.Goals as goal
+
+pub returns : goal.returns
+returns c = fault_found
