@@ -175,7 +175,7 @@ rest_open q f = by (last_of q (followed_length q f))
 
 -- one byte more may be taken
 pub count_byte : (n : ℕ) (taken : List ℕ) (byte : ℕ) → length taken ≡ n → n < channel_limit → length (taken ++ byte ∷ []) ≤ channel_limit
-count_byte n taken byte e h = let l = length-append taken (byte ∷ []) in omega arith
+count_byte n taken byte e h = omega (arith, length-append taken (byte ∷ []))
 
 -- a byte could not be kept
 pub breaks_push : (traced : Traced) (a b c : Sight) (n before after byte : ℕ) (p : List ℕ) (feed : Feed) → n < channel_limit

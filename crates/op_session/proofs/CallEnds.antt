@@ -66,7 +66,7 @@ leaves_fault o status.Memory a b before after i q c f w = record {
 }
 leaves_fault o s a b before after i q c f w = absurd i
 
-none_taken : length {A = ℕ} [] < 67108864
+none_taken : 0 < 67108864
 none_taken = omega arith
 
 -- nothing was said or taken

@@ -119,17 +119,18 @@ ends_stopped traced s a b c n before after p text feed h end short e g =
     let said = said_to traced h.passed in
     let w = said ++ take g.talk.count answer in
     let count = h.count in
+    let within : length h.taken ≤ channel_limit = omega arith in
     let cs : commands_in h.taken ≡ h.passed ++ text ∷ [] = commands_at_end h.passed h.taken p h.cuts h.unended ∙ ap (λ ts. h.passed ++ ts) e in
     let front : IsPrefix w (session_text traced h.taken) =
     subst (λ cs. IsPrefix w (said_to traced cs)) (sym cs) (subst (IsPrefix w) (sym (said_one traced h.passed text))
     (prefix_more said (take g.talk.count answer) answer (prefix_take g.talk.count answer))) in
     record {
       fault = fault_more s a b c h.calm g.fault;
-      left = left_broken traced s InAnswering a.commands c.commands a.talk c.talk h.taken w [] g.unwritten (omega arith)
+      left = left_broken traced s InAnswering a.commands c.commands a.talk c.talk h.taken w [] g.unwritten within
           (subst (λ k. Consumes a.commands k h.taken) (sym g.commands) h.commands)
           (no_line a.talk c.talk w (appends_more a.talk b.talk c.talk said (take g.talk.count answer) h.talk g.talk.front))
           (λ rest l.
-          let none : rest ≡ [] = subst IsAtEnd (sym g.commands ∙ l) (subst IsAtEnd (sym g.commands) end) in
+          let none : rest ≡ [] = subst IsAtEnd (sym g.commands ∙ l) end in
           subst (λ bytes. IsPrefix w (session_text traced bytes)) (sym (ap (λ r. h.taken ++ r) none ∙ append-nil h.taken)) front)
           (prefix_longer (said_to traced (all_but_last (taken_whole h.taken))) said (take g.talk.count answer)
           (enough_open traced h.passed h.taken p h.cuts h.unended))
