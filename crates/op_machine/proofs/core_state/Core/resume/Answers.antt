@@ -5,8 +5,8 @@ use Rattle.op_machine.specs.inner.Boxes.{IsTried}
 use Rattle.op_machine.proofs.BoxLaws.{called-along}
 use Rattle.op_machine.proofs.core_state.Core.resume.Goals as goal
 
-pub go_on-requires-clause-called : goal.go_on-requires-clause-called
-go_on-requires-clause-called c =
+pub try_next_clause-requires-clause-called : goal.try_next_clause-requires-clause-called
+try_next_clause-requires-clause-called c =
     let old : Core = c.args.self.now in
     let f = c.args.choice.now in
     called-along old.frames.boxes old.frames.boxes old.continuations old.continuations f.kept.calls old.calls c.in-More.call f.kept.goal

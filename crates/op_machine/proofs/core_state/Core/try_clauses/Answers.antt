@@ -26,16 +26,16 @@ returns-clause-advances c =
     (clauses_tried old c.args.snapshot.now c.args.next c.args.call c.args.goal c.args.rest) s c.in_ok-push_more.ensures.rest moved a)
     c.try_clause.ensures.advances
 
-pub attempt-requires-clause-known : goal.attempt-requires-clause-known
-attempt-requires-clause-known c =
+pub try_clause-requires-clause-known : goal.try_clause-requires-clause-known
+try_clause-requires-clause-known c =
     let r : NumberedClause = c.clause.result.now in
     let known : IsKnown (length c.args.self.now.store.names) r =
     subst (λ (q : NumberedClause). IsKnown (length c.args.self.now.store.names) q) (sym c.clause.ensures)
     (c.requires.known c.args.next r c.requires.here) in
     subst (λ (x : Core). IsKnown (length x.store.names) r) (sym c.in_ok-push_more.ensures.rest) known
 
-pub attempt-requires-clause-called : goal.attempt-requires-clause-called
-attempt-requires-clause-called c =
+pub try_clause-requires-clause-called : goal.try_clause-requires-clause-called
+try_clause-requires-clause-called c =
     let old : Core = c.args.self.now in
     let mid : Core = c.push_more.new.self in
     subst (λ (x : Core). IsCalled mid.frames.boxes x.calls x.continuations c.args.call c.args.goal c.args.rest)

@@ -4,7 +4,7 @@ use Rattle.op_store.specs.Snapshots.{snapshot_clauses}
 use Rattle.op_machine.specs.Program.{AreKnown}
 use Rattle.op_machine.proofs.core_state.Core.try_next_clause.Goals as goal
 
-pub retry-requires-clause-known : goal.retry-requires-clause-known
-retry-requires-clause-known c =
+pub try_clauses-requires-clause-known : goal.try_clauses-requires-clause-known
+try_clauses-requires-clause-known c =
     let P : Option (List NumberedClause) → Type 0 = λ o. AreKnown (length c.args.self.now.store.names) (snapshot_clauses o) in
     subst P c.in-Some.is c.requires.known
