@@ -222,7 +222,7 @@ too_long_after a b c u x d = absurd d
 broken_after : (s : Status) (a b c : Sight) → Untouched a b → (x : Outcome) → BrokenAs x s b c → BrokenAs x s a c
 broken_after status.Read a b c u (Line t text) d = (d.0 ∙ u.talk, d.1 ∙ u.commands)
 broken_after s a b c u (Line t text) d = (subst (λ k. AppendsFront k c.talk text) u.talk d.0, d.1 ∙ u.commands)
-broken_after s a b c u Missing d = (d.0, d.1.0 ∙ u.talk, d.1.1 ∙ u.commands)
+broken_after s a b c u Missing d = (d.0, d.1 ∙ u.talk, d.2 ∙ u.commands)
 broken_after s a b c u (Session traced) d =
     subst (λ k. WhenTold k (λ bytes. BrokenOff traced s bytes a.talk c.talk c.commands)) u.commands
     (subst (λ t. WhenTold b.commands (λ bytes. BrokenOff traced s bytes t c.talk c.commands)) u.talk d)
