@@ -1,4 +1,4 @@
-use Rattle.std.proofs.Common.{ap, ◌∙◌, sym, subst}
+use Rattle.std.proofs.Common.{ap, ◌∙◌, sym}
 use Rattle.op_logic.specs.Term.{args_of, node, arity}
 use Rattle.op_logic.specs.Names.{IsTable}
 use Rattle.op_store.specs.Stored.{Stored}

@@ -28,7 +28,7 @@ pub restore-requires-clause-calls : goal.restore-requires-clause-calls
 restore-requires-clause-calls c =
     omega (
       arith,
-      c.requires.calls,
+      c.requires.fits.calls,
       ap (λ (x : Core). x.calls)
           c.in-Some.ensures.rest,
       popped-calls c.args.self.now c.pop_choice_point.new.self c.in-Some.choice c.requires.good
