@@ -14,7 +14,6 @@ mod command_fault;
 mod control_names;
 mod convert;
 mod converted;
-mod copy;
 mod directive;
 mod entries;
 mod first_names;
