@@ -11,7 +11,8 @@ use op_base::Memory;
 use op_bind::{Bindings, Mark, Ref};
 use op_reader::Names;
 use op_store::Goal;
-use op_term::{Builder, Sym};
+use op_store::control::FAIL;
+use op_term::Builder;
 use op_trace::Barrier;
 use std::alloc::Global;
 
@@ -55,7 +56,7 @@ fn load_failure(alloc: Global, bindings: &mut Bindings) -> Result<Ref, Memory>
     ensures grows { OnOk result (Grows bindings.old bindings.new) }
 {
     let mut builder = Builder::new(alloc);
-    let root = builder.atom(Sym(1))?;
+    let root = builder.atom(FAIL)?;
     bindings.load(&builder.finish(root), 0)
 }
 

@@ -11,6 +11,7 @@ mod builtins;
 mod clause_parts;
 mod command;
 mod command_fault;
+pub mod control;
 mod control_names;
 mod convert;
 mod converted;
