@@ -1,5 +1,5 @@
 -- A term's nodes are met, and it is built from them.
-use Rattle.std.proofs.Common.{◌≡◌, ℕ, zero, suc, ◌+◌, ◌-◌, ◌<◌, ◌≤◌, List, [], ◌∷◌, ◌++◌, length, get_or, take, drop, map, All, pos, sym, ◌∙◌, ap, subst, refl, arith, length-append, append_assoc, Result, Ok, Err, IfOk, OnOk, OnErr}
+use Rattle.std.proofs.Common.{◌≡◌, ℕ, zero, suc, ◌+◌, ◌-◌, ◌<◌, List, [], ◌∷◌, ◌++◌, length, get_or, take, drop, map, All, pos, sym, ◌∙◌, ap, subst, refl, arith, length-append, append_assoc, Result, Ok, Err, IfOk, OnOk}
 use Rattle.std.proofs.lemmas.List.{get_or_append_left, length-map, map-append, take-map, length-take, get_or-take, append-nil}
 use Rattle.std.proofs.Math.Seq.{take-append_seam, drop-append_seam, get_or-append_seam}
 use Rattle.std.specs.List.{drop-map}

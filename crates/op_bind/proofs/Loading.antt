@@ -1,7 +1,6 @@
 -- A term that is brought in, its variables counted from a first one on.
-use Rattle.std.proofs.Common.{◌≡◌, ℕ, zero, suc, ◌+◌, ◌<◌, ◌≤◌, ◌^◌, List, ◌++◌, length, take, sym, ◌∙◌, ap, subst, refl, arith, Option}
+use Rattle.std.proofs.Common.{◌≡◌, ℕ, zero, suc, ◌<◌, ◌≤◌, ◌^◌, List, length, take, sym, ◌∙◌, ap, refl, arith, Option}
 use Rattle.op_logic.specs.Term.{Term, var, int, node, Args, no_args, arg, args_of, nth_arg, arity, size, args_size, IsWithin, ArgsWithin, shift, shift_args}
-use Rattle.op_term.specs.Places.{term_at}
 use Rattle.op_term.specs.Head.{head, sym as name_of}
 use Rattle.op_term.specs.declared.node.Node.TheVariants as nodes
 use Rattle.op_bind.specs.Loaded.{shifted_node, CanShift}

@@ -116,11 +116,7 @@ fn join_node(node: Node, made: &mut Builder, stack: &mut Vec<u64>) -> Result<(),
 }
 
 /// The term of these nodes, behind what was made before: the number of its node.
-pub(crate) fn build(
-    alloc: Global,
-    mut nodes: Vec<Node>,
-    made: &mut Builder,
-) -> Result<u64, Memory>
+pub(crate) fn build(alloc: Global, mut nodes: Vec<Node>, made: &mut Builder) -> Result<u64, Memory>
     requires { (t : SpecTerm ℕ) × (nodes.items ≡ visit t) }
     ensures there { IfOk result (λ r. r < length made.new) }
     ensures term { IfOk result (λ r. (t : SpecTerm ℕ) → nodes.items ≡ visit t → term_at made.new r ≡ t) }

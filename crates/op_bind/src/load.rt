@@ -59,7 +59,6 @@ impl Bindings {
         ensures grows { Grows self.old self.new }
     {
         let base = self.nodes.len();
-        let _count = self.table.len();
         let whole = Whole::new(term);
         let root = whole.root();
         let shifted = Shifted { whole, first };

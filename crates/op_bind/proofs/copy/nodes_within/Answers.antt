@@ -1,4 +1,4 @@
-use Rattle.std.proofs.Common.{◌≡◌, [], List, length, subst, refl, arith}
+use Rattle.std.proofs.Common.{◌≡◌, [], List, subst, refl, arith}
 use Rattle.op_bind.proofs.Copying.{IsMeeting, meeting-goes, meeting-spent, meeting-ends, meeting-paid, none-left}
 use Rattle.op_bind.proofs.Copying
 use Rattle.op_bind.proofs.copy.nodes_within.Goals as goal

@@ -1,4 +1,4 @@
-use Rattle.std.proofs.Common.{◌≡◌, ◌≤◌, ◌^◌, ℕ, List, length, reverse, sym, ◌∙◌, ap, subst, arith}
+use Rattle.std.proofs.Common.{◌≤◌, ◌^◌, ℕ, length, reverse, sym, ◌∙◌, ap, subst, arith}
 use Rattle.op_logic.specs.Term.{Term, IsWithin, shift, size}
 use Rattle.op_term.specs.Places.{term_at}
 use Rattle.op_bind.specs.State.{State, bindings}
@@ -11,8 +11,7 @@ copy_term-requires c =
     let first = c.args.first in
     let given = subst (λ (s : State). IsWithin s.count (shift first c.args.term.now)) (sym c.self.view_is) c.requires in
     let l : length c.self.inside.table.items ≤ 2 ^ 64 = omega (arith, c.self.inside.table.ok.0) in
-    let value = ap (term_at whole.terms) c.root-root.ensures.root ∙ c.new-whole.ensures.value in
-    (
+    let value = ap (term_at whole.terms) c.root-root.ensures.root ∙ c.new-whole.ensures.value in (
       c.root-root.ensures.place,
       subst (λ (u : Term ℕ). IsWithin (2 ^ 64) (shift first u)) (sym value) (Loading.within-more _ _ l _ given),
     )

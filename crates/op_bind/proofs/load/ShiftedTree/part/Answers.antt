@@ -1,5 +1,5 @@
-use Rattle.std.proofs.Common.{◌≡◌, ◌<◌, ◌^◌, ℕ, sym, ap, ◌∙◌, subst, arith}
-use Rattle.op_logic.specs.Term.{Term, IsWithin, shift, args_of, nth_arg, arity}
+use Rattle.std.proofs.Common.{◌<◌, ◌^◌, ℕ, sym, ap, ◌∙◌, subst, arith}
+use Rattle.op_logic.specs.Term.{Term, IsWithin, shift, args_of, arity}
 use Rattle.op_term.specs.Places.{term_at}
 use Rattle.op_bind.proofs.Loading.{arity-of-shift, part-of-shift, part-within}
 use Rattle.op_bind.proofs.load.ShiftedTree.part.Goals as goal
