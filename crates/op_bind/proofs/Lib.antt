@@ -8,4 +8,5 @@ mod Turning
 pub mod Unifying
 pub mod Growing
 pub mod Renaming
-mod Building
+pub mod Made
+mod Copying

@@ -1,106 +1,85 @@
--- A term is brought in node by node.
-use Rattle.std.proofs.Common.{◌≡◌, ℕ, suc, ◌+◌, ◌<◌, ◌≤◌, List, [], ◌∷◌, ◌++◌, length, get_or, take, map, All, pos, sym, ◌∙◌, ap, subst, refl, arith, length-append, ltb, Option}
-use Rattle.std.proofs.lemmas.Bool.{lt-ltb, ltb-true}
-use Rattle.std.proofs.lemmas.List.{get_or-append-add, get_or-map, length-map, length-take-le, get_or-take, map-append, append_assoc, take_more}
-use Rattle.std.proofs.Math.Seq.{take-append_seam}
-use Rattle.op_logic.specs.Term.{Term, var, int, node, Args, no_args, arg, args_of, IsWithin, ArgsWithin, shift, shift_args}
-use Rattle.op_logic.proofs.Tests.{by_test, if_true, if_false}
-use Rattle.op_term.specs.Places.{term_at, args_at}
-use Rattle.op_term.specs.Head.{head}
+-- A term that is brought in, its variables counted from a first one on.
+use Rattle.std.proofs.Common.{◌≡◌, ℕ, zero, suc, ◌<◌, ◌≤◌, ◌^◌, List, length, take, sym, ◌∙◌, ap, refl, arith, Option}
+use Rattle.op_logic.specs.Term.{Term, var, int, node, Args, no_args, arg, args_of, nth_arg, arity, size, args_size, IsWithin, ArgsWithin, shift, shift_args}
+use Rattle.op_term.specs.Head.{head, sym as name_of}
 use Rattle.op_term.specs.declared.node.Node.TheVariants as nodes
-use Rattle.op_term.specs.declared.symbols.Sym.{Sym}
-use Rattle.op_bind.specs.Loaded.{put, put_args, IsPut}
-use Rattle.op_bind.specs.Sound.{AllWithin, IsSound}
-use Rattle.op_bind.proofs.Facts.{sound-append}
+use Rattle.op_bind.specs.Loaded.{shifted_node, CanShift}
+use Rattle.op_bind.specs.State.{resolved}
+use Rattle.op_bind.specs.Sound.{AllWithin, AreBound, IsSound}
+use Rattle.op_bind.proofs.Facts.{refs-there, bound-same, resolved-same}
+use Rattle.op_bind.proofs.Made.{below-more, term-more}
 
-struct-of : (t : Term ℕ) (f : Sym) (n : ℕ) → nodes.Struct f n ≡ head t → t ≡ node f.0 (args_of t)
-struct-of (var w) f n h = cc
-struct-of (int i) f n h = cc
-struct-of (node g no_args) f n h = cc
-struct-of (node g (arg t ts)) f n h = let e : f ≡ record { 0 = g } = cc in ap (λ (s : Sym). node s.0 (arg t ts)) (sym e)
+pub can-shift : (first : ℕ) (t : Term ℕ) → IsWithin (2 ^ 64) (shift first t) → CanShift first (head t)
+can-shift first (var v) h = h
+can-shift first (int i) h = tt
+can-shift first (node f no_args) h = tt
+can-shift first (node f (arg t ts)) h = tt
 
-pub moved-below : (base at n : ℕ) → n ≡ base + at → (ps qs : List ℕ) → All (λ p. p < at) ps → qs ≡ map (λ p. base + p) ps → All (λ p. p < n) qs
-moved-below base at n e ps qs h q =
-    subst (λ (xs : List ℕ). All (λ p. p < n) xs) (sym q)
-    (λ k d l. let m : k < length ps = omega (arith, length-map ps (λ p. base + p)) in
-    let x : get_or (map (λ p. base + p) ps) k d ≡ base + get_or ps k d = get_or-map (λ p. base + p) ps k d d m in
-    omega (arith, h k d m))
+pub arity-shift : (first : ℕ) (ts : Args ℕ) → arity (shift_args first ts) ≡ arity ts
+arity-shift first no_args = refl
+arity-shift first (arg t ts) = ap suc (arity-shift first ts)
 
-args-put : (base first count at : ℕ) (ts others : List (Term ℕ)) → IsPut base first count at ts others → (ps : List ℕ) → All (λ p. p < at) ps → args_at ts (map (λ p. base + p) ps) ≡ put_args first count (args_at others ps)
-args-put base first count at ts others i [] h = refl
-args-put base first count at ts others i (p ∷ ps) h =
-    let a : term_at ts (base + p) ≡ put first count (term_at others p) = i p (h 0 0 (omega arith)) in
-    let b : args_at ts (map (λ q. base + q) ps) ≡ put_args first count (args_at others ps) = args-put base first count at ts others i ps (λ k d l. h (suc k) d (omega arith)) in
-    cc
+pub head-shift : (first : ℕ) (t : Term ℕ) → shifted_node first (head t) ≡ head (shift first t)
+head-shift first (var v) = refl
+head-shift first (int i) = refl
+head-shift first (node f no_args) = refl
+head-shift first (node f (arg t ts)) = ap (λ (n : ℕ). nodes.Struct (name_of f) (suc n)) (sym (arity-shift first ts))
 
-pub node-put : (base first count at : ℕ) (ts others : List (Term ℕ)) → IsPut base first count at ts others → (f : Sym) (n : ℕ) → nodes.Struct f n ≡ head (term_at others at) → (ps qs : List ℕ) → All (λ p. p < at) ps → args_at others ps ≡ args_of (term_at others at) → qs ≡ map (λ p. base + p) ps → node f.0 (args_at ts qs) ≡ put first count (term_at others at)
-node-put base first count at ts others i f n h ps qs b e q =
-    let t : term_at others at ≡ node f.0 (args_of (term_at others at)) = struct-of (term_at others at) f n h in
-    let a : args_at ts qs ≡ put_args first count (args_of (term_at others at)) = ap (args_at ts) q ∙ (args-put base first count at ts others i ps b ∙ ap (put_args first count) e) in
-    ap (node f.0) a ∙ sym (ap (put first count) t)
+pub args-shift : (first : ℕ) (t : Term ℕ) → args_of (shift first t) ≡ shift_args first (args_of t)
+args-shift first (var v) = refl
+args-shift first (int i) = refl
+args-shift first (node f ts) = refl
 
-module _ (first count : ℕ) (old others : List (Term ℕ)) where
-  pub put-counted : (at : ℕ) → at ≤ length others → length (old ++ map (put first count) (take at others)) ≡ length old + at
-  put-counted at l =
-      omega (arith, length-append old (map (put first count) (take at others)), length-map (take at others) (put first count), length-take-le at others l)
+nth-shift : (first : ℕ) (ts : Args ℕ) (i : ℕ) → i < arity ts → nth_arg (shift_args first ts) i ≡ shift first (nth_arg ts i)
+nth-shift first no_args i h = absurd (omega arith)
+nth-shift first (arg t ts) zero h = refl
+nth-shift first (arg t ts) (suc i) h = nth-shift first ts i (omega arith)
 
-  pub put-before : (at : ℕ) → at ≤ length others → IsPut (length old) first count at (old ++ map (put first count) (take at others)) others
-  put-before at l i h =
-      let z : Term ℕ = int (pos 0) in
-      let m : i < length (take at others) = omega (arith, length-take-le at others l) in
-      get_or-append-add old (map (put first count) (take at others)) i z
-      ∙ (get_or-map (put first count) (take at others) i z z m ∙ ap (put first count) (get_or-take at others i z h))
+-- an argument of a term that is counted so
+pub arity-of-shift : (first : ℕ) (t : Term ℕ) → arity (args_of (shift first t)) ≡ arity (args_of t)
+arity-of-shift first t = ap arity (args-shift first t) ∙ arity-shift first (args_of t)
 
-  pub put-next : (at : ℕ) → at < length others → (old ++ map (put first count) (take at others)) ++ put first count (term_at others at) ∷ [] ≡ old ++ map (put first count) (take (at + 1) others)
-  put-next at l =
-      let t : take (at + 1) others ≡ take at others ++ term_at others at ∷ [] = take_more others at (int (pos 0)) l in
-      append_assoc old (map (put first count) (take at others)) (put first count (term_at others at) ∷ [])
-      ∙ ap (λ (us : List (Term ℕ)). old ++ us) (sym (ap (map (put first count)) t ∙ map-append (put first count) (take at others) (term_at others at ∷ [])))
+pub part-of-shift : (first : ℕ) (t : Term ℕ) (i : ℕ) → i < arity (args_of t) → nth_arg (args_of (shift first t)) i ≡ shift first (nth_arg (args_of t) i)
+part-of-shift first t i h = ap (λ (ts : Args ℕ). nth_arg ts i) (args-shift first t) ∙ nth-shift first (args_of t) i h
 
-  pub put-cut : (at : ℕ) → take (length old) (old ++ map (put first count) (take at others)) ≡ old
-  put-cut at = take-append_seam old (map (put first count) (take at others))
+nth-within : (n : ℕ) (ts : Args ℕ) (i : ℕ) → i < arity ts → ArgsWithin n ts → IsWithin n (nth_arg ts i)
+nth-within n no_args i h w = absurd (omega arith)
+nth-within n (arg t ts) zero h w = w.0
+nth-within n (arg t ts) (suc i) h w = nth-within n ts i (omega arith) w.1
 
--- where each variable was given out, nothing is left out
+pub part-within : (n : ℕ) (t : Term ℕ) (i : ℕ) → i < arity (args_of t) → IsWithin n t → IsWithin n (nth_arg (args_of t) i)
+part-within n (var v) i h w = absurd (omega arith)
+part-within n (int j) i h w = absurd (omega arith)
+part-within n (node f ts) i h w = nth-within n ts i h w
+
+-- variables in a range are in a wider one
 mutual
-  pub put-shift : (first count : ℕ) (t : Term ℕ) → IsWithin count (shift first t) → put first count t ≡ shift first t
-  put-shift first count (var k) h = if_true _ _ _ (lt-ltb (first + k) count h)
-  put-shift first count (int i) h = refl
-  put-shift first count (node f ts) h = ap (node f) (put_args-shift first count ts h)
+  pub within-more : (n m : ℕ) → n ≤ m → (t : Term ℕ) → IsWithin n t → IsWithin m t
+  within-more n m l (var v) h = omega (arith, h)
+  within-more n m l (int i) h = tt
+  within-more n m l (node f ts) h = args_within-more n m l ts h
 
-  put_args-shift : (first count : ℕ) (ts : Args ℕ) → ArgsWithin count (shift_args first ts) → put_args first count ts ≡ shift_args first ts
-  put_args-shift first count no_args h = refl
-  put_args-shift first count (arg t ts) h =
-      let a : put first count t ≡ shift first t = put-shift first count t h.0 in
-      let b : put_args first count ts ≡ shift_args first ts = put_args-shift first count ts h.1 in
-      cc
+  args_within-more : (n m : ℕ) → n ≤ m → (ts : Args ℕ) → ArgsWithin n ts → ArgsWithin m ts
+  args_within-more n m l no_args h = tt
+  args_within-more n m l (arg t ts) h = (within-more n m l t h.0, args_within-more n m l ts h.1)
 
 mutual
-  put-within : (first count : ℕ) (t : Term ℕ) → IsWithin count (put first count t)
-  put-within first count (var k) =
-      by_test (ltb (first + k) count)
-      (λ e. subst (λ (x : Term ℕ). IsWithin count x) (sym (if_true (ltb (first + k) count) (var (first + k)) (int (pos 0)) e)) (ltb-true (first + k) count e))
-      (λ e. subst (λ (x : Term ℕ). IsWithin count x) (sym (if_false (ltb (first + k) count) (var (first + k)) (int (pos 0)) e)) tt)
-  put-within first count (int i) = tt
-  put-within first count (node f ts) = put_args-within first count ts
+  pub size-shift : (first : ℕ) (t : Term ℕ) → size (shift first t) ≡ size t
+  size-shift first (var v) = refl
+  size-shift first (int i) = refl
+  size-shift first (node f ts) = ap suc (args_size-shift first ts)
 
-  put_args-within : (first count : ℕ) (ts : Args ℕ) → ArgsWithin count (put_args first count ts)
-  put_args-within first count no_args = tt
-  put_args-within first count (arg t ts) = (put-within first count t, put_args-within first count ts)
+  args_size-shift : (first : ℕ) (ts : Args ℕ) → args_size (shift_args first ts) ≡ args_size ts
+  args_size-shift first no_args = refl
+  args_size-shift first (arg t ts) = omega (arith, size-shift first t, args_size-shift first ts)
 
-pub all-put-within : (first count : ℕ) (ts : List (Term ℕ)) → AllWithin count (map (put first count) ts)
-all-put-within first count [] = tt
-all-put-within first count (t ∷ ts) = (put-within first count t, all-put-within first count ts)
+-- terms that join behind those that are there change no binding
+pub sound-load : (ts new : List (Term ℕ)) (ps : List (ℕ × ℕ)) (table : List (Option ℕ)) → IsSound ts ps table → take (length ts) new ≡ ts → AllWithin (length table) new → IsSound new ps table
+sound-load ts new ps table s kept w = record {
+  within = w;
+  are_bound = bound-same (length ts) ts new (λ r h. term-more ts new r kept h) (length table) ps (below-more ts new kept) (refs-there (length table) ts ps s.are_bound) s.are_bound;
+  looked_up = s.looked_up;
+}
 
-pub sound-load : (ts : List (Term ℕ)) (ps : List (ℕ × ℕ)) (table : List (Option ℕ)) (first count : ℕ) (others new : List (Term ℕ)) → IsSound ts ps table → count ≡ length table → new ≡ ts ++ map (put first count) others → IsSound new ps table
-sound-load ts ps table first count others new s c e =
-    let w : AllWithin (length table) (map (put first count) others) = subst (λ (n : ℕ). AllWithin n (map (put first count) others)) c (all-put-within first count others) in
-    subst (λ (us : List (Term ℕ)). IsSound us ps table) (sym e) (sound-append ts (map (put first count) others) ps table s w)
-
-pub load-value : (ts others new : List (Term ℕ)) (base root first count : ℕ) (t : Term ℕ) → base ≡ length ts → root < length others → new ≡ ts ++ map (put first count) others → term_at others root ≡ t → IsWithin count (shift first t) → term_at new (base + root) ≡ shift first t
-load-value ts others new base root first count t b r e q w =
-    let z : Term ℕ = int (pos 0) in
-    ap (λ (us : List (Term ℕ)). term_at us (base + root)) e
-    ∙ (ap (λ (n : ℕ). term_at (ts ++ map (put first count) others) (n + root)) b
-    ∙ (get_or-append-add ts (map (put first count) others) root z
-    ∙ (get_or-map (put first count) others root z z r
-    ∙ (ap (put first count) q ∙ put-shift first count t w))))
+pub load-bindings : (n : ℕ) (ts new : List (Term ℕ)) (ps : List (ℕ × ℕ)) → AreBound n ts ps → take (length ts) new ≡ ts → resolved new ps ≡ resolved ts ps
+load-bindings n ts new ps b kept = resolved-same (length ts) ts new (λ r h. term-more ts new r kept h) ps (refs-there n ts ps b)

@@ -1,7 +1,8 @@
 pub mod State
 pub mod Sound
 pub mod Grown
+pub mod Visited
+pub mod Built
 pub mod Loaded
 pub mod Pairs
-pub mod Built
 pub mod Marks

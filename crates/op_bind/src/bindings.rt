@@ -71,9 +71,11 @@ impl Bindings {
     pub fn compound(&mut self, name: Sym, args: &[Ref]) -> Result<Ref, Memory>
         requires there { All (λ r. r < length self.old.terms) args.now }
         requires some { 0 < length args.now }
-        ensures number { IfOk result (λ r. r ≡ length self.old.terms) }
+        ensures there { IfOk result (λ r. r < length self.new.terms) }
+        ensures value { IfOk result (λ r. term_at self.new.terms r ≡ node name.0 (args_at self.old.terms args.now)) }
+        ensures bound { self.new.bound ≡ self.old.bound }
         ensures bindings { bindings self.new ≡ bindings self.old }
-        ensures ok { OnOk result (self.new ≡ record self.old { terms = self.old.terms ++ node name.0 (args_at self.old.terms args.now) ∷ [] }) }
+        ensures count { self.new.count ≡ self.old.count }
         ensures err { OnErr result (self.new ≡ self.old) }
         ensures grows { Grows self.old self.new }
     {

@@ -2,6 +2,7 @@
 #![tactic(auto)]
 
 mod bindings;
+mod copy;
 mod laws;
 mod load;
 mod places;
@@ -11,5 +12,6 @@ mod step;
 mod unify;
 
 pub use bindings::Bindings;
+pub use copy::{copy_term, nodes_of};
 pub use laws::{growth_joins, marks_nest, terms_stay, undone_is_then};
 pub use places::{Clause, Mark, Ref, Unified};

@@ -118,13 +118,13 @@ module _ (t : Stored) (table : IsTable t.names) (begins : take 8 t.names ≡ fir
   -- the kind of an atom, by its number
   pub atom-control : (g : Term ℕ) (n : ℕ) (k : GoalKind) → (n ≡ 0 → k ≡ kinds.True) → (n ≡ 1 → k ≡ kinds.Fail) → (n ≡ 2 → k ≡ kinds.Fail)
       → (n ≡ 6 → k ≡ kinds.Cut)
-      → (2 < n → n ≢ 6 → k ≡ kinds.Boxed) → control_of_atom (name_at t.names n) ≡ control_of_kind t g k
+      → (n ≢ 0 → n ≢ 1 → n ≢ 2 → n ≢ 6 → k ≡ kinds.Boxed) → control_of_atom (name_at t.names n) ≡ control_of_kind t g k
   atom-control g n k a b c d e =
       by_equal n 0 (λ q. true_name-atom n q ∙ ap (control_of_kind t g) (sym (a q))) (λ x.
       by_equal n 1 (λ q. fail_name-atom n q ∙ ap (control_of_kind t g) (sym (b q))) (λ y.
       by_equal n 2 (λ q. false_name-atom n q ∙ ap (control_of_kind t g) (sym (c q))) (λ z.
       by_equal n 6 (λ q. cut_name-atom n q ∙ ap (control_of_kind t g) (sym (d q))) (λ w.
-      other-atom n x y z w ∙ ap (control_of_kind t g) (sym (e (omega (arith, x, y, z)) w))))))
+      other-atom n x y z w ∙ ap (control_of_kind t g) (sym (e x y z w))))))
 
   -- the kind of a compound, by its number and its arguments
   pub struct-control : (f : ℕ) (ts : Args ℕ) (k : GoalKind) → 0 < arity ts → (f ≡ 3 → arity ts ≡ 2 → k ≡ kinds.Conjunction)
@@ -178,12 +178,12 @@ not-true t (node f (arg x xs)) h = refl
 -- no atom has two parts
 pub no-pair : {P : Type 0} (n : ℕ) (k : GoalKind) → IsPair k → (n ≡ 0 → k ≡ kinds.True) → (n ≡ 1 → k ≡ kinds.Fail)
     → (n ≡ 2 → k ≡ kinds.Fail) → (n ≡ 6 → k ≡ kinds.Cut)
-    → (2 < n → n ≢ 6 → k ≡ kinds.Boxed) → P
+    → (n ≢ 0 → n ≢ 1 → n ≢ 2 → n ≢ 6 → k ≡ kinds.Boxed) → P
 no-pair {P} n k pair a b c d e =
     by_equal n 0 (λ q. single kinds.True (a q) (λ h. h)) (λ x.
     by_equal n 1 (λ q. single kinds.Fail (b q) (λ h. h)) (λ y.
     by_equal n 2 (λ q. single kinds.Fail (c q) (λ h. h)) (λ z.
-    by_equal n 6 (λ q. single kinds.Cut (d q) (λ h. h)) (λ w. single kinds.Boxed (e (omega (arith, x, y, z)) w) (λ h. h)))))
+    by_equal n 6 (λ q. single kinds.Cut (d q) (λ h. h)) (λ w. single kinds.Boxed (e x y z w) (λ h. h)))))
   where
     single : (j : GoalKind) → k ≡ j → (IsPair j → ⊥) → P
     single j q none = absurd (none (subst IsPair q pair))

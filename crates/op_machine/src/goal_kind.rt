@@ -11,6 +11,7 @@ ghost use Rattle.op_machine.specs.inner.GoalKinds.{control_of_kind, IsPair};
 ghost use Rattle.op_machine.specs.declared.goal_kind.GoalKind.TheVariants as kinds;
 
 use op_store::Store;
+use op_store::control::{ARROW, COMMA, CUT, FAIL, FALSE, SEMICOLON, TRUE};
 use op_term::{Node, Sym};
 
 /// What kind of goal a term is.
@@ -60,47 +61,51 @@ pub(crate) fn is_true_atom(store: &Store, node: Node) -> bool
 {
     names_law(store);
     match node {
-        Node::Atom(name) => name.0 == 0,
+        Node::Atom(name) => name == TRUE,
         Node::Var(_) => false,
         Node::Int(_) => false,
         Node::Struct(_, _) => false,
     }
 }
 
-// the kinds of atoms, by the numbers that a store gives the control constructs
+// the kinds of atoms
 fn atom_kind(name: Sym) -> GoalKind
-    ensures true_name { name.0 ≡ 0 → result ≡ kinds.True }
-    ensures fail_name { name.0 ≡ 1 → result ≡ kinds.Fail }
-    ensures false_name { name.0 ≡ 2 → result ≡ kinds.Fail }
-    ensures cut_name { name.0 ≡ 6 → result ≡ kinds.Cut }
-    ensures other { 2 < name.0 → name.0 ≢ 6 → result ≡ kinds.Boxed }
+    ensures true_name { name.0 ≡ TRUE.0 → result ≡ kinds.True }
+    ensures fail_name { name.0 ≡ FAIL.0 → result ≡ kinds.Fail }
+    ensures false_name { name.0 ≡ FALSE.0 → result ≡ kinds.Fail }
+    ensures cut_name { name.0 ≡ CUT.0 → result ≡ kinds.Cut }
+    ensures other { name.0 ≢ TRUE.0 → name.0 ≢ FAIL.0 → name.0 ≢ FALSE.0 → name.0 ≢ CUT.0 → result ≡ kinds.Boxed }
 {
-    match name.0 {
-        0 => GoalKind::True,
-        1 => GoalKind::Fail,
-        2 => GoalKind::Fail,
-        6 => GoalKind::Cut,
-        _ => GoalKind::Boxed,
+    if name == TRUE {
+        GoalKind::True
+    } else if name == FAIL || name == FALSE {
+        GoalKind::Fail
+    } else if name == CUT {
+        GoalKind::Cut
+    } else {
+        GoalKind::Boxed
     }
 }
 
 // the kinds of compounds, likewise
 fn struct_kind(name: Sym, arity: u64) -> GoalKind
-    ensures conjunction { name.0 ≡ 3 → arity ≡ 2 → result ≡ kinds.Conjunction }
-    ensures disjunction { name.0 ≡ 4 → arity ≡ 2 → result ≡ kinds.Disjunction }
-    ensures if_then { name.0 ≡ 5 → arity ≡ 2 → result ≡ kinds.IfThen }
-    ensures other { name.0 ≢ 3 → name.0 ≢ 4 → name.0 ≢ 5 → result ≡ kinds.Boxed }
+    ensures conjunction { name.0 ≡ COMMA.0 → arity ≡ 2 → result ≡ kinds.Conjunction }
+    ensures disjunction { name.0 ≡ SEMICOLON.0 → arity ≡ 2 → result ≡ kinds.Disjunction }
+    ensures if_then { name.0 ≡ ARROW.0 → arity ≡ 2 → result ≡ kinds.IfThen }
+    ensures other { name.0 ≢ COMMA.0 → name.0 ≢ SEMICOLON.0 → name.0 ≢ ARROW.0 → result ≡ kinds.Boxed }
     ensures long { arity ≢ 2 → result ≡ kinds.Boxed }
     ensures two { IsPair result → arity ≡ 2 }
 {
     if arity != 2 {
-        return GoalKind::Boxed;
-    }
-    match name.0 {
-        3 => GoalKind::Conjunction,
-        4 => GoalKind::Disjunction,
-        5 => GoalKind::IfThen,
-        _ => GoalKind::Boxed,
+        GoalKind::Boxed
+    } else if name == COMMA {
+        GoalKind::Conjunction
+    } else if name == SEMICOLON {
+        GoalKind::Disjunction
+    } else if name == ARROW {
+        GoalKind::IfThen
+    } else {
+        GoalKind::Boxed
     }
 }
 
@@ -123,8 +128,8 @@ pub(crate) fn is_if_then(store: &Store, node: Node) -> bool
 }
 
 fn is_arrow(name: Sym, arity: u64) -> bool
-    ensures yes { OnTrue result ((name.0 ≡ 5) × (arity ≡ 2)) }
-    ensures no { OnFalse result (name.0 ≡ 5 → arity ≡ 2 → ⊥) }
+    ensures yes { OnTrue result ((name.0 ≡ ARROW.0) × (arity ≡ 2)) }
+    ensures no { OnFalse result (name.0 ≡ ARROW.0 → arity ≡ 2 → ⊥) }
 {
-    name.0 == 5 && arity == 2
+    name == ARROW && arity == 2
 }

@@ -14,8 +14,9 @@ use op_base::Memory;
 use op_bind::{Bindings, Mark, Ref};
 use op_frames::Frames;
 use op_reader::Names;
+use op_store::control::FAIL;
 use op_store::{Goal, Store};
-use op_term::{Builder, Sym};
+use op_term::Builder;
 use op_trace::{Barrier, Port};
 use std::alloc::Global;
 
@@ -59,7 +60,7 @@ fn load_failure(alloc: Global, bindings: &mut Bindings) -> Result<Ref, Memory>
     ensures grows { OnOk result (Grows bindings.old bindings.new) }
 {
     let mut builder = Builder::new(alloc);
-    let root = builder.atom(Sym(1))?;
+    let root = builder.atom(FAIL)?;
     bindings.load(&builder.finish(root), 0)
 }
 

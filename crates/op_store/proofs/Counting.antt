@@ -6,7 +6,7 @@ use Rattle.op_logic.proofs.Tests.{by_test}
 use Rattle.op_store.specs.Counted.{variable_count, args_variable_count}
 use Rattle.op_logic.specs.Names.{name_at, named}
 use Rattle.op_term.specs.declared.node.Node.{Node}
-use Rattle.op_bind.specs.Built.{visit, visit_args}
+use Rattle.op_bind.specs.Visited.{visit, visit_args}
 use Rattle.op_store.specs.Counted.{node_variables}
 
 abbrev pub counted : List Node → ℕ

@@ -7,7 +7,6 @@ mod Sharing
 mod RowLaws
 pub mod Naming
 mod Numbers
-mod Copying
 mod Making
 mod Counting
 mod Bodies

@@ -15,9 +15,9 @@ use Rattle.op_store.specs.Walk.{needs, took, read}
 use Rattle.op_store.specs.Converted.{AreControlNames, texts_at, paired, called}
 use Rattle.op_store.specs.declared.control_names.ControlNames.{ControlNames}
 use Rattle.op_store.specs.declared.body_node.BodyNode.{BodyNode}
+use Rattle.op_bind.proofs.Made.{below-more, term-more, kept-push}
 use Rattle.op_store.proofs.Meeting.{T, read-push, leaves-append}
 use Rattle.op_store.proofs.Linking.{none-read, short}
-use Rattle.op_store.proofs.Copying.{below-more, term-more, kept-push}
 
 pub reverse-push : (xs : List ℕ) (x : ℕ) (new : List ℕ) → new ≡ xs ++ x ∷ [] → reverse new ≡ x ∷ reverse xs
 reverse-push xs x new e = ap (λ (ks : List ℕ). reverse ks) e ∙ reverse-append xs (x ∷ [])

@@ -1,5 +1,5 @@
 -- What the calls of a store keep.
-use Rattle.std.proofs.Common.{◌≡◌, ℕ, zero, map, suc, ◌<◌, ◌≤◌, ◌==◌, ◌&&◌, max, Bool, true, false, List, [], ◌∷◌, ◌++◌, length, take, Option, Some, None, All, refl, sym, ap, ◌∙◌, subst, arith}
+use Rattle.std.proofs.Common.{◌≡◌, ℕ, zero, map, suc, ◌<◌, ◌≤◌, ◌==◌, ◌&&◌, max, Bool, true, false, List, [], ◌∷◌, ◌++◌, length, take, Option, Some, None, All, refl, sym, ap, ◌∙◌, subst, arith, Result, Ok, Err, OnOk}
 use Rattle.std.specs.Prelude.{IfSome}
 use Rattle.std.proofs.lemmas.Bool.Decides.{Decides-eqb}
 use Rattle.std.proofs.lemmas.List.{length-take}
@@ -7,11 +7,14 @@ use Rattle.std.proofs.lemmas.List.Elements.{All-push, All-head, All-tail}
 use Rattle.op_logic.proofs.Tests.{by_test, if_true, if_false}
 use Rattle.op_logic.specs.Term.{Term, var, int, node, no_args, IsWithin}
 use Rattle.op_store.specs.Counted.{variable_count}
-use Rattle.op_logic.specs.Names.{IsTable, HasNames, named, name_at}
+use Rattle.op_logic.specs.Names.{IsTable, HasNames, named, name_at, with_name}
 use Rattle.op_logic.proofs.Naming.{named-more}
 use Rattle.op_trace.specs.World.{Text, Clause}
 use Rattle.op_bind.specs.declared.places.Clause.{Clause as NumberedClause}
 use Rattle.op_store.specs.declared.pi.Pi.{Pi}
+use Rattle.op_term.specs.Ops.{Table}
+use Rattle.op_store.specs.declared.flags.Flags.{Flags}
+use Rattle.op_store.specs.declared.locked.Locked.{Locked}
 use Rattle.op_store.specs.declared.procedure.Procedure.{Procedure as Row}
 use Rattle.op_store.specs.Rows.{clause_named, row_named, indicator_named, rows_named, Rows, pi_eq, row_in, with_row, extended_row, pi_of, IsNumberedClause, IsRow, AreRows}
 use Rattle.op_store.specs.Stored.{Stored, IsSound, world_of, with_numbered_clause, first_names}
@@ -167,3 +170,18 @@ module _ (old new : List Text) (kept : take (length old) new ≡ old) where
 pub world-kept : (s : Stored) (names : List Text) → take (length s.names) names ≡ s.names → IsSound s → world_of (with_names s names) ≡ world_of s
 world-kept s names kept h =
     ap (λ (ps : List (Indicator × Procedure)). let w : World = record { procedures = ps; next = s.next; table = s.table; flags = s.flags } in w) (rows-kept s.names names kept s.rows h.rows)
+
+-- of a store, by its fields, to which names join: it is sound as before, and has the same world
+module _ (l : Locked) (old new : List Text) (t : Table) (f : Flags) (rows : Rows) (next : ℕ) where
+  abbrev pub before : Stored
+  before = record { locked = l; names = old; table = t; flags = f; rows = rows; next = next }
+
+  pub joined-sound : IsSound before → IsTable new → take (length old) new ≡ old → IsSound (with_names before new)
+  joined-sound h table kept = sound-more before new h table kept
+
+  pub joined-world : IsSound before → take (length old) new ≡ old → world_of (with_names before new) ≡ world_of before
+  joined-world h kept = world-kept before new kept h
+
+  pub joined-exact : {A E : Type 0} (r : Result A E) (name : Text) → OnOk r (new ≡ with_name old name) → OnOk r (with_names before new ≡ with_names before (with_name old name))
+  joined-exact (Ok a) name e = ap (λ (ns : List Text). with_names before ns) e
+  joined-exact (Err x) name e = tt

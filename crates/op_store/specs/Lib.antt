@@ -15,7 +15,6 @@ pub mod Told
 pub mod Queries
 pub mod Counted
 pub mod Converted
-pub mod Copied
 pub mod Stored
 pub mod Shapes
 pub mod Snapshots

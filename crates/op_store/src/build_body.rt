@@ -8,9 +8,9 @@ ghost use Rattle.op_store.specs.Converted.{AreControlNames, texts_at, paired, ca
 
 use crate::body_node::BodyNode;
 use crate::control_names::ControlNames;
-use crate::copy::copy_term;
 use crate::link::pop_two;
 use op_base::Memory;
+use op_bind::copy_term;
 use op_term::{Builder, Sym, Term, Tree};
 use std::alloc::Global;
 

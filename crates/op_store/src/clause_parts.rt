@@ -7,9 +7,9 @@ ghost use Rattle.op_store.specs.Rows.{pi_of};
 ghost use Rattle.op_store.specs.Parts.{body_text, body_variables, truth};
 
 use crate::converted::{converted_term, count_variables};
-use crate::copy::copy_term;
 use crate::pi::Pi;
 use op_base::Memory;
+use op_bind::copy_term;
 use op_term::{Builder, Node, Symbols, Term, Tree};
 use std::alloc::Global;
 

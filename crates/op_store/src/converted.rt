@@ -8,8 +8,9 @@ ghost use Rattle.op_store.specs.Counted.{node_variables};
 use crate::body_fault::BodyFault;
 use crate::build_body::build_body;
 use crate::control_names::known_control_names;
-use crate::{convert, copy};
+use crate::convert;
 use op_base::Memory;
+use op_bind::nodes_of;
 use op_term::{Fuel, Node, Symbols, Term, Tree};
 use std::alloc::Global;
 
@@ -50,7 +51,7 @@ pub(crate) fn count_variables<T: Tree>(alloc: Global, tree: &T, at: &T::At) -> R
     requires { T.IsPlace tree.now at.now }
     ensures { IfOk result (λ n. n ≡ variable_count (T.term tree.now at.now)) }
 {
-    let mut nodes = copy::nodes_of(alloc, tree, at)?;
+    let mut nodes = nodes_of(alloc, tree, at)?;
     let mut most: u64 = 0;
     'back: while let Some(node) = nodes.pop() {
         most = most.max(variables_of(node)?);

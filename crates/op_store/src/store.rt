@@ -1,5 +1,5 @@
 ghost use Rattle.std.specs.Prelude.{◌≡◌, ◌≢◌, ◌<◌, ℕ, [], length, take, map, option_map, Some, None, Ok, Err, IfOk, IfErr, IfSome, OnOk, OnErr, is_some, All};
-ghost use Rattle.op_logic.specs.Names.{IsTable, HasNames, name_at, named};
+ghost use Rattle.op_logic.specs.Names.{IsTable, HasNames, name_at, named, with_name};
 ghost use Rattle.op_reader.specs.Reading.{reading_of};
 ghost use Rattle.op_reader.specs.Passes.{Tells, HasKnownNames};
 ghost use Rattle.op_store.specs.Directives.{made_dynamic};
@@ -101,7 +101,8 @@ impl Store {
     pub fn intern(&mut self, name: &str) -> Result<Sym, Memory>
         ensures within { IfOk result (λ s. s.0 < length self.new.names) }
         ensures named { IfOk result (λ s. name_at self.new.names s.0 ≡ name.now) }
-        ensures kept { self.new ≡ with_names self.old self.new.names }
+        ensures exact { OnOk result (self.new ≡ record self.old { names = with_name self.old.names name.now }) }
+        ensures kept { self.new ≡ record self.old { names = self.new.names } }
         ensures names { take (length self.old.names) self.new.names ≡ self.old.names }
         ensures err { OnErr result (self.new ≡ self.old) }
     {

@@ -3,7 +3,7 @@ use Rattle.std.specs.Option.{option_to_list}
 use Rattle.op_logic.specs.Term.{node}
 use Rattle.op_term.specs.Places.{args_at}
 use Rattle.op_term.specs.Cells.{AllBelow}
-use Rattle.op_store.proofs.Copying.{kept-push}
+use Rattle.op_bind.proofs.Made.{kept-push}
 use Rattle.op_store.proofs.Making.{joined-below, made-call, made-there, reverse-push}
 use Rattle.op_store.proofs.build_body.push_call.Goals as goal
 

@@ -1,7 +1,7 @@
 use Rattle.op_logic.specs.Term.{node}
 use Rattle.op_term.specs.Places.{args_at}
 use Rattle.std.proofs.Common.{[], ◌∷◌, length}
-use Rattle.op_store.proofs.Copying.{kept-push}
+use Rattle.op_bind.proofs.Made.{kept-push}
 use Rattle.op_store.proofs.Making.{joined-below, made-pair, made-there, below-two}
 use Rattle.op_store.proofs.build_body.push_pair.Goals as goal
 

@@ -1,16 +1,10 @@
 use Rattle.std.proofs.Common.{ap, ◌∙◌}
-use Rattle.op_store.specs.Stored.{Stored, world_of}
-use Rattle.op_store.proofs.Soundness.{sound-more, world-kept}
+use Rattle.op_store.specs.Stored.{world_of}
+use Rattle.op_store.proofs.Soundness.{joined-sound, joined-world}
 use Rattle.op_store.proofs.store.Store.body_term.Goals as goal
 
 pub invariant_of-self : goal.invariant_of-self
-invariant_of-self g c =
-    let i = c.self.inside in
-    let s : Stored = record { locked = i.locked; names = i.symbols; table = i.ops; flags = i.flags; rows = i.procedures; next = i.next } in
-    sound-more s c.clause_body-made.new.symbols c.self.invariant c.count-count.ensures.table c.clause_body-made.ensures.kept
+invariant_of-self g c = joined-sound _ _ _ _ _ _ _ c.self.invariant c.count-count.ensures.table c.clause_body-made.ensures.kept
 
 pub returns-clause-world : goal.returns-clause-world
-returns-clause-world g c =
-    let i = c.self.inside in
-    let s : Stored = record { locked = i.locked; names = i.symbols; table = i.ops; flags = i.flags; rows = i.procedures; next = i.next } in
-    world-kept s c.clause_body-made.new.symbols c.clause_body-made.ensures.kept c.self.invariant ∙ ap world_of c.self.view_is
+returns-clause-world g c = joined-world _ _ _ _ _ _ _ c.self.invariant c.clause_body-made.ensures.kept ∙ ap world_of c.self.view_is

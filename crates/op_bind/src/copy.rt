@@ -1,11 +1,12 @@
-ghost use Rattle.std.specs.Prelude.{◌≡◌, ◌<◌, ◌≤◌, ◌++◌, ◌∷◌, [], ℕ, length, take, drop, map, All, IfOk, OnOk};
-ghost use Rattle.op_logic.specs.Term.{Term as SpecTerm, args_of, arity};
+ghost use Rattle.std.specs.Prelude.{◌≡◌, ◌+◌, ◌<◌, ◌≤◌, ◌++◌, ◌∷◌, [], ℕ, length, take, drop, map, All, Err, IfOk, OnOk};
+ghost use Rattle.op_logic.specs.Term.{Term as SpecTerm, args_of, arity, size, IsWithin};
 ghost use Rattle.op_term.specs.Places.{term_at};
-ghost use Rattle.op_bind.specs.Built.{visit, join, HasArgs};
-ghost use Rattle.op_store.specs.Copied.{args_list, argument_count};
+ghost use Rattle.op_bind.specs.Visited.{visit};
+ghost use Rattle.op_bind.specs.Built.{args_list, argument_count, join, HasArgs, NodesWithin, IsMore};
+ghost use Rattle.op_bind.specs.Sound.{AllWithin};
 
 use op_base::Memory;
-use op_term::{Builder, Node, Tree};
+use op_term::{Builder, Fuel, Node, Tree, WalkFault};
 use std::alloc::Global;
 
 fn arity_of(node: Node) -> u64
@@ -32,20 +33,41 @@ fn push_args<T: Tree>(tree: &T, at: &T::At, n: u64, todo: &mut Vec<T::At>) -> Re
     Ok(())
 }
 
-// The nodes of a term, each before its arguments', and the last argument's first.
-pub(crate) fn nodes_of<T: Tree>(alloc: Global, tree: &T, at: &T::At) -> Result<Vec<Node>, Memory>
+/// The nodes of a term, each before its arguments' and the last argument's first, at a step for each.
+pub(crate) fn nodes_within<T: Tree>(
+    alloc: Global,
+    tree: &T,
+    at: &T::At,
+    fuel: &mut Fuel,
+) -> Result<Vec<Node>, WalkFault>
     requires { T.IsPlace tree.now at.now }
-    ensures { IfOk result (λ nodes. nodes.items ≡ visit (T.term tree.now at.now)) }
+    ensures nodes { IfOk result (λ nodes. nodes.items ≡ visit (T.term tree.now at.now)) }
+    ensures paid { OnOk result (fuel.old ≡ fuel.new + size (T.term tree.now at.now)) }
+    ensures spent { result ≡ Err WalkFault.Spent → fuel.old < size (T.term tree.now at.now) }
+    ensures falls { fuel.new ≤ fuel.old }
 {
     let mut todo = Vec::new(alloc);
     let mut nodes = Vec::new(alloc);
     todo.push(*at)?;
     'walk: while let Some(next) = todo.pop() {
+        fuel.spend(1)?;
         let node = tree.node(&next);
         nodes.push(node)?;
         push_args(tree, &next, arity_of(node), &mut todo)?;
     }
     Ok(nodes)
+}
+
+/// The nodes of a term, each before its arguments' and the last argument's first.
+pub fn nodes_of<T: Tree>(alloc: Global, tree: &T, at: &T::At) -> Result<Vec<Node>, Memory>
+    requires { T.IsPlace tree.now at.now }
+    ensures { IfOk result (λ nodes. nodes.items ≡ visit (T.term tree.now at.now)) }
+{
+    let mut fuel = Fuel::new(u64::MAX);
+    match nodes_within(alloc, tree, at, &mut fuel) {
+        Ok(nodes) => Ok(nodes),
+        Err(_) => Err(Memory),
+    }
 }
 
 // Makes a node of what was made, with the arguments that stand last, which are taken.
@@ -56,6 +78,7 @@ fn make_node(node: Node, made: &mut Builder, stack: &mut Vec<u64>) -> Result<u64
     ensures there { OnOk result (All (λ r. r < length made.new) stack.new.items) }
     ensures joined { IfOk result (λ at. map (term_at made.new) (stack.new.items ++ at ∷ [])
         ≡ join node (map (term_at made.old) stack.old.items)) }
+    ensures more { OnOk result (IsMore node made.old made.new) }
     ensures kept { take (length made.old) made.new ≡ made.old }
 {
     match node {
@@ -84,6 +107,7 @@ fn join_node(node: Node, made: &mut Builder, stack: &mut Vec<u64>) -> Result<(),
     requires args { HasArgs node (map (term_at made.old) stack.old.items) }
     ensures there { OnOk result (All (λ r. r < length made.new) stack.new.items) }
     ensures joined { OnOk result (map (term_at made.new) stack.new.items ≡ join node (map (term_at made.old) stack.old.items)) }
+    ensures more { OnOk result (IsMore node made.old made.new) }
     ensures kept { take (length made.old) made.new ≡ made.old }
 {
     let at = make_node(node, made, stack)?;
@@ -91,11 +115,13 @@ fn join_node(node: Node, made: &mut Builder, stack: &mut Vec<u64>) -> Result<(),
     Ok(())
 }
 
-// The term of nodes that were met, behind what was made before.
-fn build(alloc: Global, mut nodes: Vec<Node>, made: &mut Builder) -> Result<u64, Memory>
+/// The term of these nodes, behind what was made before: the number of its node.
+pub(crate) fn build(alloc: Global, mut nodes: Vec<Node>, made: &mut Builder) -> Result<u64, Memory>
     requires { (t : SpecTerm ℕ) × (nodes.items ≡ visit t) }
     ensures there { IfOk result (λ r. r < length made.new) }
     ensures term { IfOk result (λ r. (t : SpecTerm ℕ) → nodes.items ≡ visit t → term_at made.new r ≡ t) }
+    ensures added { OnOk result (length made.new ≡ length made.old + length nodes.items) }
+    ensures within { OnOk result ((n : ℕ) → NodesWithin n nodes.items → AllWithin n made.old → AllWithin n made.new) }
     ensures kept { take (length made.old) made.new ≡ made.old }
 {
     let mut stack = Vec::new(alloc);
@@ -106,7 +132,7 @@ fn build(alloc: Global, mut nodes: Vec<Node>, made: &mut Builder) -> Result<u64,
 }
 
 /// The term at a place of a tree, made again behind what was made before: the number of its node.
-pub(crate) fn copy_term<T: Tree>(
+pub fn copy_term<T: Tree>(
     alloc: Global,
     tree: &T,
     at: &T::At,
@@ -115,6 +141,8 @@ pub(crate) fn copy_term<T: Tree>(
     requires { T.IsPlace tree.now at.now }
     ensures there { IfOk result (λ r. r < length made.new) }
     ensures term { IfOk result (λ r. term_at made.new r ≡ T.term tree.now at.now) }
+    ensures added { OnOk result (length made.new ≡ length made.old + size (T.term tree.now at.now)) }
+    ensures within { OnOk result ((n : ℕ) → IsWithin n (T.term tree.now at.now) → AllWithin n made.old → AllWithin n made.new) }
     ensures kept { take (length made.old) made.new ≡ made.old }
 {
     let nodes = nodes_of(alloc, tree, at)?;

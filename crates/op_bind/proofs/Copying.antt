@@ -1,16 +1,19 @@
 -- A term's nodes are met, and it is built from them.
-use Rattle.std.proofs.Common.{◌≡◌, ℕ, zero, suc, ◌+◌, ◌-◌, ◌<◌, ◌≤◌, List, [], ◌∷◌, ◌++◌, length, get_or, take, drop, map, All, pos, sym, ◌∙◌, ap, subst, refl, arith, length-append, append_assoc, Result, Ok, Err, IfOk, OnOk, OnErr}
+use Rattle.std.proofs.Common.{◌≡◌, ℕ, zero, suc, ◌+◌, ◌-◌, ◌<◌, List, [], ◌∷◌, ◌++◌, length, get_or, take, drop, map, All, pos, sym, ◌∙◌, ap, subst, refl, arith, length-append, append_assoc, Result, Ok, Err, IfOk, OnOk}
 use Rattle.std.proofs.lemmas.List.{get_or_append_left, length-map, map-append, take-map, length-take, get_or-take, append-nil}
 use Rattle.std.proofs.Math.Seq.{take-append_seam, drop-append_seam, get_or-append_seam}
 use Rattle.std.specs.List.{drop-map}
-use Rattle.op_logic.specs.Term.{Term, var, int, node, Args, no_args, arg, args_of, nth_arg, arity}
+use Rattle.op_logic.specs.Term.{Term, var, int, node, Args, no_args, arg, args_of, nth_arg, arity, size, args_size, IsWithin, ArgsWithin}
 use Rattle.op_term.specs.Places.{term_at, args_at}
 use Rattle.op_term.specs.Head.{head}
 use Rattle.op_term.specs.declared.node.Node.{Node}
 use Rattle.op_term.specs.declared.symbols.Sym.{Sym}
 use Rattle.op_term.specs.declared.node.Node.TheVariants as nodes
-use Rattle.op_bind.specs.Built.{visit, visit_args, args_from, join, HasArgs}
-use Rattle.op_store.specs.Copied.{args_list, argument_count}
+use Rattle.op_bind.specs.Sound.{AllWithin}
+use Rattle.op_bind.specs.Built.{args_list, argument_count, args_from, join, HasArgs, NodeWithin, NodesWithin, IsMore}
+use Rattle.op_bind.specs.Visited.{visit, visit_args}
+use Rattle.op_bind.proofs.Facts.{AllWithin-append, args-within}
+use Rattle.op_bind.proofs.Made.{kept-same, kept-twice}
 
 length-list : (ts : Args ℕ) → length (args_list ts) ≡ arity ts
 length-list no_args = refl
@@ -100,6 +103,33 @@ visit-term (var v) = refl
 visit-term (int i) = refl
 visit-term (node f ts) = refl
 
+-- a term has as many nodes as its size
+mutual
+  pub visit-size : (t : Term ℕ) → length (visit t) ≡ size t
+  visit-size (var v) = refl
+  visit-size (int i) = refl
+  visit-size (node f ts) = ap suc (visit_args-size ts)
+
+  visit_args-size : (ts : Args ℕ) → length (visit_args ts) ≡ args_size ts
+  visit_args-size no_args = refl
+  visit_args-size (arg t ts) = omega (arith, length-append (visit_args ts) (visit t), visit-size t, visit_args-size ts)
+
+-- the variables of a term are those of its nodes
+nodes_within-append : (n : ℕ) (xs ys : List Node) → NodesWithin n xs → NodesWithin n ys → NodesWithin n (xs ++ ys)
+nodes_within-append n [] ys h k = k
+nodes_within-append n (x ∷ xs) ys h k = (h.0, nodes_within-append n xs ys h.1 k)
+
+mutual
+  pub visit-within : (n : ℕ) (t : Term ℕ) → IsWithin n t → NodesWithin n (visit t)
+  visit-within n (var v) h = (h, tt)
+  visit-within n (int i) h = (tt, tt)
+  visit-within n (node f no_args) h = (tt, tt)
+  visit-within n (node f (arg t ts)) h = (tt, visit_args-within n (arg t ts) h)
+
+  visit_args-within : (n : ℕ) (ts : Args ℕ) → ArgsWithin n ts → NodesWithin n (visit_args ts)
+  visit_args-within n no_args h = tt
+  visit_args-within n (arg t ts) h = nodes_within-append n (visit_args ts) (visit t) (visit_args-within n ts h.1) (visit-within n t h.0)
+
 pub count-head : (t : Term ℕ) → argument_count (head t) ≡ arity (args_of t)
 count-head (var v) = refl
 count-head (int i) = refl
@@ -157,53 +187,34 @@ module _ {P : Type 0} (term : P → Term ℕ) where
   visit-some (int i) = omega arith
   visit-some (node f ts) = omega arith
 
-  -- fewer nodes are left
-  pub meeting-falls : (t : Term ℕ) (met new : List Node) (todo more : List P) (n : Node) → new ≡ met ++ n ∷ [] → IsMeeting t met todo → IsMeeting t new more → length (visits (map term more)) < length (visits (map term todo))
-  meeting-falls t met new todo more n e g h =
+  -- where no step is left for the next node, there are more nodes than steps
+  pub meeting-spent : (t : Term ℕ) (met : List Node) (rest : List P) (next : P) (start left : ℕ) → start ≡ left + length met → left < 1 → IsMeeting t met (rest ++ next ∷ []) → start < size t
+  meeting-spent t met rest next start left p h g =
       omega (
         arith,
+        p,
         ap length g.nodes,
-        ap length h.nodes,
-        ap length e,
-        length-append met (visits (map term todo)),
-        length-append new (visits (map term more)),
-        length-append met (n ∷ []),
+        visit-size t,
+        length-append met (visits (map term (rest ++ next ∷ []))),
+        ap (λ (ts : List (Term ℕ)). length (visits ts)) (map-append term rest (next ∷ [])),
+        ap length (visits-append (map term rest) (term next ∷ [])),
+        length-append (visit (term next)) (visits (map term rest)),
+        visit-some (term next),
       )
 
--- what was made stays
-pub below-more : (old new : List (Term ℕ)) → take (length old) new ≡ old → length old ≤ length new
-below-more old new e = omega (arith, ap length e, length-take (length old) new)
+  pub meeting-ends : (t : Term ℕ) (met : List Node) → IsMeeting t met [] → met ≡ visit t
+  meeting-ends t met g = sym (append-nil met) ∙ g.nodes
 
-pub term-more : (old new : List (Term ℕ)) (k : ℕ) → take (length old) new ≡ old → k < length old → term_at new k ≡ term_at old k
-term-more old new k e h = sym (get_or-take (length old) new k (int (pos 0)) h) ∙ ap (λ (ts : List (Term ℕ)). get_or ts k (int (pos 0))) e
-
-pub kept-push : (old new : List (Term ℕ)) (t : Term ℕ) → new ≡ old ++ t ∷ [] → take (length old) new ≡ old
-kept-push old new t e = ap (take (length old)) e ∙ take-append_seam old (t ∷ [])
-
-pub kept-same : (old new : List (Term ℕ)) → new ≡ old → take (length old) new ≡ old
-kept-same old new e = ap (take (length old)) e ∙ (ap (take (length old)) (sym (append-nil old)) ∙ take-append_seam old [])
-
-pub kept-made : {A E : Type 0} (old new : List (Term ℕ)) (t : Term ℕ) (r : Result A E) → OnOk r (new ≡ old ++ t ∷ []) → OnErr r (new ≡ old) → take (length old) new ≡ old
-kept-made old new t (Ok a) e f = kept-push old new t e
-kept-made old new t (Err x) e f = kept-same old new f
-
-take-twice : (old mid new : List (Term ℕ)) → length old ≤ length mid → take (length mid) new ≡ mid → take (length old) mid ≡ old → take (length old) new ≡ old
-take-twice old mid new l e f = same-take (length old) (length mid) new l ∙ (ap (take (length old)) e ∙ f)
-  where
-    same-take : (n m : ℕ) (xs : List (Term ℕ)) → n ≤ m → take n xs ≡ take n (take m xs)
-    same-take zero m xs h = refl
-    same-take (suc n) zero xs h = absurd (omega arith)
-    same-take (suc n) (suc m) [] h = refl
-    same-take (suc n) (suc m) (x ∷ xs) h = ap (λ ys. x ∷ ys) (same-take n m xs (omega arith))
-
-pub kept-twice : (old mid new : List (Term ℕ)) → take (length mid) new ≡ mid → take (length old) mid ≡ old → take (length old) new ≡ old
-kept-twice old mid new e f = take-twice old mid new (below-more old mid f) e f
+  pub meeting-paid : (t : Term ℕ) (met : List Node) (start left : ℕ) → start ≡ left + length met → IsMeeting t met [] → start ≡ left + size t
+  meeting-paid t met start left p g = omega (arith, p, ap length (meeting-ends t met g), visit-size t)
 
 -- between two nodes: what the rest of the nodes makes of what was made
 pub record IsBuilding (old made : List (Term ℕ)) (all rest : List Node) (stack : List ℕ) : Type 0 where
   pub built : (t : Term ℕ) → all ≡ visit t → built_onto rest (map (term_at made) stack) ≡ t ∷ []
   pub can : (t : Term ℕ) → all ≡ visit t → CanBuild rest (map (term_at made) stack)
   pub there : All (λ r. r < length made) stack
+  pub counted : length made + length rest ≡ length old + length all
+  pub within : (n : ℕ) → NodesWithin n all → AllWithin n old → AllWithin n made × NodesWithin n rest
   pub kept : take (length old) made ≡ old
 
 pub building-starts : (old : List (Term ℕ)) (all : List Node) → IsBuilding old old all all []
@@ -211,18 +222,36 @@ building-starts old all = record {
   built = λ t e. built-value t all e;
   can = λ t e. can-value t all e;
   there = λ k d l. absurd (omega arith);
+  counted = refl;
+  within = λ n h k. (k, h);
   kept = kept-same old old refl;
 }
 
 pub building-args : (old made : List (Term ℕ)) (all rest : List Node) (n : Node) (stack : List ℕ) (t : Term ℕ) → all ≡ visit t → IsBuilding old made all (rest ++ n ∷ []) stack → HasArgs n (map (term_at made) stack)
 building-args old made all rest n stack t e b = (can-last rest n (map (term_at made) stack) (b.can t e)).0
 
-pub building-goes : (old made more : List (Term ℕ)) (all rest : List Node) (n : Node) (stack new : List ℕ) → take (length made) more ≡ made → All (λ r. r < length more) new → map (term_at more) new ≡ join n (map (term_at made) stack)
+within-front : (n : ℕ) (xs ys : List Node) → NodesWithin n (xs ++ ys) → NodesWithin n xs
+within-front n [] ys h = tt
+within-front n (x ∷ xs) ys h = (h.0, within-front n xs ys h.1)
+
+within-last : (n : ℕ) (xs : List Node) (y : Node) → NodesWithin n (xs ++ y ∷ []) → NodeWithin n y
+within-last n [] y h = h.0
+within-last n (x ∷ xs) y h = within-last n xs y h.1
+
+more-length : (made more : List (Term ℕ)) (x : Node) → IsMore x made more → length more ≡ length made + 1
+more-length made more x m = ap length m.1.0 ∙ length-append made (m.0 ∷ [])
+
+more-within : (made more : List (Term ℕ)) (x : Node) (n : ℕ) → IsMore x made more → NodeWithin n x → AllWithin n made → AllWithin n more
+more-within made more x n m h k = subst (λ (ts : List (Term ℕ)). AllWithin n ts) (sym m.1.0) (AllWithin-append n made (m.0 ∷ []) k (m.1.1 n h k, tt))
+
+pub building-goes : (old made more : List (Term ℕ)) (all rest : List Node) (n : Node) (stack new : List ℕ) → take (length made) more ≡ made → All (λ r. r < length more) new → map (term_at more) new ≡ join n (map (term_at made) stack) → IsMore n made more
     → IsBuilding old made all (rest ++ n ∷ []) stack → IsBuilding old more all rest new
-building-goes old made more all rest n stack new k there j b = record {
+building-goes old made more all rest n stack new k there j m b = record {
   built = λ t e. ap (built_onto rest) j ∙ (sym (built-last rest n (map (term_at made) stack)) ∙ b.built t e);
   can = λ t e. subst (λ (s : List (Term ℕ)). CanBuild rest s) (sym j) (can-last rest n (map (term_at made) stack) (b.can t e)).1;
   there = there;
+  counted = omega (arith, b.counted, more-length made more n m, length-append rest (n ∷ []));
+  within = λ i h o. let w = b.within i h o in (more-within made more n i m (within-last i rest n w.1) w.0, within-front i rest (n ∷ []) w.1);
   kept = kept-twice old made more k b.kept;
 }
 
@@ -274,3 +303,29 @@ below-take n k xs h i d l = let m : i < k = omega (arith, length-take k xs) in s
 pub joins-leaf : {E : Type 0} (old new : List (Term ℕ)) (t : Term ℕ) (stack : List ℕ) (n : Node) → All (λ x. x < length old) stack → join n (map (term_at old) stack) ≡ map (term_at old) stack ++ t ∷ [] → (r : Result ℕ E) → IfOk r (λ k. k ≡ length old) → OnOk r (new ≡ old ++ t ∷ []) → IfOk r (λ at. map (term_at new) (stack ++ at ∷ []) ≡ join n (map (term_at old) stack))
 joins-leaf old new t stack n h j (Ok k) a e = joins old new t stack k h e a ∙ sym j
 joins-leaf old new t stack n h j (Err x) a e = tt
+
+-- a node's term is one more
+pub more-leaf : {E : Type 0} (old new : List (Term ℕ)) (t : Term ℕ) (x : Node) → ((n : ℕ) → NodeWithin n x → IsWithin n t) → (r : Result ℕ E) → OnOk r (new ≡ old ++ t ∷ []) → OnOk r (IsMore x old new)
+more-leaf old new t x w (Ok k) e = (t, (e, λ n h b. w n h))
+more-leaf old new t x w (Err y) e = tt
+
+pub more-node : (old new : List (Term ℕ)) (x : Node) (f : ℕ) (ps : List ℕ) → All (λ p. p < length old) ps → new ≡ old ++ node f (args_at old ps) ∷ [] → IsMore x old new
+more-node old new x f ps h e = (node f (args_at old ps), (e, λ n i b. args-within n old b ps h))
+
+pub below-drop : (n k : ℕ) (xs : List ℕ) → All (λ x. x < n) xs → All (λ x. x < n) (drop k xs)
+below-drop n zero xs h = h
+below-drop n (suc k) [] h = h
+below-drop n (suc k) (x ∷ xs) h = below-drop n k xs (λ i d l. h (suc i) d (omega arith))
+
+pub none-left : {A : Type 0} (xs : List A) → length xs ≡ 0 → xs ≡ []
+none-left [] h = refl
+none-left (x ∷ xs) h = absurd (omega arith)
+
+pub pushed-length : {A : Type 0} (xs new : List A) (x : A) → new ≡ xs ++ x ∷ [] → length new ≡ length xs + 1
+pushed-length xs new x e = ap length e ∙ length-append xs (x ∷ [])
+
+-- what holds of the nodes of a term holds of the term
+pub on-within : {E : Type 0} (old new : List (Term ℕ)) (xs : List Node) (t : Term ℕ) → xs ≡ visit t → (r : Result ℕ E) → OnOk r ((n : ℕ) → NodesWithin n xs → AllWithin n old → AllWithin n new)
+    → OnOk r ((n : ℕ) → IsWithin n t → AllWithin n old → AllWithin n new)
+on-within old new xs t e (Ok k) h = λ n w a. h n (subst (λ (ys : List Node). NodesWithin n ys) (sym e) (visit-within n t w)) a
+on-within old new xs t e (Err x) h = tt

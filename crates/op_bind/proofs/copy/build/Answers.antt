@@ -1,7 +1,7 @@
 use Rattle.std.proofs.Common.{ℕ, List, subst, sym}
 use Rattle.op_term.specs.declared.node.Node.{Node}
-use Rattle.op_store.proofs.Copying.{IsBuilding, building-starts, building-args, building-goes}
-use Rattle.op_store.proofs.copy.build.Goals as goal
+use Rattle.op_bind.proofs.Copying.{IsBuilding, building-starts, building-args, building-goes}
+use Rattle.op_bind.proofs.copy.build.Goals as goal
 
 pub back-init : goal.back-init
 back-init c =
@@ -16,4 +16,7 @@ pub back-preserved : goal.back-preserved
 back-preserved c =
     let b = subst (λ (ns : List Node). IsBuilding c.args.made.now c.back.made c.args.nodes.items ns c.back.stack.items) c.in-Some.ensures.items c.back.invariant in
     building-goes c.args.made.now c.back.made c.join_node.new.made c.args.nodes.items c.pop.new.self.items c.in-Some.node c.back.stack.items c.join_node.new.stack.items
-    c.join_node.ensures.kept c.in_ok-join_node.ensures.there c.in_ok-join_node.ensures.joined b
+    c.join_node.ensures.kept c.in_ok-join_node.ensures.there c.in_ok-join_node.ensures.joined c.in_ok-join_node.ensures.more b
+
+pub returns-clause-within : goal.returns-clause-within
+returns-clause-within c = λ n h k. (c.back.invariant.within n h k).0

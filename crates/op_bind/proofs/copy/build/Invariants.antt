@@ -1,6 +1,6 @@
 use Rattle.std.proofs.Common.{length}
-use Rattle.op_store.proofs.Copying.{IsBuilding}
-use Rattle.op_store.proofs.copy.build.Given as goal
+use Rattle.op_bind.proofs.Copying.{IsBuilding}
+use Rattle.op_bind.proofs.copy.build.Given as goal
 
 abbrev pub invariant-back : goal.invariant-back
 invariant-back l = IsBuilding l.fn.made l.made l.fn.nodes.items l.nodes.items l.stack.items

@@ -1,12 +1,13 @@
 use Rattle.std.proofs.Common.{◌≡◌, ℕ, ◌-◌, List, [], ◌∷◌, ◌++◌, length, take, drop, map, sym, ◌∙◌, ap, subst, arith}
 use Rattle.op_logic.specs.Term.{var, int, node, no_args}
 use Rattle.op_term.specs.Places.{term_at, args_at}
+use Rattle.op_term.specs.declared.node.Node.{Node}
 use Rattle.std.proofs.Common.{OnOk, w64}
 use Rattle.std.proofs.lemmas.Int.{to_z-of_z}
 use mir.Val.{to_z, of_z}
-use Rattle.op_store.proofs.Copying
-use Rattle.op_bind.specs.Built.{join}
-use Rattle.op_store.proofs.copy.make_node.Goals as goal
+use Rattle.op_bind.proofs.Copying
+use Rattle.op_bind.specs.Built.{join, NodeWithin}
+use Rattle.op_bind.proofs.copy.make_node.Goals as goal
 
 pub returns-in-Var-clause-joined : goal.returns-in-Var-clause-joined
 returns-in-Var-clause-joined c =
@@ -37,3 +38,23 @@ returns-in-Struct-clause-joined c =
     let j = Copying.joins old c.compound.new.self t (take from stack) c.in_ok-at-in-Struct.at (Copying.below-take (length old) from stack c.requires.there) new c.in_ok-at-in-Struct.ensures.number in
     ap (λ (xs : List ℕ). map (term_at c.compound.new.self) (xs ++ c.in_ok-at-in-Struct.at ∷ [])) c.truncate.ensures.items
     ∙ (j ∙ sym (ap (λ m. join m (map (term_at old) stack)) c.in-Struct.is ∙ Copying.joins-struct old stack c.in-Struct.name n from f))
+
+pub returns-in-Var-clause-more : goal.returns-in-Var-clause-more
+returns-in-Var-clause-more c =
+    Copying.more-leaf c.args.made.now c.var.new.self (var c.in-Var.v) c.args.node (λ n h. subst (λ (x : Node). NodeWithin n x) c.in-Var.is h) c.var.result c.var.ensures.ok
+
+pub returns-in-Int-clause-more : goal.returns-in-Int-clause-more
+returns-in-Int-clause-more c = Copying.more-leaf c.args.made.now c.int.new.self (int _) c.args.node (λ n h. tt) c.int.result c.int.ensures.ok
+
+pub returns-in-Atom-clause-more : goal.returns-in-Atom-clause-more
+returns-in-Atom-clause-more c = Copying.more-leaf c.args.made.now c.atom.new.self (node c.in-Atom.name.0 no_args) c.args.node (λ n h. tt) c.atom.result c.atom.ensures.ok
+
+pub returns-in-Struct-clause-more : goal.returns-in-Struct-clause-more
+returns-in-Struct-clause-more c =
+    let old = c.args.made.now in
+    let stack = c.args.stack.now.items in
+    let from = c.len.result - c.in-Struct.n in
+    let tail : c.tail.result.now ≡ drop from stack = c.tail.ensures ∙ ap (λ (xs : List ℕ). drop from xs) c.deref.ensures.value in
+    let below = Copying.below-drop (length old) from stack c.requires.there in
+    Copying.more-node old c.compound.new.self c.args.node c.in-Struct.name.0 (drop from stack) below
+    (c.in_ok-at-in-Struct.ensures.ok ∙ ap (λ (ps : List ℕ). old ++ node c.in-Struct.name.0 (args_at old ps) ∷ []) tail)
