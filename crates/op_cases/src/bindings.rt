@@ -1,4 +1,4 @@
-ghost use Rattle.std.specs.Prelude.{◌<◌, length, IfOk, OnOk};
+ghost use Rattle.std.specs.Prelude.{◌≡◌, ◌<◌, length, IfOk, OnOk};
 ghost use Rattle.op_bind.specs.Grown.{Grows};
 ghost use Rattle.op_bind.specs.State.{IsGoodMark};
 ghost use Rattle.op_logic.specs.Term.{IsWithin};
@@ -112,44 +112,42 @@ fn add_unified(
     add_undone(alloc, line, symbols, bindings, mark, equation)
 }
 
-// The line of an equation.
-fn unify_arguments(
-    alloc: Global,
-    symbols: &Symbols,
-    bindings: &mut Bindings,
-    equation: &Ref,
-    fuel: &mut Fuel,
-) -> Result<String, Memory>
-    requires { equation.now < length bindings.old.terms }
+// Loads a goal into bindings that have no variables yet.
+fn load_goal(bindings: &mut Bindings, goal: &Goal) -> Result<Ref, Memory>
+    requires none { bindings.old.count ≡ 0 }
+    requires within { IsWithin goal.now.vars goal.now.body }
+    ensures { IfOk result (λ r. r < length bindings.new.terms) }
 {
-    let mut line = String::new(alloc);
-    add_unified(alloc, &mut line, symbols, bindings, equation, fuel)?;
-    Ok(line)
+    let first = bindings.fresh(goal.vars)?;
+    bindings.load(&goal.body, first)
 }
 
-// The bindings of a goal's variables, all of them unbound, and the goal in them.
-fn begun(alloc: Global, goal: &Goal) -> Result<(Bindings, Ref), Memory>
+fn unify_goal(
+    alloc: Global,
+    line: &mut String,
+    symbols: &Symbols,
+    goal: &Goal,
+    steps: u64,
+) -> Result<(), Memory>
     requires { IsWithin goal.now.vars goal.now.body }
-    ensures { IfOk result (λ p. p.1 < length p.0.terms) }
 {
     let mut bindings = Bindings::new(alloc);
-    let first = bindings.fresh(goal.vars)?;
-    let at = bindings.load(&goal.body, first)?;
-    Ok((bindings, at))
+    let at = load_goal(&mut bindings, goal)?;
+    let mut fuel = Fuel::new(steps);
+    add_unified(alloc, line, symbols, &mut bindings, &at, &mut fuel)
 }
 
-fn unify_goal(alloc: Global, symbols: &Symbols, goal: &Goal, steps: u64) -> Result<String, Memory>
-    requires { IsWithin goal.now.vars goal.now.body }
-{
-    let (mut bindings, at) = begun(alloc, goal)?;
-    unify_arguments(alloc, symbols, &mut bindings, &at, &mut Fuel::new(steps))
+fn add_equation(alloc: Global, line: &mut String, steps: u64, text: &[u8]) -> Result<(), Memory> {
+    let mut store = Store::new(alloc, Locked::Program)?;
+    match store.goal(text) {
+        Ok(goal) => unify_goal(alloc, line, store.symbols(), &goal, steps),
+        Err(_) => Ok(line.push_str("no goal")?),
+    }
 }
 
 /// Unifies the two sides of an equation by so many steps.
 pub fn unify(alloc: Global, steps: u64, text: &[u8]) -> Result<String, Memory> {
-    let mut store = Store::new(alloc, Locked::Program)?;
-    match store.goal(text) {
-        Ok(goal) => unify_goal(alloc, store.symbols(), &goal, steps),
-        Err(_) => Ok(String::from_str(alloc, "no goal")?),
-    }
+    let mut line = String::new(alloc);
+    add_equation(alloc, &mut line, steps, text)?;
+    Ok(line)
 }

@@ -220,32 +220,27 @@ fn add_run(line: &mut String, machine: &mut Machine, shown: Shown) -> Result<(),
     run_by::<Brand>(line, machine, Blank::new(1), shown)
 }
 
-fn shown_run(alloc: Global, machine: &mut Machine, shown: Shown) -> Result<String, Memory> {
-    let mut line = String::new(alloc);
-    add_run(&mut line, machine, shown)?;
-    Ok(line)
-}
-
-fn machine_run(alloc: Global, mut machine: Machine, shown: Shown) -> Result<String, Memory> {
-    shown_run(alloc, &mut machine, shown)
+fn machine_run(line: &mut String, mut machine: Machine, shown: Shown) -> Result<(), Memory> {
+    add_run(line, &mut machine, shown)
 }
 
 // A run of a goal that was read.
 fn goal_run(
     alloc: Global,
+    line: &mut String,
     store: Store,
     goal: &Goal,
     budget: u64,
     wanted: u64,
     shown: Shown,
-) -> Result<String, Memory>
+) -> Result<(), Memory>
     requires { IsSoundGoal (length store.names) goal.now }
 {
     if budget < 1 || budget > 1_000_000_000 {
-        return Ok(String::from_str(alloc, "no budget")?);
+        return Ok(line.push_str("no budget")?);
     }
     let machine = Machine::start(alloc, store, goal, budget, wanted)?;
-    machine_run(alloc, machine, shown)
+    machine_run(line, machine, shown)
 }
 
 // The goal that a text is, where it is one.
@@ -258,15 +253,32 @@ fn goal_in(store: &mut Store, text: &[u8]) -> Option<Goal>
 // A run over a program that was loaded.
 fn loaded_run(
     alloc: Global,
+    line: &mut String,
     mut store: Store,
     goal: &[u8],
     budget: u64,
     wanted: u64,
     shown: Shown,
-) -> Result<String, Memory> {
+) -> Result<(), Memory> {
     match goal_in(&mut store, goal) {
-        Some(goal) => goal_run(alloc, store, &goal, budget, wanted, shown),
-        None => Ok(String::from_str(alloc, "no goal")?),
+        Some(goal) => goal_run(alloc, line, store, &goal, budget, wanted, shown),
+        None => Ok(line.push_str("no goal")?),
+    }
+}
+
+fn program_run(
+    alloc: Global,
+    line: &mut String,
+    program: &[u8],
+    goal: &[u8],
+    budget: u64,
+    wanted: u64,
+    shown: Shown,
+) -> Result<(), Memory> {
+    let mut store = Store::new(alloc, Locked::Program)?;
+    match store.load(program) {
+        Ok(()) => loaded_run(alloc, line, store, goal, budget, wanted, shown),
+        Err(_) => Ok(line.push_str("no program")?),
     }
 }
 
@@ -279,9 +291,7 @@ pub fn run(
     wanted: u64,
     shown: Shown,
 ) -> Result<String, Memory> {
-    let mut store = Store::new(alloc, Locked::Program)?;
-    match store.load(program) {
-        Ok(()) => loaded_run(alloc, store, goal, budget, wanted, shown),
-        Err(_) => Ok(String::from_str(alloc, "no program")?),
-    }
+    let mut line = String::new(alloc);
+    program_run(alloc, &mut line, program, goal, budget, wanted, shown)?;
+    Ok(line)
 }
