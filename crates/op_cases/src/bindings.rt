@@ -137,17 +137,11 @@ fn unify_goal(
     add_unified(alloc, line, symbols, &mut bindings, &at, &mut fuel)
 }
 
-fn add_equation(alloc: Global, line: &mut String, steps: u64, text: &[u8]) -> Result<(), Memory> {
+/// Unifies the two sides of an equation by so many steps.
+pub fn unify(alloc: Global, line: &mut String, steps: u64, text: &[u8]) -> Result<(), Memory> {
     let mut store = Store::new(alloc, Locked::Program)?;
     match store.goal(text) {
         Ok(goal) => unify_goal(alloc, line, store.symbols(), &goal, steps),
         Err(_) => Ok(line.push_str("no goal")?),
     }
-}
-
-/// Unifies the two sides of an equation by so many steps.
-pub fn unify(alloc: Global, steps: u64, text: &[u8]) -> Result<String, Memory> {
-    let mut line = String::new(alloc);
-    add_equation(alloc, &mut line, steps, text)?;
-    Ok(line)
 }

@@ -56,16 +56,21 @@ fn add_node(
 }
 
 // The nodes of a term's body, or why there are none, and the steps that are left.
-fn shown_body(alloc: Global, symbols: &Symbols, term: &Term, steps: u64) -> Result<String, Memory>
+fn add_body(
+    alloc: Global,
+    line: &mut String,
+    symbols: &Symbols,
+    term: &Term,
+    steps: u64,
+) -> Result<(), Memory>
     requires { HasNames (length symbols.now) term.now }
 {
-    let mut line = String::new(alloc);
     let mut fuel = Fuel::new(steps);
     let whole = Whole::new(term);
     match body_of(alloc, &whole, &whole.root(), symbols, &mut fuel) {
         Ok(body) => {
             for i in 0..body.len() {
-                add_node(&mut line, symbols, whole.nodes(), body.node(i))?;
+                add_node(line, symbols, whole.nodes(), body.node(i))?;
             }
         }
         Err(BodyFault::Memory) => return Err(Memory),
@@ -74,14 +79,20 @@ fn shown_body(alloc: Global, symbols: &Symbols, term: &Term, steps: u64) -> Resu
     }
     let left = fuel.left();
     write!(line, "{left}")?;
-    Ok(line)
+    Ok(())
 }
 
 /// The body of a term that is read, by so many steps.
-pub fn body(alloc: Global, table: &Table, steps: u64, text: &[u8]) -> Result<String, Memory> {
+pub fn body(
+    alloc: Global,
+    line: &mut String,
+    table: &Table,
+    steps: u64,
+    text: &[u8],
+) -> Result<(), Memory> {
     let mut symbols = Symbols::new(alloc);
     match read_term(alloc, &table.ops, table.quotes, &mut symbols, text) {
-        Ok(Reading::Term(read)) => shown_body(alloc, &symbols, &read.term, steps),
-        _ => Ok(String::from_str(alloc, "no term")?),
+        Ok(Reading::Term(read)) => add_body(alloc, line, &symbols, &read.term, steps),
+        _ => Ok(line.push_str("no term")?),
     }
 }

@@ -131,31 +131,28 @@ fn add_attached(line: &mut String, desk: &mut MemoryDesk) -> Result<(), Memory>
 }
 
 // A desk that was just made, used once.
-fn used_desk(alloc: Global, desk: &mut MemoryDesk) -> Result<String, Memory>
+fn used_desk(alloc: Global, line: &mut String, desk: &mut MemoryDesk) -> Result<(), Memory>
     requires { Each (λ c. fresh_of desk.old c ≡ true) }
 {
-    let mut line = String::new(alloc);
-    add_attached(&mut line, desk)?;
-    add_use(alloc, &mut line, desk)?;
-    add_state(alloc, &mut line, desk)?;
-    Ok(line)
+    add_attached(line, desk)?;
+    add_use(alloc, line, desk)?;
+    add_state(alloc, line, desk)
 }
 
-fn own_desk(alloc: Global, mut desk: MemoryDesk) -> Result<String, Memory>
+fn own_desk(alloc: Global, line: &mut String, mut desk: MemoryDesk) -> Result<(), Memory>
     requires { Each (λ c. fresh_of desk c ≡ true) }
 {
-    used_desk(alloc, &mut desk)
+    used_desk(alloc, line, &mut desk)
 }
 
 /// A desk in memory whose Input is the file `in`, `abc`, and which has the commands `next.`, used once.
-pub fn memory_desk(alloc: Global, text: &str) -> Result<String, Memory> {
+pub fn memory_desk(alloc: Global, line: &mut String, text: &str) -> Result<(), Memory> {
     let desk = desk_of(alloc, failing(alloc, text)?)?;
-    own_desk(alloc, desk)
+    own_desk(alloc, line, desk)
 }
 
 // Puts bytes on Output, takes the whole file that they went to, and two bytes of Input.
-fn use_files(alloc: Global, desk: &mut FileDesk) -> Result<String, Memory> {
-    let mut line = String::new(alloc);
+fn use_files(alloc: Global, line: &mut String, desk: &mut FileDesk) -> Result<(), Memory> {
     line.push_str(word(put_all(desk, Chan::Output, b"abc"))?)?;
     match take_all(alloc, desk, "written", 3) {
         Ok(file) => line.push_str(escaped(alloc, file.as_slice())?.as_str())?,
@@ -164,18 +161,17 @@ fn use_files(alloc: Global, desk: &mut FileDesk) -> Result<String, Memory> {
     line.push_str(" ")?;
     let mut piece = [0u8; 2];
     let taken = desk.take(Chan::Input, &mut piece);
-    add_count(alloc, &mut line, taken, &piece)?;
-    Ok(line)
+    add_count(alloc, line, taken, &piece)
 }
 
 /// A desk over the system's files, whose Output is the file `written` and whose Input is the file `given`.
-pub fn file_desk(rt: HostRuntime) -> Result<String, Memory> {
+pub fn file_desk(rt: HostRuntime, line: &mut String) -> Result<(), Memory> {
     let mut desk = FileDesk::new(rt, rt.alloc());
     let output = desk.attach(Chan::Output, "written");
     let input = desk.attach(Chan::Input, "given");
-    let attached = word(output)?;
-    let connected = word(input)?;
-    let used = use_files(rt.alloc(), &mut desk)?;
+    line.push_str(word(output)?)?;
+    line.push_str(word(input)?)?;
+    use_files(rt.alloc(), line, &mut desk)?;
     let _removed = fs::remove_file(&rt, "written");
-    Ok(format!(in rt.alloc(); "{attached}{connected}{used}")?)
+    Ok(())
 }

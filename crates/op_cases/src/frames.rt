@@ -23,18 +23,17 @@ fn four_boxes(alloc: Global) -> Result<Frames<u64>, Memory> {
 }
 
 /// Of the boxes 1, 2 and 3 in it, and 5 in 3, the open ones of a number, inner to outer, once those from another number on are dropped.
-pub fn open_boxes(alloc: Global, from: u64, number: u64) -> Result<String, Memory> {
+pub fn open_boxes(alloc: Global, line: &mut String, from: u64, number: u64) -> Result<(), Memory> {
     let mut frames = four_boxes(alloc)?;
     frames.drop_boxes(from);
-    let mut line = String::new(alloc);
     'boxes: for (open, _) in frames.open_boxes(number) {
         write!(line, "{open} ")?;
     }
-    Ok(line)
+    Ok(())
 }
 
 /// Of four choice points how many a cut leaves, and what they keep, the last first.
-pub fn choices(alloc: Global, barrier: u64) -> Result<String, Memory> {
+pub fn choices(alloc: Global, line: &mut String, barrier: u64) -> Result<(), Memory> {
     let bindings = Bindings::new(alloc);
     let mark = bindings.mark();
     let mut frames: Frames<u64> = Frames::new(alloc);
@@ -48,7 +47,6 @@ pub fn choices(alloc: Global, barrier: u64) -> Result<String, Memory> {
         })?;
     }
     frames.cut_to(barrier);
-    let mut line = String::new(alloc);
     let count = frames.choices().len();
     write!(line, "{count}:")?;
     for _ in 0..5 {
@@ -57,5 +55,5 @@ pub fn choices(alloc: Global, barrier: u64) -> Result<String, Memory> {
             write!(line, " {kept}")?;
         }
     }
-    Ok(line)
+    Ok(())
 }

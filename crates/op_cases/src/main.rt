@@ -21,7 +21,7 @@ mod table;
 mod tokens;
 mod writing;
 
-use case::result;
+use case::add_result;
 use std::io;
 use table::Table;
 
@@ -31,10 +31,11 @@ fn main(rt: HostRuntime) -> io::Result<()> {
     };
     for line in rt.lines(rt.alloc()) {
         let line = line?;
-        let Ok(text) = result(rt, &mut table, line.as_str()) else {
+        let mut shown = String::new(rt.alloc());
+        let Ok(()) = add_result(rt, &mut shown, &mut table, line.as_str()) else {
             return Err(io::Error::from(io::ErrorKind::OutOfMemory));
         };
-        println!(rt; "{text}")?;
+        println!(rt; "{shown}")?;
     }
     Ok(())
 }

@@ -4,30 +4,41 @@ use op_store::{Locked, Store};
 use op_term::{Fuel, Sym, Symbols};
 use std::alloc::Global;
 
-/// The numbers of names, and the names that a copy of their table has.
-pub fn numbers(alloc: Global, text: &str) -> Result<String, Memory> {
-    let mut symbols = Symbols::new(alloc);
-    let mut line = String::new(alloc);
+// Adds the numbers of names, and the names of the table's copy.
+fn add_numbers(line: &mut String, symbols: &mut Symbols, text: &str) -> Result<(), Memory> {
     'words: for word in text.split(' ') {
         let Sym(number) = symbols.intern(word)?;
         write!(line, "{number} ")?;
     }
-    add_all(&mut line, &symbols.copy()?, 0)?;
-    Ok(line)
+    add_all(line, &symbols.copy()?, 0)
+}
+
+/// The numbers of names, and the names that a copy of their table has.
+pub fn numbers(alloc: Global, line: &mut String, text: &str) -> Result<(), Memory> {
+    let mut symbols = Symbols::new(alloc);
+    add_numbers(line, &mut symbols, text)
+}
+
+// Adds the number of a name in a store, less those of its own.
+fn add_number(line: &mut String, store: &mut Store, first: u64, word: &str) -> Result<(), Memory> {
+    let Sym(number) = store.intern(word)?;
+    let number = number.saturating_sub(first);
+    write!(line, "{number} ")?;
+    Ok(())
+}
+
+fn add_store_numbers(line: &mut String, store: &mut Store, text: &str) -> Result<(), Memory> {
+    let first = store.symbols().count();
+    'words: for word in text.split(' ') {
+        add_number(line, store, first, word)?;
+    }
+    add_all(line, store.symbols(), first)
 }
 
 /// The numbers of names in a store, and those that it has behind its own.
-pub fn store_numbers(alloc: Global, text: &str) -> Result<String, Memory> {
+pub fn store_numbers(alloc: Global, line: &mut String, text: &str) -> Result<(), Memory> {
     let mut store = Store::new(alloc, Locked::Program)?;
-    let mut line = String::new(alloc);
-    let first = store.symbols().count();
-    'words: for word in text.split(' ') {
-        let Sym(number) = store.intern(word)?;
-        let number = number.saturating_sub(first);
-        write!(line, "{number} ")?;
-    }
-    add_all(&mut line, store.symbols(), first)?;
-    Ok(line)
+    add_store_numbers(line, &mut store, text)
 }
 
 fn add_all(line: &mut String, symbols: &Symbols, first: u64) -> Result<(), Memory> {
@@ -39,8 +50,7 @@ fn add_all(line: &mut String, symbols: &Symbols, first: u64) -> Result<(), Memor
 }
 
 /// Whether so many steps each are to be had, and what is left of the first number.
-pub fn fuel(alloc: Global, text: &str) -> Result<String, Memory> {
-    let mut line = String::new(alloc);
+pub fn fuel(line: &mut String, text: &str) -> Result<(), Memory> {
     let mut fuel = Fuel::new(0);
     for (i, word) in text.split(' ').enumerate() {
         let number = word.parse::<u64>().unwrap_or(0);
@@ -54,5 +64,5 @@ pub fn fuel(alloc: Global, text: &str) -> Result<String, Memory> {
     }
     let left = fuel.left();
     write!(line, "{left}")?;
-    Ok(line)
+    Ok(())
 }

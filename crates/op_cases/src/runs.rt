@@ -266,7 +266,8 @@ fn loaded_run(
     }
 }
 
-fn program_run(
+/// What a run of so many steps, for the solution of a number or for all by 0, comes to.
+pub fn run(
     alloc: Global,
     line: &mut String,
     program: &[u8],
@@ -280,18 +281,4 @@ fn program_run(
         Ok(()) => loaded_run(alloc, line, store, goal, budget, wanted, shown),
         Err(_) => Ok(line.push_str("no program")?),
     }
-}
-
-/// What a run of so many steps, for the solution of a number or for all by 0, comes to.
-pub fn run(
-    alloc: Global,
-    program: &[u8],
-    goal: &[u8],
-    budget: u64,
-    wanted: u64,
-    shown: Shown,
-) -> Result<String, Memory> {
-    let mut line = String::new(alloc);
-    program_run(alloc, &mut line, program, goal, budget, wanted, shown)?;
-    Ok(line)
 }

@@ -73,26 +73,37 @@ fn status_word(status: Status) -> &'static str {
 
 /// A call over a desk in memory: the call of the desk that fails, the words, the program `p.pl` and the commands. The status, what was
 /// written to Talk, and what is left of the commands.
-pub fn session(alloc: Global, text: &str) -> Result<String, Memory> {
+pub fn session(alloc: Global, line: &mut String, text: &str) -> Result<(), Memory> {
     let failing = failing(alloc, field(text, 0))?;
     let words = words_of(alloc, field(text, 1))?;
     let program = decoded(alloc, field(text, 2))?;
     let commands = decoded(alloc, field(text, 3))?;
     let desk = desk_of(alloc, &program, &commands, failing)?;
-    called(alloc, &words, desk)
+    called(alloc, line, &words, desk)
 }
 
 // A call over a desk of its own, and what it leaves.
-fn called(alloc: Global, words: &[String], mut desk: MemoryDesk) -> Result<String, Memory>
+fn called(
+    alloc: Global,
+    line: &mut String,
+    words: &[String],
+    mut desk: MemoryDesk,
+) -> Result<(), Memory>
     requires { Each (λ c. fresh_of desk c ≡ true) }
 {
     let status = call(alloc, words, &mut desk);
-    shown_left(alloc, status, &desk)
+    add_left(alloc, line, status, &desk)
 }
 
-fn shown_left(alloc: Global, status: Status, desk: &MemoryDesk) -> Result<String, Memory> {
+fn add_left(
+    alloc: Global,
+    line: &mut String,
+    status: Status,
+    desk: &MemoryDesk,
+) -> Result<(), Memory> {
     let status = status_word(status);
     let talk = escaped(alloc, desk.bytes_written(Chan::Talk))?;
     let commands = escaped(alloc, desk.bytes_left(Chan::Commands))?;
-    Ok(format!(in alloc; "{status} § {talk} § {commands}")?)
+    write!(line, "{status} § {talk} § {commands}")?;
+    Ok(())
 }

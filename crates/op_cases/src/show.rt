@@ -1,4 +1,5 @@
 use op_base::Memory;
+use op_base::characters::{is_small, is_symbol, is_word};
 use op_term::{Builder, Node, Sym, Symbols, Term, Whole};
 use std::alloc::Global;
 
@@ -18,14 +19,6 @@ pub fn name_of(symbols: &Symbols, sym: Sym) -> &str {
     }
 }
 
-fn is_symbol(byte: u8) -> bool {
-    b"+-*/\\^<>=~:.?@#&$".as_slice().contains(&byte)
-}
-
-fn is_word(byte: u8) -> bool {
-    byte.is_ascii_alphanumeric() || byte == b'_'
-}
-
 // A name that no other name, number or variable is shown as.
 fn is_bare(name: &str) -> bool {
     let bytes = name.as_bytes();
@@ -37,7 +30,7 @@ fn is_bare(name: &str) -> bool {
         || name == "!"
         || name == ";"
         || name == ","
-        || (bytes[0].is_ascii_lowercase() && bytes.iter().all(|b| is_word(*b)))
+        || (is_small(bytes[0]) && bytes.iter().all(|b| is_word(*b)))
         || bytes.iter().all(|b| is_symbol(*b))
 }
 

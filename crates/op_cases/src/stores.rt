@@ -3,7 +3,7 @@ use crate::faults::{add_flags, add_load_kind, add_read_kind};
 use crate::fields::field;
 use crate::table::{kind_of, set_word};
 use op_base::Memory;
-use op_store::{CommandFault, LoadFault, Locked, Pi, Store};
+use op_store::{CommandFault, LoadFault, Locked, Pi, Snapshot, Store};
 use std::alloc::Global;
 
 fn add_fault(line: &mut String, store: &Store, fault: LoadFault) -> Result<(), Memory> {
@@ -39,68 +39,88 @@ fn add_goal(line: &mut String, store: &mut Store, text: &[u8]) -> Result<(), Mem
 }
 
 /// What loading a program comes to.
-pub fn load(alloc: Global, text: &[u8]) -> Result<String, Memory> {
+pub fn load(alloc: Global, line: &mut String, text: &[u8]) -> Result<(), Memory> {
     let mut store = Store::new(alloc, Locked::Program)?;
-    let mut line = String::new(alloc);
-    add_load(&mut line, &mut store, text)?;
-    Ok(line)
+    add_load(line, &mut store, text)
 }
 
 /// What reading a goal comes to.
-pub fn goal(alloc: Global, text: &[u8]) -> Result<String, Memory> {
+pub fn goal(alloc: Global, line: &mut String, text: &[u8]) -> Result<(), Memory> {
     let mut store = Store::new(alloc, Locked::Program)?;
-    let mut line = String::new(alloc);
-    add_goal(&mut line, &mut store, text)?;
-    Ok(line)
+    add_goal(line, &mut store, text)
+}
+
+// Reads a command, and adds what came of it.
+fn add_command(line: &mut String, store: &mut Store, text: &[u8]) -> Result<(), Memory> {
+    match store.command(text) {
+        Ok(_) => Ok(line.push_str("ok")?),
+        Err(CommandFault::Memory) => Err(Memory),
+        Err(CommandFault::Bad { place, kind }) => {
+            add_read_kind(line, kind)?;
+            write!(line, " {place}")?;
+            Ok(())
+        }
+        Err(CommandFault::NotBody(_)) => Ok(line.push_str("no body")?),
+    }
 }
 
 /// What reading a command comes to.
-pub fn command(alloc: Global, text: &[u8]) -> Result<String, Memory> {
+pub fn command(alloc: Global, line: &mut String, text: &[u8]) -> Result<(), Memory> {
     let mut store = Store::new(alloc, Locked::Analysis)?;
-    let mut line = String::new(alloc);
-    match store.command(text) {
-        Ok(_) => line.push_str("ok")?,
-        Err(CommandFault::Memory) => return Err(Memory),
-        Err(CommandFault::Bad { place, kind }) => {
-            add_read_kind(&mut line, kind)?;
-            write!(line, " {place}")?;
-        }
-        Err(CommandFault::NotBody(_)) => line.push_str("no body")?,
-    }
-    Ok(line)
+    add_command(line, &mut store, text)
+}
+
+fn add_after(
+    line: &mut String,
+    store: &mut Store,
+    program: &[u8],
+    goal: &[u8],
+) -> Result<(), Memory> {
+    add_load(line, store, program)?;
+    line.push_str("|")?;
+    add_goal(line, store, goal)?;
+    line.push_str("|")?;
+    add_flags(line, store.flags())
 }
 
 /// What loading a program comes to, then what a goal does, and the flags.
-pub fn after(alloc: Global, text: &str) -> Result<String, Memory> {
+pub fn after(alloc: Global, line: &mut String, text: &str) -> Result<(), Memory> {
     let program = decoded(alloc, field(text, 0))?;
     let goal = decoded(alloc, field(text, 1))?;
     let mut store = Store::new(alloc, Locked::Program)?;
-    let mut line = String::new(alloc);
-    add_load(&mut line, &mut store, &program)?;
-    line.push_str("|")?;
-    add_goal(&mut line, &mut store, &goal)?;
-    line.push_str("|")?;
-    add_flags(&mut line, store.flags())?;
-    Ok(line)
+    add_after(line, &mut store, &program, &goal)
 }
 
-/// What a goal comes to before and after an operator is set.
-pub fn set_operator(alloc: Global, text: &str) -> Result<String, Memory> {
-    let mut words = field(text, 0).splitn(3, ' ');
+// Sets an operator of a store: its priority, its kind and its name.
+fn add_set(line: &mut String, store: &mut Store, text: &str) -> Result<(), Memory> {
+    let mut words = text.splitn(3, ' ');
     let priority = words.next().unwrap_or("").parse::<i64>().unwrap_or(0);
     let kind = kind_of(words.next().unwrap_or(""));
     let name = words.next().unwrap_or("");
-    let goal = decoded(alloc, field(text, 1))?;
-    let mut store = Store::new(alloc, Locked::Program)?;
-    let mut line = String::new(alloc);
-    add_goal(&mut line, &mut store, &goal)?;
-    line.push_str("|")?;
     if let Some(kind) = kind {
         line.push_str(set_word(store.set_op(priority, kind, name))?)?;
     }
+    Ok(())
+}
+
+fn add_around(
+    line: &mut String,
+    store: &mut Store,
+    operator: &str,
+    goal: &[u8],
+) -> Result<(), Memory> {
+    add_goal(line, store, goal)?;
     line.push_str("|")?;
-    add_goal(&mut line, &mut store, &goal)?;
-    Ok(line)
+    add_set(line, store, operator)?;
+    line.push_str("|")?;
+    add_goal(line, store, goal)
+}
+
+/// What a goal comes to before and after an operator is set.
+pub fn set_operator(alloc: Global, line: &mut String, text: &str) -> Result<(), Memory> {
+    let goal = decoded(alloc, field(text, 1))?;
+    let mut store = Store::new(alloc, Locked::Program)?;
+    add_around(line, &mut store, field(text, 0), &goal)
 }
 
 // The name and the number of arguments of a procedure.
@@ -113,17 +133,28 @@ fn indicator(store: &mut Store, text: &str) -> Result<Pi, Memory> {
 
 fn locks(alloc: Global, locked: Locked, text: &str) -> Result<bool, Memory> {
     let mut store = Store::new(alloc, locked)?;
-    let (name, arity) = text.split_once(' ').unwrap_or((text, "0"));
-    let name = store.intern(name)?;
-    let arity = arity.parse::<u64>().unwrap_or(0);
-    Ok(store.is_locked(Pi { name, arity }))
+    let pi = indicator(&mut store, text)?;
+    Ok(store.is_locked(pi))
 }
 
 /// Whether a procedure is locked in a program, and whether it is in an analysis.
-pub fn locked(alloc: Global, text: &str) -> Result<String, Memory> {
+pub fn locked(alloc: Global, line: &mut String, text: &str) -> Result<(), Memory> {
     let program = locks(alloc, Locked::Program, text)?;
     let analysis = locks(alloc, Locked::Analysis, text)?;
-    Ok(format!(in alloc; "{program} {analysis}")?)
+    write!(line, "{program} {analysis}")?;
+    Ok(())
+}
+
+// Adds how many clauses the copy of a snapshot has, and their numbers, those of their copies.
+fn add_clauses(line: &mut String, snapshot: &Snapshot) -> Result<(), Memory> {
+    let count = snapshot.copy()?.len();
+    write!(line, " {count}")?;
+    for i in 0..snapshot.len() {
+        let clause = snapshot.clause(i).copy()?;
+        let number = clause.id;
+        write!(line, " #{number}")?;
+    }
+    Ok(())
 }
 
 fn add_procedure(line: &mut String, store: &Store, pi: Pi) -> Result<(), Memory> {
@@ -136,49 +167,73 @@ fn add_procedure(line: &mut String, store: &Store, pi: Pi) -> Result<(), Memory>
     };
     line.push_str(kind)?;
     if let Some(snapshot) = store.snapshot(pi)? {
-        let count = snapshot.copy()?.len();
-        write!(line, " {count}")?;
-        for i in 0..snapshot.len() {
-            let clause = snapshot.clause(i).copy()?;
-            let number = clause.id;
-            write!(line, " #{number}")?;
-        }
+        add_clauses(line, &snapshot)?;
     }
     let all = store.all_clauses()?.len();
     write!(line, " of {all}")?;
     Ok(())
 }
 
-/// What loading a program comes to, and a procedure then.
-pub fn procedure(alloc: Global, text: &str) -> Result<String, Memory> {
-    let program = decoded(alloc, field(text, 0))?;
-    let mut store = Store::new(alloc, Locked::Program)?;
-    let mut line = String::new(alloc);
-    add_load(&mut line, &mut store, &program)?;
+// Loads a program, and adds what came of it, and a procedure then.
+fn add_loaded(
+    line: &mut String,
+    store: &mut Store,
+    program: &[u8],
+    procedure: &str,
+) -> Result<(), Memory> {
+    add_load(line, store, program)?;
     line.push_str("|")?;
-    let pi = indicator(&mut store, field(text, 1))?;
-    add_procedure(&mut line, &store, pi)?;
-    Ok(line)
+    let pi = indicator(store, procedure)?;
+    add_procedure(line, store, pi)
 }
 
-/// A procedure before and after a further text is loaded, and how many clauses the snapshot from before has then.
-pub fn snapshots(alloc: Global, text: &str) -> Result<String, Memory> {
+/// What loading a program comes to, and a procedure then.
+pub fn procedure(alloc: Global, line: &mut String, text: &str) -> Result<(), Memory> {
     let program = decoded(alloc, field(text, 0))?;
-    let further = decoded(alloc, field(text, 1))?;
-    let mut store = Store::new(alloc, Locked::Analysis)?;
-    let mut line = String::new(alloc);
-    add_load(&mut line, &mut store, &program)?;
-    line.push_str("|")?;
-    let pi = indicator(&mut store, field(text, 2))?;
-    add_procedure(&mut line, &store, pi)?;
-    line.push_str("|")?;
-    let before = store.snapshot(pi)?;
-    add_load(&mut line, &mut store, &further)?;
-    line.push_str("|")?;
-    add_procedure(&mut line, &store, pi)?;
+    let mut store = Store::new(alloc, Locked::Program)?;
+    add_loaded(line, &mut store, &program, field(text, 1))
+}
+
+// Adds how many clauses a snapshot has, where it is one.
+fn add_length(line: &mut String, before: Option<Snapshot>) -> Result<(), Memory> {
     if let Some(before) = before {
         let count = before.len();
         write!(line, "|{count}")?;
     }
-    Ok(line)
+    Ok(())
+}
+
+// Loads a further text behind a snapshot, and adds the procedure again, and the snapshot's length.
+fn add_further(
+    line: &mut String,
+    store: &mut Store,
+    further: &[u8],
+    procedure: &str,
+) -> Result<(), Memory> {
+    let pi = indicator(store, procedure)?;
+    let before = store.snapshot(pi)?;
+    add_load(line, store, further)?;
+    line.push_str("|")?;
+    add_procedure(line, store, pi)?;
+    add_length(line, before)
+}
+
+fn add_both(
+    line: &mut String,
+    store: &mut Store,
+    program: &[u8],
+    further: &[u8],
+    procedure: &str,
+) -> Result<(), Memory> {
+    add_loaded(line, store, program, procedure)?;
+    line.push_str("|")?;
+    add_further(line, store, further, procedure)
+}
+
+/// A procedure before and after a further text is loaded, and how many clauses the snapshot from before has then.
+pub fn snapshots(alloc: Global, line: &mut String, text: &str) -> Result<(), Memory> {
+    let program = decoded(alloc, field(text, 0))?;
+    let further = decoded(alloc, field(text, 1))?;
+    let mut store = Store::new(alloc, Locked::Analysis)?;
+    add_both(line, &mut store, &program, &further, field(text, 2))
 }

@@ -21,21 +21,21 @@ impl Table {
 }
 
 /// Goes back to the standard's operators.
-pub fn reset(alloc: Global, table: &mut Table) -> Result<String, Memory> {
+pub fn reset(alloc: Global, line: &mut String, table: &mut Table) -> Result<(), Memory> {
     table.ops = Ops::iso(alloc)?;
     table.quotes = DoubleQuotes::Codes;
-    Ok(String::from_str(alloc, "ok")?)
+    Ok(line.push_str("ok")?)
 }
 
 /// Says what double quotes stand for.
-pub fn quote(alloc: Global, table: &mut Table, word: &str) -> Result<String, Memory> {
+pub fn quote(line: &mut String, table: &mut Table, word: &str) -> Result<(), Memory> {
     table.quotes = match word {
         "codes" => DoubleQuotes::Codes,
         "chars" => DoubleQuotes::Chars,
         "atom" => DoubleQuotes::Atom,
-        _ => return Ok(String::from_str(alloc, "no case")?),
+        _ => return Ok(line.push_str("no case")?),
     };
-    Ok(String::from_str(alloc, "ok")?)
+    Ok(line.push_str("ok")?)
 }
 
 /// The kind that a word names.
@@ -77,7 +77,7 @@ pub fn set_word(set: Result<(), OpFault>) -> Result<&'static str, Memory> {
 }
 
 /// Sets an operator: its priority, its kind and its name, which may be empty.
-pub fn set(alloc: Global, table: &mut Table, text: &str) -> Result<String, Memory> {
+pub fn set(line: &mut String, table: &mut Table, text: &str) -> Result<(), Memory> {
     let mut words = text.splitn(3, ' ');
     let priority = words.next().unwrap_or("").parse::<i64>();
     let kind = kind_of(words.next().unwrap_or(""));
@@ -85,9 +85,9 @@ pub fn set(alloc: Global, table: &mut Table, text: &str) -> Result<String, Memor
     match (priority, kind) {
         (Ok(priority), Some(kind)) => {
             let word = set_word(table.ops.set(priority, kind, name))?;
-            Ok(String::from_str(alloc, word)?)
+            Ok(line.push_str(word)?)
         }
-        _ => Ok(String::from_str(alloc, "no case")?),
+        _ => Ok(line.push_str("no case")?),
     }
 }
 
@@ -103,13 +103,11 @@ fn add_meaning(line: &mut String, meaning: Option<Meaning>) -> Result<(), Memory
 }
 
 /// What a name means before, between and behind operands, in a copy of the table.
-pub fn meanings(alloc: Global, table: &Table, name: &str) -> Result<String, Memory> {
+pub fn meanings(line: &mut String, table: &Table, name: &str) -> Result<(), Memory> {
     let ops = table.ops.copy()?;
-    let mut line = String::new(alloc);
-    add_meaning(&mut line, ops.prefix(name))?;
+    add_meaning(line, ops.prefix(name))?;
     line.push_str("|")?;
-    add_meaning(&mut line, ops.infix(name))?;
+    add_meaning(line, ops.infix(name))?;
     line.push_str("|")?;
-    add_meaning(&mut line, ops.postfix(name))?;
-    Ok(line)
+    add_meaning(line, ops.postfix(name))
 }

@@ -71,25 +71,24 @@ fn add_next(line: &mut String, scanner: &mut Scanner<'_>) -> Result<bool, Memory
 }
 
 /// The tokens of a text, and the fault behind them.
-pub fn tokens(alloc: Global, text: &[u8]) -> Result<String, Memory> {
+pub fn tokens(line: &mut String, text: &[u8]) -> Result<(), Memory> {
     let mut scanner = Scanner::new(text);
-    let mut line = String::new(alloc);
     for _ in 0..=text.len() {
-        if !add_next(&mut line, &mut scanner)? {
+        if !add_next(line, &mut scanner)? {
             break;
         }
     }
-    Ok(line)
+    Ok(())
 }
 
 /// The text that the first token stands for.
-pub fn token_text(alloc: Global, text: &[u8]) -> Result<String, Memory> {
+pub fn token_text(alloc: Global, line: &mut String, text: &[u8]) -> Result<(), Memory> {
     let mut scanner = Scanner::new(text);
     let mut out = Vec::new(alloc);
     if let Ok(Some(token)) = scanner.next() {
         scanner.text_of(&token, &mut out)?;
     }
-    escaped(alloc, &out)
+    Ok(line.push_str(escaped(alloc, &out)?.as_str())?)
 }
 
 fn add_piece(line: &mut String, piece: Piece) -> Result<(), Memory> {
@@ -102,10 +101,8 @@ fn add_piece(line: &mut String, piece: Piece) -> Result<(), Memory> {
 }
 
 /// The first term text.
-pub fn piece(alloc: Global, text: &[u8]) -> Result<String, Memory> {
-    let mut line = String::new(alloc);
-    add_piece(&mut line, cut(text))?;
-    Ok(line)
+pub fn piece(line: &mut String, text: &[u8]) -> Result<(), Memory> {
+    add_piece(line, cut(text))
 }
 
 // Gives a byte to the cutter, and adds the text that ended.
@@ -119,12 +116,10 @@ fn add_byte(alloc: Global, line: &mut String, cutter: &mut Cutter, byte: u8) -> 
 }
 
 /// The term texts of a text that is given byte by byte, and what is left.
-pub fn pieces(alloc: Global, text: &[u8]) -> Result<String, Memory> {
+pub fn pieces(alloc: Global, line: &mut String, text: &[u8]) -> Result<(), Memory> {
     let mut cutter = Cutter::new(alloc);
-    let mut line = String::new(alloc);
     'bytes: for byte in text {
-        add_byte(alloc, &mut line, &mut cutter, *byte)?;
+        add_byte(alloc, line, &mut cutter, *byte)?;
     }
-    add_piece(&mut line, cutter.piece())?;
-    Ok(line)
+    add_piece(line, cutter.piece())
 }

@@ -10,15 +10,15 @@ use op_term::{Symbols, Term, Whole};
 use op_writer::{Style, TextFault, write_cut, write_text};
 use std::alloc::Global;
 
-// A text in a style, of at most so many bytes.
+// Adds a term's text in a style, of at most so many bytes.
 fn add_text(
     alloc: Global,
+    line: &mut String,
     table: &Table,
     style: Style,
     symbols: &Symbols,
     term: &Term,
     limit: u64,
-    line: &mut String,
 ) -> Result<(), Memory>
     requires { HasNames (length symbols.now) term.now }
 {
@@ -42,65 +42,79 @@ fn add_text(
     Ok(())
 }
 
-// The plain, the quoted and the canonical text.
-fn texts(alloc: Global, table: &Table, symbols: &Symbols, term: &Term) -> Result<String, Memory>
+// Adds the plain, the quoted and the canonical text.
+fn add_texts(
+    alloc: Global,
+    line: &mut String,
+    table: &Table,
+    symbols: &Symbols,
+    term: &Term,
+) -> Result<(), Memory>
     requires { HasNames (length symbols.now) term.now }
 {
-    let mut line = String::new(alloc);
-    add_text(alloc, table, Style::Plain, symbols, term, 100, &mut line)?;
+    add_text(alloc, line, table, Style::Plain, symbols, term, 100)?;
     line.push_str(" § ")?;
-    add_text(alloc, table, Style::Quoted, symbols, term, 100, &mut line)?;
+    add_text(alloc, line, table, Style::Quoted, symbols, term, 100)?;
     line.push_str(" § ")?;
-    add_text(
-        alloc,
-        table,
-        Style::Canonical,
-        symbols,
-        term,
-        100,
-        &mut line,
-    )?;
-    Ok(line)
+    add_text(alloc, line, table, Style::Canonical, symbols, term, 100)
 }
 
 /// A term that is read, in each of the three styles.
-pub fn written(alloc: Global, table: &Table, text: &[u8]) -> Result<String, Memory> {
+pub fn written(alloc: Global, line: &mut String, table: &Table, text: &[u8]) -> Result<(), Memory> {
     let mut symbols = Symbols::new(alloc);
     match read_term(alloc, &table.ops, table.quotes, &mut symbols, text) {
-        Ok(Reading::Term(read)) => texts(alloc, table, &symbols, &read.term),
-        _ => Ok(String::from_str(alloc, "no term")?),
+        Ok(Reading::Term(read)) => add_texts(alloc, line, table, &symbols, &read.term),
+        _ => Ok(line.push_str("no term")?),
     }
 }
 
 /// The quoted text of a term that is read, if it has at most so many bytes.
-pub fn within(alloc: Global, table: &Table, limit: u64, text: &[u8]) -> Result<String, Memory> {
+pub fn within(
+    alloc: Global,
+    line: &mut String,
+    table: &Table,
+    limit: u64,
+    text: &[u8],
+) -> Result<(), Memory> {
     let mut symbols = Symbols::new(alloc);
-    let mut line = String::new(alloc);
     match read_term(alloc, &table.ops, table.quotes, &mut symbols, text) {
-        Ok(Reading::Term(read)) => {
-            add_text(
-                alloc,
-                table,
-                Style::Quoted,
-                &symbols,
-                &read.term,
-                limit,
-                &mut line,
-            )?;
-        }
-        _ => line.push_str("no term")?,
+        Ok(Reading::Term(read)) => add_text(
+            alloc,
+            line,
+            table,
+            Style::Quoted,
+            &symbols,
+            &read.term,
+            limit,
+        ),
+        _ => Ok(line.push_str("no term")?),
     }
-    Ok(line)
 }
 
-// The cut text of a term behind some bytes; of a long one how many bytes it has, and the last eight characters.
-fn cut_text(
+// Adds a text of at most 100 bytes; of a longer one how many bytes it has, and the last eight characters.
+fn add_short(alloc: Global, line: &mut String, text: &[u8]) -> Result<(), Memory> {
+    let shown = escaped(alloc, text)?;
+    if text.len() <= 100 {
+        return Ok(line.push_str(shown.as_str())?);
+    }
+    let count = text.len();
+    write!(line, "{count} bytes ")?;
+    let characters = shown.as_str().chars().count();
+    for c in shown.as_str().chars().skip(characters.saturating_sub(8)) {
+        line.push(c)?;
+    }
+    Ok(())
+}
+
+// Adds the cut text of a term behind some bytes.
+fn add_cut(
     alloc: Global,
+    line: &mut String,
     table: &Table,
     symbols: &Symbols,
     term: &Term,
     operand: bool,
-) -> Result<String, Memory>
+) -> Result<(), Memory>
     requires { HasNames (length symbols.now) term.now }
 {
     let mut out = Bytes::new(alloc);
@@ -116,30 +130,20 @@ fn cut_text(
         operand,
         &mut out,
     )?;
-    let text = escaped(alloc, out.as_slice())?;
-    if out.len() <= 100 {
-        return Ok(text);
-    }
-    let mut line = String::new(alloc);
-    let count = out.len();
-    write!(line, "{count} bytes ")?;
-    let characters = text.as_str().chars().count();
-    for c in text.as_str().chars().skip(characters.saturating_sub(8)) {
-        line.push(c)?;
-    }
-    Ok(line)
+    add_short(alloc, line, out.as_slice())
 }
 
 /// The cut text of a term that is read, as an operand or not.
 pub fn cut_line(
     alloc: Global,
+    line: &mut String,
     table: &Table,
     operand: bool,
     text: &[u8],
-) -> Result<String, Memory> {
+) -> Result<(), Memory> {
     let mut symbols = Symbols::new(alloc);
     match read_term(alloc, &table.ops, table.quotes, &mut symbols, text) {
-        Ok(Reading::Term(read)) => cut_text(alloc, table, &symbols, &read.term, operand),
-        _ => Ok(String::from_str(alloc, "no term")?),
+        Ok(Reading::Term(read)) => add_cut(alloc, line, table, &symbols, &read.term, operand),
+        _ => Ok(line.push_str("no term")?),
     }
 }
