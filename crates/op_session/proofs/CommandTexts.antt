@@ -160,6 +160,9 @@ commands_rest m p o h = by (cut_of p) refl
     dropped (x ∷ p) zero h = absurd (omega arith)
     dropped (x ∷ p) (suc n) h = dropped p n (omega arith)
 
+    left : (p : List ℕ) (n : ℕ) → length p ≤ n → behind_layout (drop n p) ≡ []
+    left p n h = ap behind_layout (dropped p n h)
+
     unended : (x : Piece) → cut_of p ≡ x → IsUnended x (length p)
     unended x e = subst (λ x. IsUnended x (length p)) e o
 
@@ -177,12 +180,12 @@ commands_rest m p o h = by (cut_of p) refl
     texts_one : (m f t : ℕ) → cut_of p ≡ Text f t → length p ≤ t → texts (suc m) p ≡ text_in (Text f t) p ∷ []
     texts_one m f t e l =
         subst (λ x. cond (is_text x) (text_in x p ∷ texts m (rest_in x p)) [] ≡ text_in (Text f t) p ∷ []) (sym e)
-        (ap (λ s. text_in (Text f t) p ∷ texts m s) (dropped p t l) ∙ ap (λ ts. text_in (Text f t) p ∷ ts) (no_texts m))
+        (ap (λ s. text_in (Text f t) p ∷ texts m s) (left p t l) ∙ ap (λ ts. text_in (Text f t) p ∷ ts) (no_texts m))
 
     behind_one : (m f t : ℕ) → cut_of p ≡ Text f t → length p ≤ t → behind_texts (suc m) p ≡ []
     behind_one m f t e l =
         subst (λ x. cond (is_text x) (behind_texts m (rest_in x p)) p ≡ []) (sym e)
-        (ap (λ s. behind_texts m s) (dropped p t l) ∙ nothing_behind m)
+        (ap (λ s. behind_texts m s) (left p t l) ∙ nothing_behind m)
 
     one : (m f t : ℕ) → cut_of p ≡ Text f t → length p ≤ t → commands_from (suc m) p ≡ text_in (Text f t) p ∷ []
     one m f t e l = ap (λ ts. ts ++ last (behind_texts (suc m) p)) (texts_one m f t e l) ∙ ap (λ s. text_in (Text f t) p ∷ last s) (behind_one m f t e l)
