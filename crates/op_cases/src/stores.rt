@@ -1,3 +1,5 @@
+ghost use Rattle.std.specs.Prelude.{◌<◌, length, IfOk};
+
 use crate::decode::decoded;
 use crate::faults::{add_flags, add_load_kind, add_read_kind};
 use crate::fields::field;
@@ -124,7 +126,9 @@ pub fn set_operator(alloc: Global, line: &mut String, text: &str) -> Result<(), 
 }
 
 // The name and the number of arguments of a procedure.
-fn indicator(store: &mut Store, text: &str) -> Result<Pi, Memory> {
+fn indicator(store: &mut Store, text: &str) -> Result<Pi, Memory>
+    ensures { IfOk result (λ pi. pi.name.0 < length store.new.names) }
+{
     let (name, arity) = text.split_once(' ').unwrap_or((text, "0"));
     let name = store.intern(name)?;
     let arity = arity.parse::<u64>().unwrap_or(0);

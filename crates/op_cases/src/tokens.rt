@@ -1,3 +1,6 @@
+ghost use Rattle.std.specs.Prelude.{OnOk};
+ghost use Rattle.op_token.specs.Cut.{IsOpen};
+
 use crate::faults::token_word;
 use crate::show::escaped;
 use op_base::Memory;
@@ -106,7 +109,10 @@ pub fn piece(line: &mut String, text: &[u8]) -> Result<(), Memory> {
 }
 
 // Gives a byte to the cutter, and adds the text that ended.
-fn add_byte(alloc: Global, line: &mut String, cutter: &mut Cutter, byte: u8) -> Result<(), Memory> {
+fn add_byte(alloc: Global, line: &mut String, cutter: &mut Cutter, byte: u8) -> Result<(), Memory>
+    requires { IsOpen cutter.old }
+    ensures { OnOk result (IsOpen cutter.new) }
+{
     if cutter.push(byte)? {
         line.push_str(escaped(alloc, cutter.text())?.as_str())?;
         line.push_str("|")?;
