@@ -30,6 +30,7 @@ use Rattle.op_token.specs.Spelling.{fault, number_of, escape_at, quoted_from, ra
 use Rattle.op_token.specs.Spelling.{escaped_code_at, code_at, number_at, ends_clause, line_from, block_from, spelled, begins}
 use Rattle.op_token.specs.Spellings.{is_one_of, are_of, octal_digits, decimal_digits, signs, IsNumber, IsEscape, sign, newline}
 use Rattle.op_token.specs.Spellings.{octal_code, hexadecimal_code, IsQuotedCharacter, plain, doubled, escaped, AreQuoted}
+use Rattle.op_token.specs.Spellings.{no_characters, one_more}
 use Rattle.op_token.specs.Spellings.{IsCharacterCode, character, quote_twice, escape, IsInRange, within, least}
 use Rattle.op_token.specs.SpellingFaults.{AreCharacters, HasNoCharacter, HasNoEscape, closes_comment, LineUpTo, BlockUpTo, QuotedUpTo}
 use Rattle.op_token.specs.SpellingFaults.{beginners, begins_nothing, in_line, in_block, in_quotes, ends_line, escape_in_quotes}
@@ -39,10 +40,10 @@ use Rattle.op_token.specs.SpellingFaults.{layout, line_comment, last_comment, bl
 use Rattle.op_token.proofs.Within.{if_either, map_either, and_left, and_right}
 use Rattle.op_token.proofs.Characters.{AllHigh, IsRead, char_is, char_reads}
 use Rattle.op_token.proofs.Spelt.{same_on, characters, set_has, fits, class_fits}
-use Rattle.op_token.proofs.SpeltSound.{front_is, escape_sound, other, are_none, are_cons, AreHexadecimal, run_number}
+use Rattle.op_token.proofs.SpeltSound.{front_is, escape_sound, other, plain_is, AreHexadecimal, run_number}
 use Rattle.op_token.proofs.SpeltWhole.{shape, escape_whole, joined}
 use Rattle.op_token.proofs.FaultsTold.{quoting, quoted_reach, quoted_bad, quoted_open, quoted_no_escape, no_escape, line_reach}
-use Rattle.op_token.proofs.FaultsTold.{block_reach, line_bad, block_bad, fraction_same, or_left, or_right}
+use Rattle.op_token.proofs.FaultsTold.{block_reach, line_bad, block_bad, fraction_same, or_left, or_right, starts_one}
 
 -- a fault, with the bytes from the place on where it begins
 abbrev pub Told : Bool → ℕ → List ℕ → TokenFault → Type 0
@@ -102,7 +103,7 @@ closes_high : (n : ℕ) (t y : List ℕ) → AllHigh n t → closes_comment (tak
 closes_high zero t y h = refl
 closes_high (suc n) [] y h = refl
 closes_high (suc n) (x ∷ t) y h = let p : 128 ≤ x = h.0 in ap
-    (λ u. (u && begins_with 47 (take n t ++ y)) || closes_comment (take n t ++ y)) (ne_eqb x 42 (λ e. omega arith))
+    (λ u. (u && starts_with (codes "/") (take n t ++ y)) || closes_comment (take n t ++ y)) (ne_eqb x 42 (λ e. omega arith))
     ∙ closes_high n t y h.1
 
 -- the bytes here and those behind them, split
@@ -178,13 +179,13 @@ record BlockSplit (s : List ℕ) : Type 0 where
   pub split : s ≡ body ++ rest
   pub stop : (rest ≡ []) ⊎ (((r : List ℕ) × (rest ≡ 42 ∷ 47 ∷ r)) ⊎ HasNoCharacter rest)
 
-front_shrinks : (b : ℕ) (ys r : List ℕ) → (b == 42 && begins_with 47 (ys ++ r)) ≡ false → (b == 42 && begins_with 47 ys) ≡ false
+front_shrinks : (b : ℕ) (ys r : List ℕ) → (b == 42 && begins_with 47 (ys ++ r)) ≡ false → (b == 42 && starts_with (codes "/") ys) ≡ false
 front_shrinks b [] r h = and_no (b == 42)
   where
     and_no : (a : Bool) → (a && false) ≡ false
     and_no true = refl
     and_no false = refl
-front_shrinks b (y ∷ ys) r h = h
+front_shrinks b (y ∷ ys) r h = ap (λ t. b == 42 && t) (sym (starts_one 47 (y ∷ ys))) ∙ h
 
 block_split : (f : ℕ) (s : List ℕ) → length s ≤ f → BlockSplit s
 block_split f [] l = record { body = []; rest = []; are = characters_none; still = refl; split = refl; stop = inl refl }
@@ -226,7 +227,7 @@ block_split (suc f) (b ∷ t) l = go (b == 42 && begins_with 47 t) refl (char_at
           rest = w.rest;
           are = subst (λ x. AreCharacters (x ++ w.body)) k.1
               (characters_more c.code w.body k.0 w.are);
-          still = or_both (b == 42 && begins_with 47 (take c.more t ++ w.body))
+          still = or_both (b == 42 && starts_with (codes "/") (take c.more t ++ w.body))
               (closes_comment (take c.more t ++ w.body)) (front_shrinks b (take c.more t ++ w.body) w.rest
               (ap (λ x. b == 42 && begins_with 47 x) (sym p) ∙ e)) (closes_high c.more t w.body k.2 ∙ w.still);
           split =
@@ -265,20 +266,21 @@ QuotedStop q rest = (ends_line rest ≡ true) ⊎ (((r : List ℕ) × (rest ≡ 
 
 record QuotedSplit (q : ℕ) (s : List ℕ) : Type 0 where
   pub body : List ℕ
+  pub meant : List ℕ
   pub rest : List ℕ
-  pub are : AreQuoted q body
+  pub are : AreQuoted q body meant
   pub split : s ≡ body ++ rest
   pub stop : QuotedStop q rest
 
 quoted_stop : (q : ℕ) (s : List ℕ) → QuotedStop q s → QuotedSplit q s
-quoted_stop q s h = record { body = []; rest = s; are = are_none q; split = refl; stop = h }
+quoted_stop q s h = record { body = []; meant = []; rest = s; are = no_characters; split = refl; stop = h }
 
-quoted_on : (q b n : ℕ) (t : List ℕ) → IsQuotedCharacter q (b ∷ take n t) → QuotedSplit q (drop n t) → QuotedSplit q (b ∷ t)
-quoted_on q b n t h w = record {
+quoted_on : (q b n : ℕ) (t one : List ℕ) → IsQuotedCharacter q (b ∷ take n t) one → QuotedSplit q (drop n t) → QuotedSplit q (b ∷ t)
+quoted_on q b n t one h w = record {
   body = (b ∷ take n t) ++ w.body;
+  meant = one ++ w.meant;
   rest = w.rest;
-  are = are_cons q
-      (b ∷ take n t) w.body h w.are;
+  are = one_more (b ∷ take n t) one w.body w.meant h w.are;
   split = resplit b n t w.body w.rest w.split;
   stop = w.stop;
 }
@@ -293,19 +295,19 @@ quoted_split q (suc f) (b ∷ t) low l = go (b == 10) refl (b == q) refl (begins
         → (oe : Option Escape) → escape_at t ≡ oe → (oc : Option Character) → char_at b t ≡ oc
         → ((n : ℕ) → QuotedSplit q (drop n t)) → QuotedSplit q (b ∷ t)
     go true e y e2 z e3 v e4 oe e5 oc e6 r = quoted_stop q (b ∷ t) (inl e)
-    go false e true e2 true e3 v e4 oe e5 oc e6 r = quoted_on q b 1 t
-        (doubled (ap (λ i. i ∷ take 1 t) (eqb-true b q e2) ∙ ap (λ y. q ∷ take 1 y) (front_is q t e3))) (r 1)
+    go false e true e2 true e3 v e4 oe e5 oc e6 r = quoted_on q b 1 t (q ∷ [])
+        (doubled (ap (λ i. i ∷ take 1 t) (eqb-true b q e2) ∙ ap (λ y. q ∷ take 1 y) (front_is q t e3)) refl) (r 1)
     go false e true e2 false e3 v e4 oe e5 oc e6 r = quoted_stop q (b ∷ t) (inr (inl (t, ap (λ i. i ∷ t) (eqb-true b q e2), e3)))
     go false e false e2 z e3 true e4 None e5 oc e6 r = quoted_stop q (b ∷ t)
         (inr (inr (inl (t, ap (λ i. i ∷ t) (eqb-true b 92 e4), no_escape_here t e5))))
-    go false e false e2 z e3 true e4 (Some x) e5 oc e6 r = quoted_on q b x.len t
-        (escaped (take x.len t) x.code (escape_sound t x e5) (ap (λ i. i ∷ take x.len t) (eqb-true b 92 e4))) (r x.len)
+    go false e false e2 z e3 true e4 (Some x) e5 oc e6 r = quoted_on q b x.len t (option_map_or encode x.code [])
+        (escaped (take x.len t) x.code (escape_sound t x e5) (ap (λ i. i ∷ take x.len t) (eqb-true b 92 e4)) refl) (r x.len)
     go false e false e2 z e3 false e4 oe e5 None e6 r = quoted_stop q (b ∷ t) (inr (inr (inr (none_here b t e6))))
     go false e false e2 z e3 false e4 oe e5 (Some c) e6 r =
         let k : IsRead b t (Some c) = subst (IsRead b t) e6 (char_is b t) in
-        quoted_on q b c.more t (plain c.code k.0 (other b q (take c.more t) c.code low e2 k.1)
-        (other b 92 (take c.more t) c.code (omega arith) e4 k.1) (other b 10 (take c.more t) c.code (omega arith) e k.1)
-        (sym k.1)) (r c.more)
+        quoted_on q b c.more t (b ∷ take c.more t) (plain c.code k.0
+        (plain_is q c.code (other b q (take c.more t) c.code low e2 k.1) (other b 92 (take c.more t) c.code (omega arith) e4 k.1)
+        (other b 10 (take c.more t) c.code (omega arith) e k.1)) (sym k.1) refl) (r c.more)
 
 quoted_closed : (kind : TokenKind) (q start at : ℕ) (r : List ℕ) → (q ≡ 10 → ⊥) → begins_with q r ≡ false
     → quoted_from kind q start at 0 (q ∷ r) ≡ Whole kind (suc at)
@@ -316,7 +318,8 @@ quoted_told : (q at : ℕ) (minus : Bool) (s : List ℕ) (x : TokenFault) → is
 quoted_told q at minus s x f h =
     let z = quoting q f in
     let w = quoted_split q (length s) s z.2 (omega arith) in
-    let u : QuotedUpTo (q ∷ s) w.rest = record { quote = q; body = w.body; is_quote = f; are = w.are; split = ap (λ y. q ∷ y) w.split } in
+    let u : QuotedUpTo (q ∷ s) w.rest =
+    record { quote = q; body = w.body; meant = w.meant; is_quote = f; are = w.are; split = ap (λ y. q ∷ y) w.split } in
     let a = at + 1 + length w.body in
     let g : quoted_from z.0 q at a 0 w.rest ≡ Fault x = sym (quoted_reach at minus (q ∷ s) w.rest u) ∙ h in
     elim w.stop [
@@ -328,6 +331,7 @@ quoted_told q at minus s x f h =
               record {
                 quote = q;
                 body = w.body;
+                meant = w.meant;
                 is_quote = f;
                 are = w.are;
                 split = ap (λ y. q ∷ y) w.split
@@ -489,7 +493,7 @@ code_told at minus (b ∷ t) x h =
     (escape_in_code t (ap (λ i. 48 ∷ 39 ∷ i ∷ t) (eqb-true b 92 e)) (no_escape_here t v) refl))))
     (λ e.
     let bad : fault at BadNumber ≡ Fault x → Told minus at (48 ∷ 39 ∷ b ∷ t) x = λ g. told minus at at BadNumber
-    (48 ∷ 39 ∷ b ∷ t) x 0 g (omega arith) (no_code (b ∷ t) refl e (no_code_here at (b ∷ t) x h), refl) in
+    (48 ∷ 39 ∷ b ∷ t) x 0 g (omega arith) (no_code (b ∷ t) refl (sym (starts_one 92 (b ∷ t)) ∙ e) (no_code_here at (b ∷ t) x h), refl) in
     if_either P (b == 39) _ _
     (λ u. if_either P (begins_with 39 t) (Whole (Integer 39) (at + 4)) (fault at BadNumber) (λ v g. absurd (whole_fault g))
     (λ v g. bad g))
@@ -738,7 +742,6 @@ passed Solo at minus b s e f h = absurd (whole_gap h)
 passed (Mark k) at minus b s e f h = absurd (whole_gap h)
 passed Bad at minus b s e f h = absurd (fault_gap h)
 
-pub gap_found : (at : ℕ) (minus : Bool) (s : List ℕ) (e : ℕ) → begins at minus s ≡ Gap e
-    → (s ≡ []) ⊎ IsGap (take (e - at) s) (drop (e - at) s)
-gap_found at minus [] e h = inl refl
-gap_found at minus (b ∷ s) e h = inr (passed (class_of b) at minus b s e (class_fits b) h)
+pub gap_found : (at : ℕ) (minus : Bool) (b : ℕ) (s : List ℕ) (e : ℕ) → begins at minus (b ∷ s) ≡ Gap e
+    → IsGap (take (e - at) (b ∷ s)) (drop (e - at) (b ∷ s))
+gap_found at minus b s e h = passed (class_of b) at minus b s e (class_fits b) h

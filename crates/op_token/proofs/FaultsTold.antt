@@ -43,6 +43,15 @@ use Rattle.op_token.proofs.Spelt.{same_on, all_below, below, characters, set_has
 use Rattle.op_token.proofs.SpeltSound.{both, front_is, escape_sound, in_range, code_plain}
 use Rattle.op_token.proofs.SpeltWhole.{shape, length_both, quoted_along, number_is}
 
+-- what stands first, by the scanner's test and by that of the definitions
+pub starts_one : (c : ℕ) (s : List ℕ) → begins_with c s ≡ starts_with (c ∷ []) s
+starts_one c [] = refl
+starts_one c (b ∷ s) = go (b == c)
+  where
+    go : (t : Bool) → t ≡ (t || false)
+    go true = refl
+    go false = refl
+
 -- a byte with which no character begins
 pub no_character : (b : ℕ) (t : List ℕ) → HasNoCharacter (b ∷ t) → (char_at b t ≡ None) × (128 ≤ b)
 no_character b t w = (
@@ -97,9 +106,7 @@ pub quoted_reach : (at : ℕ) (minus : Bool) (s rest : List ℕ) (w : QuotedUpTo
 quoted_reach at minus s rest w =
     let z = quoting w.quote w.is_quote in
     ap (begins at minus) w.split ∙ z.1 at minus (w.body ++ rest)
-    ∙ ap (λ t. quoted_from z.0 w.quote at (at + 1) 0 (t ++ rest)) w.are.joined
-    ∙ quoted_along z.0 w.quote at z.2 z.3 z.4 (at + 1) w.are.characters rest w.are.each
-    ∙ ap (λ t. quoted_from z.0 w.quote at (at + 1 + length t) 0 rest) (sym w.are.joined)
+    ∙ quoted_along z.0 w.quote at z.2 z.3 z.4 rest (at + 1) w.body w.meant w.are
 
 pub quoted_bad : (kind : TokenKind) (q start at : ℕ) (s : List ℕ) → q < 128 → HasNoCharacter s
     → quoted_from kind q start at 0 s ≡ fault at BadChar
@@ -146,16 +153,16 @@ member_rest n (x ∷ xs) ys h = member_rest n xs ys (or_right (n == x) (is_one_o
 
 closes_rest : (xs ys : List ℕ) → closes_comment (xs ++ ys) ≡ false → closes_comment ys ≡ false
 closes_rest [] ys h = h
-closes_rest (x ∷ xs) ys h = closes_rest xs ys (or_right (x == 42 && begins_with 47 (xs ++ ys)) (closes_comment (xs ++ ys)) h)
+closes_rest (x ∷ xs) ys h = closes_rest xs ys (or_right (x == 42 && starts_with (codes "/") (xs ++ ys)) (closes_comment (xs ++ ys)) h)
 
-straddle : (b : ℕ) (ys r : List ℕ) → (b == 42 && begins_with 47 ys) ≡ false → begins_with 47 r ≡ false
+straddle : (b : ℕ) (ys r : List ℕ) → (b == 42 && starts_with (codes "/") ys) ≡ false → begins_with 47 r ≡ false
     → (b == 42 && begins_with 47 (ys ++ r)) ≡ false
 straddle b [] r h g = and_no (b == 42) (begins_with 47 r) g
   where
     and_no : (a b : Bool) → b ≡ false → (a && b) ≡ false
     and_no true b h = h
     and_no false b h = refl
-straddle b (y ∷ ys) r h g = h
+straddle b (y ∷ ys) r h g = ap (λ t. b == 42 && t) (starts_one 47 (y ∷ (ys ++ r))) ∙ h
 
 line_along : (at : ℕ) (cs r : List ℕ) → All IsScalar cs → is_one_of (spelt cs) 10 ≡ false
     → line_from at 0 (spelt cs ++ r) ≡ line_from (at + length (spelt cs)) 0 r
@@ -185,7 +192,7 @@ block_along start at (c ∷ cs) r h n g =
     let m : closes_comment ((w.0 ∷ w.1) ++ spelt cs) ≡ false = subst (λ x. closes_comment (x ++ spelt cs) ≡ false) w.2 n in
     let nb : (w.0 == 42 && begins_with 47 (w.1 ++ (spelt cs ++ r))) ≡ false =
     ap (λ x. w.0 == 42 && begins_with 47 x) (sym (append_assoc w.1 (spelt cs) r))
-    ∙ straddle w.0 (w.1 ++ spelt cs) r (or_left (w.0 == 42 && begins_with 47 (w.1 ++ spelt cs))
+    ∙ straddle w.0 (w.1 ++ spelt cs) r (or_left (w.0 == 42 && starts_with (codes "/") (w.1 ++ spelt cs))
     (closes_comment (w.1 ++ spelt cs)) m) g in
     let p : length (encode c) ≡ suc (length w.1) = ap length w.2 in
     let l : suc at + length w.1 + length (spelt cs) ≡ at + length (encode c ++ spelt cs) = omega
@@ -485,7 +492,7 @@ bad_number_told at minus s (fraction ds rest n w f e) =
     let d = dot_front rest f in
     ap (begins at minus) e ∙ digits_chosen at minus ds rest n w d.1 (λ b p. d.0)
     ∙ ap (λ t. cond t (fault at BadNumber) (ranged at minus n (at + length ds))) f
-bad_number_told at minus s (no_code rest e n w) = ap (begins at minus) e ∙ code_none at rest n w
+bad_number_told at minus s (no_code rest e n w) = ap (begins at minus) e ∙ code_none at rest (starts_one 92 rest ∙ n) w
 bad_number_told at minus s (newline_code rest e) = ap (begins at minus) e
 
 too_great_told : (at : ℕ) (minus : Bool) (s : List ℕ) → IsTooGreat minus s → begins at minus s ≡ fault at NumberRange

@@ -10,6 +10,8 @@ pub mod Texts
 pub mod MakingUp
 pub mod Names
 pub mod TokenTexts
+pub mod QuotedTexts
+pub mod Minus
 pub mod Prefixes
 pub mod Longest
 pub mod Spelt

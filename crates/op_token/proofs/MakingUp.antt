@@ -1,6 +1,8 @@
 -- A text is made up of its tokens, with layout and comments between them.
 use Rattle.std.proofs.Common.{◌≡◌, ℕ, zero, suc, ◌+◌, ◌-◌, ◌<◌, ◌≤◌, Bool, true, false, List, [], None, length, drop, get_or, refl, ap, sym, ◌∙◌, subst, cond, arith, inl, inr}
-use Rattle.std.proofs.lemmas.Bool.{cases_lt}
+use Rattle.std.proofs.Common.{◌&&◌}
+use Rattle.std.specs.Prelude.{◌==◌}
+use Rattle.std.proofs.lemmas.Bool.{cases_lt, ne_eqb, eq-eqb, and_right}
 use Rattle.op_token.specs.declared.spelling.Spelling.{Spelling}
 use Rattle.op_token.specs.declared.spelling.Spelling.TheVariants.{Gap, Whole, Fault}
 use Rattle.op_token.specs.Spelling.{begins, EndsBy}
@@ -16,6 +18,16 @@ Made text at minus l = MadeUp text at minus l.tokens l.fault
 abbrev pub Since : ℕ → ℕ → Bool → Type 0
 Since from at l = (l ≡ true → from < at) × (l ≡ false → from ≡ at)
 
+-- the name - stands directly before a place where no gap is between
+directly : (from at : ℕ) (before l : Bool) → Since from at l → cond l false before ≡ (before && from == at)
+directly from at before true s =
+    sym (and_right before (from == at) (ne_eqb from at (λ e. let p : from < at = s.0 refl in omega arith)))
+directly from at before false s = kept before (from == at) (eq-eqb from at (s.1 refl))
+  where
+    kept : (a b : Bool) → b ≡ true → a ≡ (a && b)
+    kept true b h = sym h
+    kept false b h = refl
+
 at_end : (text : List ℕ) (at : ℕ) (l m : Bool) → at ≡ length text → lex at 0 l m (drop at text) ≡ record { tokens = []; fault = None }
 at_end text at l m e = ap (λ n. lex at 0 l m (drop n text)) e ∙ ap (lex at 0 l m) (drop_all text)
 
@@ -27,7 +39,9 @@ module _ (text : List ℕ) (from at : ℕ) (before l m : Bool) (i : at < length 
   made_step (Whole kind k) p b =
       subst (Made text from before) (sym (lex_whole text at l m i kind k p))
       (g, s, subst (λ n. begins at n (drop at text) ≡ Whole kind k) e p, (omega (arith, b.0), b.1), whole k (is_minus kind (get_or text at 0) (k - at)) b.0 b.1)
-  made_step (Fault f) p b = subst (Made text from before) (sym (lex_fault text at l m i f p)) (at, (m, (g, p)))
+  made_step (Fault f) p b =
+      subst (Made text from before) (sym (lex_fault text at l m i f p))
+      (at, (g, subst (λ n. begins at n (drop at text) ≡ Fault f) (e ∙ directly from at before l s) p))
 
 pub made_up : (f : ℕ) (text : List ℕ) (from at : ℕ) (before l m : Bool) → length text ≤ at + f → at ≤ length text → Gaps text from at → from ≤ at → Since from at l → m ≡ cond l false before → Made text from before (lex at 0 l m (drop at text))
 made_up zero text from at before l m h w g o s e =

@@ -2,12 +2,12 @@
 use Rattle.std.proofs.Common.{◌≡◌, ℕ, zero, suc, ◌+◌, ◌-◌, ◌<◌, ◌≤◌, Bool, true, false, ◌&&◌, ◌||◌, List, [], ◌∷◌, ◌++◌, Option, Some}
 use Rattle.std.proofs.Common.{None, length, map, take, drop, refl, ap, sym, ◌∙◌, subst, cond, arith, length-drop, append_assoc, inl}
 use Rattle.std.proofs.Common.{inr}
-use Rattle.std.specs.Prelude.{◌==◌, not, nat_lt, unwrap_or}
+use Rattle.std.specs.Prelude.{◌==◌, not, nat_lt, unwrap_or, codes}
+use Rattle.std.specs.Option.{option_map_or}
 use Rattle.std.specs.Char.{IsScalar}
-use Rattle.std.proofs.lemmas.Bool.{eqb-true, eq-eqb, ltb-true, cases_lt}
+use Rattle.std.proofs.lemmas.Bool.{eqb-true, eq-eqb, ne_eqb, ltb-true, cases_lt, or_from}
 use Rattle.std.proofs.lemmas.Bool.Decides.{nat_tests}
 use Rattle.std.proofs.lemmas.Str.{encode_ascii}
-use Rattle.std.proofs.lemmas.List.Elements.{All-nil, All-cons}
 use Rattle.std.proofs.Math.Seq.{take-add}
 use lib.Utf8.{encode}
 use Rattle.op_token.specs.declared.character.Character.{Character}
@@ -33,14 +33,16 @@ use Rattle.op_token.specs.Spelling.{begins}
 use Rattle.op_token.specs.Spellings.{small_letters, variable_starts, alphanumeric, symbol_characters, layout_characters, is_one_of}
 use Rattle.op_token.specs.Spellings.{are_of, opens_comment, is_word_from, IsName, word_name, symbol_name, cut_name, semicolon_name}
 use Rattle.op_token.specs.Spellings.{IsNumber, decimal_digits, hexadecimal_digits, signs, sign_value, IsEscape, sign, newline}
-use Rattle.op_token.specs.Spellings.{octal_code, hexadecimal_code, IsQuotedCharacter, plain, doubled, escaped, AreQuoted, IsQuoted}
+use Rattle.op_token.specs.Spellings.{octal_code, hexadecimal_code, IsQuotedCharacter, plain, doubled, escaped, AreQuoted}
+use Rattle.op_token.specs.Spellings.{no_characters, one_more, IsQuoted}
 use Rattle.op_token.specs.Spellings.{IsCharacterCode, character, quote_twice, escape, IsInRange, within, least, binary, octal}
 use Rattle.op_token.specs.Spellings.{hexadecimal, IsInteger, number, code, IsToken, follows_end, IsBefore}
 use Rattle.op_token.specs.Spellings as spellings
 use Rattle.op_token.proofs.Within.{if_either, map_either, and_left, and_right, begins_length, escape_within, char_within}
 use Rattle.op_token.proofs.Characters.{scalar_is, char_read}
 use Rattle.op_token.proofs.Steps.{and_false}
-use Rattle.op_token.proofs.Texts.{quoted_inside}
+use Rattle.op_token.specs.Tokens.{text_from}
+use Rattle.op_token.proofs.Texts.{quoted_inside, text_stop, text_doubled, text_escaped, text_plain}
 use Rattle.op_token.proofs.Longest.{line_never, block_never, quoted_kind}
 use Rattle.op_token.proofs.Spelt.{same_on, all_below, below, characters, set_has, mark_fits, fits, class_fits, are_set, are_within}
 use Rattle.op_token.proofs.Spelt.{values_same}
@@ -309,29 +311,24 @@ other b q t c l h e p =
     let z : true ≡ false = sym (eq-eqb b q (sym (first_same f))) ∙ h in
     cc
 
-pub are_none : (q : ℕ) → AreQuoted q []
-are_none q = record { characters = []; each = All-nil (IsQuotedCharacter q); joined = refl }
+-- a character that is none of the three that don't stand for themselves
+pub plain_is : (q c : ℕ) → (c ≡ q → ⊥) → (c ≡ 92 → ⊥) → (c ≡ 10 → ⊥) → is_one_of (q ∷ codes "\\\n") c ≡ false
+plain_is q c nq n92 n10 =
+    or_from (c == q) (c == 92 || (c == 10 || false)) (ne_eqb c q nq)
+    (or_from (c == 92) (c == 10 || false) (ne_eqb c 92 n92) (or_from (c == 10) false (ne_eqb c 10 n10) refl))
 
-pub are_cons : (q : ℕ) (i t : List ℕ) → IsQuotedCharacter q i → AreQuoted q t → AreQuoted q (i ++ t)
-are_cons q i t h a = record {
-  characters = i ∷ a.characters;
-  each = All-cons
-      (IsQuotedCharacter q) i a.characters h a.each;
-  joined = ap (λ u. i ++ u) a.joined;
-}
-
--- the quoted text that stands here to its closing quote, which ends at a place
+-- the quoted text that stands here to its closing quote, which ends at a place, and what it stands for
 abbrev pub Inside : ℕ → ℕ → ℕ → List ℕ → Type 0
-Inside q at e s = (inside : List ℕ) × (n : ℕ) × AreQuoted q inside × (at + n ≡ e) × (take n s ≡ inside ++ q ∷ [])
+Inside q at e s = (inside : List ℕ) × (n : ℕ) × AreQuoted q inside (text_from q 0 s) × (at + n ≡ e) × (take n s ≡ inside ++ q ∷ [])
 
-inside_more : (q at e b j : ℕ) (s : List ℕ) → IsQuotedCharacter q (b ∷ take j s) → Inside q (suc at + j) e (drop j s)
-    → Inside q at e (b ∷ s)
-inside_more q at e b j s c w =
+inside_more : (q at e b j : ℕ) (one s : List ℕ) → IsQuotedCharacter q (b ∷ take j s) one
+    → text_from q 0 (b ∷ s) ≡ one ++ text_from q 0 (drop j s) → Inside q (suc at + j) e (drop j s) → Inside q at e (b ∷ s)
+inside_more q at e b j one s c t w =
     let p : suc at + j + w.1 ≡ e = w.3 in
     let m : suc j + w.1 ≡ suc (j + w.1) = omega arith in (
       (b ∷ take j s) ++ w.0,
       suc j + w.1,
-      are_cons q (b ∷ take j s) w.0 c w.2,
+      subst (AreQuoted q ((b ∷ take j s) ++ w.0)) (sym t) (one_more (b ∷ take j s) one w.0 (text_from q 0 (drop j s)) c w.2),
       omega arith,
       ap (λ i. take i (b ∷ s)) m ∙ ap (λ t. b ∷ t) (take-add j w.1 s ∙ ap (λ t. take j s ++ t) w.4)
           ∙ sym (append_assoc (b ∷ take j s) w.0 (q ∷ [])),
@@ -343,28 +340,31 @@ quoted_sound f k q start at [] kind e l low h = absurd (fault_not h)
 quoted_sound zero k q start at (b ∷ s) kind e l low h = absurd (omega arith)
 quoted_sound (suc f) k q start at (b ∷ s) kind e l low h =
     let P : Spelling → Type 0 = λ x. x ≡ Whole kind e → Inside q at e (b ∷ s) in
-    let on : (j : ℕ) → j ≤ length s → IsQuotedCharacter q (b ∷ take j s) → P (quoted_from k q start (suc at) j s) =
-    λ j m c g. inside_more q at e b j s c (quoted_sound f k q start (suc at + j) (drop j s) kind e
+    let on : (j : ℕ) (one : List ℕ) → j ≤ length s → IsQuotedCharacter q (b ∷ take j s) one
+    → text_from q 0 (b ∷ s) ≡ one ++ text_from q 0 (drop j s) → P (quoted_from k q start (suc at) j s) =
+    λ j one m c t g. inside_more q at e b j one s c t (quoted_sound f k q start (suc at + j) (drop j s) kind e
     (omega (arith, length-drop j s)) low (sym (quoted_inside k q start (suc at) j s m) ∙ g)) in
     if_either P (b == 10) (fault start OpenQuote) _ (λ t g. absurd (fault_not g))
     (λ t. if_either P (b == q) _ _
     (λ u. if_either P (begins_with q s) _ (Whole k (suc at))
-    (λ v. on 1 (begins_length q s v) (doubled (ap (λ i. i ∷ take 1 s) (eqb-true b q u) ∙ ap (λ t. q ∷ take 1 t) (front_is q s v))))
+    (λ v. on 1 (q ∷ []) (begins_length q s v)
+    (doubled (ap (λ i. i ∷ take 1 s) (eqb-true b q u) ∙ ap (λ t. q ∷ take 1 t) (front_is q s v)) refl) (text_doubled q b s u v))
     (λ v g. let p : suc at ≡ e = whole_end g in let w : at + 1 ≡ e = omega arith in
-    ([], 1, are_none q, w, ap (λ i. i ∷ []) (eqb-true b q u))))
+    ([], 1, subst (AreQuoted q []) (sym (text_stop q b s u v)) no_characters, w, ap (λ i. i ∷ []) (eqb-true b q u))))
     (λ u. if_either P (b == 92) _ _
     (λ v. map_either P (λ (x : Escape). quoted_from k q start (suc at) x.len s) (escape_at s) (fault at BadEscape)
-    (λ x g. on x.len (escape_within s x g) (escaped (take x.len s) x.code (escape_sound s x g)
-    (ap (λ i. i ∷ take x.len s) (eqb-true b 92 v))))
+    (λ x g. on x.len (option_map_or encode x.code []) (escape_within s x g) (escaped (take x.len s) x.code (escape_sound s x g)
+    (ap (λ i. i ∷ take x.len s) (eqb-true b 92 v)) refl) (text_escaped q b s x u v g))
     (λ g r. absurd (fault_not r)))
     (λ v. map_either P (λ (c : Character). quoted_from k q start (suc at) c.more s) (char_at b s) (fault at BadChar)
-    (λ c g. let r = char_read b s c g in on c.more (char_within b s c g)
-    (plain c.code r.0 (other b q (take c.more s) c.code low u r.1) (other b 92 (take c.more s) c.code (omega arith) v r.1)
-    (other b 10 (take c.more s) c.code (omega arith) t r.1) (sym r.1)))
+    (λ c g. let r = char_read b s c g in on c.more (b ∷ take c.more s) (char_within b s c g)
+    (plain c.code r.0 (plain_is q c.code (other b q (take c.more s) c.code low u r.1)
+    (other b 92 (take c.more s) c.code (omega arith) v r.1) (other b 10 (take c.more s) c.code (omega arith) t r.1))
+    (sym r.1) refl) (text_plain q b s c low u v g))
     (λ g r. absurd (fault_not r))))) h
 
-quoted_token : (k : TokenKind) (q at b : ℕ) (s : List ℕ) (kind : TokenKind) (e : ℕ) → q < 128 → (b == q) ≡ true
-    → quoted_from k q at (at + 1) 0 s ≡ Whole kind e → IsQuoted q (take (e - at) (b ∷ s))
+pub quoted_token : (k : TokenKind) (q at b : ℕ) (s : List ℕ) (kind : TokenKind) (e : ℕ) → q < 128 → (b == q) ≡ true
+    → quoted_from k q at (at + 1) 0 s ≡ Whole kind e → IsQuoted q (take (e - at) (b ∷ s)) (text_from q 0 s)
 quoted_token k q at b s kind e low f h =
     let w = quoted_sound (length s) k q at (at + 1) s kind e (omega arith) low h in
     let p : at + 1 + w.1 ≡ e = w.3 in
@@ -550,10 +550,11 @@ spelled_sound Digit at minus b s kind e f h =
     subst (λ k. Stands minus k (take (e - at) (b ∷ s)) (drop (e - at) (b ∷ s))) w.1 (w.2, tt)
 spelled_sound SingleQuote at minus b s kind e f h =
     subst (λ k. Stands minus k (take (e - at) (b ∷ s)) (drop (e - at) (b ∷ s)))
-    (quoted_kind QuotedName 39 at (at + 1) 0 s kind e h) (quoted_token QuotedName 39 at b s kind e (omega arith) f h, tt)
+    (quoted_kind QuotedName 39 at (at + 1) 0 s kind e h)
+    ((text_from 39 0 s, quoted_token QuotedName 39 at b s kind e (omega arith) f h), tt)
 spelled_sound DoubleQuote at minus b s kind e f h =
     subst (λ k. Stands minus k (take (e - at) (b ∷ s)) (drop (e - at) (b ∷ s))) (quoted_kind Text 34 at (at + 1) 0 s kind e h)
-    (quoted_token Text 34 at b s kind e (omega arith) f h, tt)
+    ((text_from 34 0 s, quoted_token Text 34 at b s kind e (omega arith) f h), tt)
 spelled_sound Slash at minus b s kind e f h =
     if_either (λ x. x ≡ Whole kind e → Stands minus kind (take (e - at) (b ∷ s)) (drop (e - at) (b ∷ s))) (begins_with 42 s)
     (block_from at (at + 2) 0 (drop 1 s)) (Whole Name (at + 1 + run symbols s))

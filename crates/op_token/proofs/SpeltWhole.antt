@@ -2,12 +2,10 @@
 use Rattle.std.proofs.Common.{◌≡◌, ℕ, zero, suc, ◌+◌, ◌-◌, ◌<◌, ◌≤◌, Bool, true, false, ◌&&◌, ◌||◌, List, [], ◌∷◌, ◌++◌, Option, Some}
 use Rattle.std.proofs.Common.{None, length, map, take, drop, refl, ap, sym, ◌∙◌, subst, cond, arith, append_assoc, append-nil, inl, inr}
 use Rattle.std.proofs.Common.{◌⊎◌}
-use Rattle.std.specs.Prelude.{◌==◌, not, nat_lt, codes, All, unwrap_or, if◌then◌else◌}
+use Rattle.std.specs.Prelude.{◌==◌, not, nat_lt, codes, unwrap_or, if◌then◌else◌}
 use Rattle.std.specs.Option.{option_map_or}
-use Rattle.std.specs.List.{concat}
 use Rattle.std.specs.Char.{IsScalar}
-use Rattle.std.proofs.lemmas.Bool.{eqb-true, eq-eqb, ne_eqb, lt-ltb}
-use Rattle.std.proofs.lemmas.List.Elements.{All-head, All-tail}
+use Rattle.std.proofs.lemmas.Bool.{eqb-true, eqb-false, eq-eqb, ne_eqb, lt-ltb, or_parts}
 use Rattle.std.proofs.Math.Seq.{take-append_seam, drop-append_seam}
 use lib.Utf8.{encode}
 use Rattle.op_token.specs.declared.character.Character.{Character}
@@ -31,6 +29,7 @@ use Rattle.op_token.specs.Spellings.{small_letters, variable_starts, alphanumeri
 use Rattle.op_token.specs.Spellings.{is_word_from, is_symbol_name, IsName, word_name, symbol_name, cut_name, semicolon_name, IsNumber}
 use Rattle.op_token.specs.Spellings.{octal_digits, decimal_digits, hexadecimal_digits, signs, sign_value, IsEscape, sign, newline}
 use Rattle.op_token.specs.Spellings.{octal_code, hexadecimal_code, IsQuotedCharacter, plain, doubled, escaped, AreQuoted}
+use Rattle.op_token.specs.Spellings.{no_characters, one_more}
 use Rattle.op_token.specs.Spellings.{IsCharacterCode, character, quote_twice, escape, IsInRange, within, least, binary, octal}
 use Rattle.op_token.specs.Spellings.{hexadecimal, IsInteger, number, code, IsToken, IsBefore}
 use Rattle.op_token.specs.Spellings as spellings
@@ -184,6 +183,13 @@ length_both [] ys = omega arith
 length_both (x ∷ xs) ys = let i = length_both xs ys in omega arith
 
 -- quoted text
+pub plain_not : (q c : ℕ) → is_one_of (q ∷ codes "\\\n") c ≡ false → (c ≡ q → ⊥) × (c ≡ 92 → ⊥) × (c ≡ 10 → ⊥)
+plain_not q c h =
+    let a = or_parts (c == q) (c == 92 || (c == 10 || false)) h in
+    let b = or_parts (c == 92) (c == 10 || false) a.1 in
+    let d = or_parts (c == 10) false b.1 in
+    (eqb-false c q a.0, eqb-false c 92 b.0, eqb-false c 10 d.0)
+
 quoted_skip : (kind : TokenKind) (q start at : ℕ) (t r : List ℕ)
     → quoted_from kind q start at (length t) (t ++ r) ≡ quoted_from kind q start (at + length t) 0 r
 quoted_skip kind q start at [] r = let e : at ≡ at + 0 = omega arith in ap (λ a. quoted_from kind q start a 0 r) e
@@ -191,26 +197,27 @@ quoted_skip kind q start at (b ∷ t) r = let e : suc at + length t ≡ at + suc
     quoted_skip kind q start (suc at) t r ∙ ap (λ a. quoted_from kind q start a 0 r) e
 
 module _ (kind : TokenKind) (q start : ℕ) (low : q < 128) (n10 : q ≡ 10 → ⊥) (n92 : q ≡ 92 → ⊥) where
-  quoted_step : (at : ℕ) (c r : List ℕ) → IsQuotedCharacter q c
+  quoted_step : (at : ℕ) (c meant r : List ℕ) → IsQuotedCharacter q c meant
       → quoted_from kind q start at 0 (c ++ r) ≡ quoted_from kind q start (at + length c) 0 r
-  quoted_step at c r (plain u sc nq m92 m10 e) =
+  quoted_step at c meant r (plain u sc n e m) =
       let w = shape u r sc in
+      let k = plain_not q u n in
       let l : suc at + length w.1 ≡ at + suc (length w.1) = omega arith in
       let p : c ≡ w.0 ∷ w.1 = e ∙ w.2 in
       ap (λ t. quoted_from kind q start at 0 (t ++ r)) p
-      ∙ quoted_char kind q start at w.0 (w.1 ++ r) (record { code = u; more = length w.1 }) (w.4 10 (omega arith) m10)
-      (w.4 q low nq) (w.4 92 (omega arith) m92) w.3
+      ∙ quoted_char kind q start at w.0 (w.1 ++ r) (record { code = u; more = length w.1 }) (w.4 10 (omega arith) k.2)
+      (w.4 q low k.0) (w.4 92 (omega arith) k.1) w.3
       ∙ quoted_skip kind q start (suc at) w.1 r
       ∙ ap (λ a. quoted_from kind q start a 0 r) l
       ∙ ap (λ t. quoted_from kind q start (at + length t) 0 r) (sym p)
-  quoted_step at c r (doubled e) =
+  quoted_step at c meant r (doubled e m) =
       let l : suc at + 1 ≡ at + 2 = omega arith in
       ap (λ t. quoted_from kind q start at 0 (t ++ r)) e
       ∙ quoted_quote kind q start at q (q ∷ r) n10 refl (eq-eqb q q refl)
       ∙ quoted_skip kind q start (suc at) (q ∷ []) r
       ∙ ap (λ a. quoted_from kind q start a 0 r) l
       ∙ ap (λ t. quoted_from kind q start (at + length t) 0 r) (sym e)
-  quoted_step at c r (escaped e v w p) =
+  quoted_step at c meant r (escaped e v w p m) =
       let l : suc at + length e ≡ at + suc (length e) = omega arith in
       ap (λ t. quoted_from kind q start at 0 (t ++ r)) p
       ∙ quoted_escape kind q start at 92 (e ++ r) (an_escape v (length e)) (λ z. omega arith) (λ z. n92 (sym z)) refl
@@ -219,26 +226,22 @@ module _ (kind : TokenKind) (q start : ℕ) (low : q < 128) (n10 : q ≡ 10 → 
       ∙ ap (λ a. quoted_from kind q start a 0 r) l
       ∙ ap (λ t. quoted_from kind q start (at + length t) 0 r) (sym p)
 
-  pub quoted_along : (at : ℕ) (cs : List (List ℕ)) (r : List ℕ) → All (IsQuotedCharacter q) cs
-      → quoted_from kind q start at 0 (concat cs ++ r) ≡ quoted_from kind q start (at + length (concat cs)) 0 r
-  quoted_along at [] r h = let l : at ≡ at + 0 = omega arith in ap (λ a. quoted_from kind q start a 0 r) l
-  quoted_along at (c ∷ cs) r h =
-      let l : at + length c + length (concat cs) ≡ at + length (c ++ concat cs) = omega (arith, length_both c (concat cs)) in
-      ap (quoted_from kind q start at 0) (append_assoc c (concat cs) r)
-      ∙ quoted_step at c (concat cs ++ r) (All-head (IsQuotedCharacter q) c cs h)
-      ∙ quoted_along (at + length c) cs r (All-tail (IsQuotedCharacter q) c cs h)
+  pub quoted_along : (r : List ℕ) (at : ℕ) (s meant : List ℕ) → AreQuoted q s meant
+      → quoted_from kind q start at 0 (s ++ r) ≡ quoted_from kind q start (at + length s) 0 r
+  quoted_along r at s meant no_characters = let l : at ≡ at + 0 = omega arith in ap (λ a. quoted_from kind q start a 0 r) l
+  quoted_along r at s meant (one_more c one t rest h w) =
+      let l : at + length c + length t ≡ at + length (c ++ t) = omega (arith, length_both c t) in
+      ap (quoted_from kind q start at 0) (append_assoc c t r)
+      ∙ quoted_step at c one (t ++ r) h
+      ∙ quoted_along r (at + length c) t rest w
       ∙ ap (λ a. quoted_from kind q start a 0 r) l
 
   quoted_closes : (at : ℕ) → quoted_from kind q start at 0 (q ∷ []) ≡ Whole kind (suc at)
   quoted_closes at = rw (ne_eqb q 10 n10, eq-eqb q q refl) refl
 
-  pub quoted_whole : (at : ℕ) (s : List ℕ) → AreQuoted q s → quoted_from kind q start at 0 (s ++ q ∷ []) ≡ Whole kind
-      (suc (at + length s))
-  quoted_whole at s w =
-      ap (λ t. quoted_from kind q start at 0 (t ++ q ∷ [])) w.joined
-      ∙ quoted_along at w.characters (q ∷ []) w.each
-      ∙ quoted_closes (at + length (concat w.characters))
-      ∙ ap (λ t. Whole kind (suc (at + length t))) (sym w.joined)
+  pub quoted_whole : (at : ℕ) (s meant : List ℕ) → AreQuoted q s meant
+      → quoted_from kind q start at 0 (s ++ q ∷ []) ≡ Whole kind (suc (at + length s))
+  quoted_whole at s meant w = quoted_along (q ∷ []) at s meant w ∙ quoted_closes (at + length s)
 
 quoted_end : (at q : ℕ) (i s : List ℕ) → s ≡ q ∷ (i ++ q ∷ []) → suc (at + 1 + length i) ≡ at + length s
 quoted_end at q i s e = let l = last i in let m : length s ≡ suc (length (i ++ q ∷ [])) = ap length e in omega arith
@@ -457,15 +460,15 @@ pub spelling_whole : (at : ℕ) (minus : Bool) (s : List ℕ) (kind : TokenKind)
     → begins at minus s ≡ Whole kind (at + length s)
 spelling_whole at minus s Name h n = name_whole at minus s h n
 spelling_whole at minus s QuotedName h n =
-    ap (begins at minus) h.whole
-    ∙ quoted_whole QuotedName 39 at (omega arith) (λ e. omega arith) (λ e. omega arith) (at + 1) h.inside h.are
-    ∙ ap (λ i. Whole QuotedName i) (quoted_end at 39 h.inside s h.whole)
+    ap (begins at minus) h.1.whole
+    ∙ quoted_whole QuotedName 39 at (omega arith) (λ e. omega arith) (λ e. omega arith) (at + 1) h.1.inside h.0 h.1.are
+    ∙ ap (λ i. Whole QuotedName i) (quoted_end at 39 h.1.inside s h.1.whole)
 spelling_whole at minus s Variable h n = word_whole Capital Variable variable_starts at minus s (λ b s. refl) refl h
 spelling_whole at minus s (Integer i) h n = integer_whole at minus s i h
 spelling_whole at minus s Text h n =
-    ap (begins at minus) h.whole
-    ∙ quoted_whole Text 34 at (omega arith) (λ e. omega arith) (λ e. omega arith) (at + 1) h.inside h.are
-    ∙ ap (λ i. Whole Text i) (quoted_end at 34 h.inside s h.whole)
+    ap (begins at minus) h.1.whole
+    ∙ quoted_whole Text 34 at (omega arith) (λ e. omega arith) (λ e. omega arith) (at + 1) h.1.inside h.0 h.1.are
+    ∙ ap (λ i. Whole Text i) (quoted_end at 34 h.1.inside s h.1.whole)
 spelling_whole at minus s OpenRound h n = one_whole OpenRound at minus s (codes "(") h refl
 spelling_whole at minus s CloseRound h n = one_whole CloseRound at minus s (codes ")") h refl
 spelling_whole at minus s OpenSquare h n = one_whole OpenSquare at minus s (codes "[") h refl

@@ -6,7 +6,7 @@ use Rattle.std.specs.Option.{option_map_or}
 use Rattle.std.proofs.lemmas.Bool.{ne_eqb, eqb-true}
 use Rattle.std.proofs.lemmas.Bool.Decides.{nat_tests}
 use Rattle.std.proofs.lemmas.Str.{IsUtf8-encode, IsUtf8-append, IsUtf8-nil, encode_ascii}
-use lib.Utf8.{low_scalar}
+use lib.Utf8.{encode, low_scalar}
 use Rattle.op_token.specs.declared.character.Character.{Character}
 use Rattle.op_token.specs.declared.escape.Escape.{Escape}
 use Rattle.op_token.specs.declared.set.Set.{Set}
@@ -90,6 +90,42 @@ text_inside : (q n : ℕ) (s : List ℕ) → n ≤ length s → text_from q n s 
 text_inside q zero s h = refl
 text_inside q (suc n) [] h = absurd (omega arith)
 text_inside q (suc n) (b ∷ s) h = text_inside q n s (omega arith)
+
+-- what each part of quoted text stands for
+escaped_is : (o : Option ℕ) → escaped o ≡ option_map_or encode o []
+escaped_is None = refl
+escaped_is (Some c) = refl
+
+text_quote : (q b : ℕ) (s : List ℕ) → (b == q) ≡ true → begins_with q s ≡ true → text_from q 0 (b ∷ s) ≡ b ∷ text_from q 1 s
+text_quote q b s u v = rw (u, v) refl
+
+text_escape : (q b : ℕ) (s : List ℕ) (x : Escape) → (b == q) ≡ false → (b == 92) ≡ true → escape_at s ≡ Some x
+    → text_from q 0 (b ∷ s) ≡ escaped x.code ++ text_from q x.len s
+text_escape q b s x u v g = rw (u, v, g) refl
+
+text_char : (q b : ℕ) (s : List ℕ) → (b == q) ≡ false → (b == 92) ≡ false → text_from q 0 (b ∷ s) ≡ b ∷ text_from q 0 s
+text_char q b s u v = rw (u, v) refl
+
+pub text_stop : (q b : ℕ) (s : List ℕ) → (b == q) ≡ true → begins_with q s ≡ false → text_from q 0 (b ∷ s) ≡ []
+text_stop q b s u v = rw (u, v) refl
+
+pub text_doubled : (q b : ℕ) (s : List ℕ) → (b == q) ≡ true → begins_with q s ≡ true
+    → text_from q 0 (b ∷ s) ≡ (q ∷ []) ++ text_from q 0 (drop 1 s)
+text_doubled q b s u v =
+    text_quote q b s u v ∙ ap (λ i. i ∷ text_from q 1 s) (eqb-true b q u)
+    ∙ ap (λ t. q ∷ t) (text_inside q 1 s (begins_length q s v))
+
+pub text_escaped : (q b : ℕ) (s : List ℕ) (x : Escape) → (b == q) ≡ false → (b == 92) ≡ true → escape_at s ≡ Some x
+    → text_from q 0 (b ∷ s) ≡ option_map_or encode x.code [] ++ text_from q 0 (drop x.len s)
+text_escaped q b s x u v g =
+    text_escape q b s x u v g ∙ ap (λ t. t ++ text_from q x.len s) (escaped_is x.code)
+    ∙ ap (λ t. option_map_or encode x.code [] ++ t) (text_inside q x.len s (escape_within s x g))
+
+pub text_plain : (q b : ℕ) (s : List ℕ) (c : Character) → q < 128 → (b == q) ≡ false → (b == 92) ≡ false → char_at b s ≡ Some c
+    → text_from q 0 (b ∷ s) ≡ (b ∷ take c.more s) ++ text_from q 0 (drop c.more s)
+text_plain q b s c l u v g =
+    let r : IsRead b s (Some c) = subst (IsRead b s) g (char_is b s) in
+    text_char q b s u v ∙ ap (λ t. b ∷ t) (copies q c.more s l (char_within b s c g) r.2)
 
 pub quoted_inside : (kind : TokenKind) (q start at n : ℕ) (s : List ℕ) → n ≤ length s
     → quoted_from kind q start at n s ≡ quoted_from kind q start (at + n) 0 (drop n s)

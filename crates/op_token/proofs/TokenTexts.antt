@@ -12,7 +12,7 @@ use Rattle.op_token.specs.declared.token.TokenKind.{TokenKind}
 use Rattle.op_token.specs.declared.token.TokenKind.TheVariants.{Name, QuotedName, Variable, Text, OpenRound, CloseRound, OpenSquare, CloseSquare, OpenCurly, CloseCurly, Comma, Bar, End}
 use Rattle.op_token.specs.Set.{run, has, begins_with}
 use Rattle.op_token.specs.Class.{class_of, mark_of}
-use Rattle.op_token.specs.Spelling.{block_from, ends_clause, spelled, begins}
+use Rattle.op_token.specs.Spelling.{quoted_from, block_from, ends_clause, spelled, begins}
 use Rattle.op_token.specs.Tokens.{text_from, unquoted, scan_of, is_minus, IsPlain, IsQuoted}
 use Rattle.op_token.specs.MadeUp.{MadeUp}
 use Rattle.op_token.proofs.Dropping.{drop_one}
@@ -22,10 +22,10 @@ use Rattle.op_token.proofs.Texts.{IsWhole, quoted_utf8}
 use Rattle.op_token.proofs.MakingUp.{text_made_up}
 
 -- the quotes are the bytes that begin quoted text
-abbrev QuoteClass : ℕ → Class → Type 0
+abbrev pub QuoteClass : ℕ → Class → Type 0
 QuoteClass b c = (c ≡ SingleQuote → b ≡ 39) × (c ≡ DoubleQuote → b ≡ 34) × ((k : TokenKind) → c ≡ Mark k → IsQuoted k → ⊥)
 
-quote_class : (b : ℕ) → QuoteClass b (class_of b)
+pub quote_class : (b : ℕ) → QuoteClass b (class_of b)
 quote_class b =
     let P : Class → Type 0 = QuoteClass b in
     if_either P (b == 32 || (nat_le 9 b && nat_le b 13)) Layout _ (λ e. (λ h. cc, λ h. cc, λ k h. cc))
@@ -52,30 +52,39 @@ quote_class b =
 not_kind : (j kind : TokenKind) (a to : ℕ) → (IsQuoted j → ⊥) → Whole j a ≡ Whole kind to → IsQuoted kind → ⊥
 not_kind j kind a to n e q = let f : j ≡ kind = cc in n (subst IsQuoted (sym f) q)
 
-quoted_spelled : (k : Class) (at : ℕ) (minus : Bool) (b : ℕ) (s : List ℕ) (kind : TokenKind) (to : ℕ) → QuoteClass b k → spelled k at minus b s ≡ Whole kind to → IsQuoted kind → IsUtf8 (text_from b 0 s)
-quoted_spelled Layout at minus b s kind to c e q = cc
-quoted_spelled Percent at minus b s kind to c e q = absurd (subst (Not IsQuoted) e (line_not IsQuoted (λ n h. h) (at + 1) 0 s) q)
-quoted_spelled Small at minus b s kind to c e q = absurd (not_kind Name kind _ to (λ h. h) e q)
-quoted_spelled Capital at minus b s kind to c e q = absurd (not_kind Variable kind _ to (λ h. h) e q)
-quoted_spelled Digit at minus b s kind to c e q = absurd (subst (Not IsQuoted) e (number_not IsQuoted (λ n h. h) at minus b s) q)
-quoted_spelled SingleQuote at minus b s kind to c e q =
+-- only what a quote begins is a quoted token
+pub by_quotes : (R : Type 0) (k : Class) (at : ℕ) (minus : Bool) (b : ℕ) (s : List ℕ) (kind : TokenKind) (to : ℕ) → QuoteClass b k
+    → (b ≡ 39 → quoted_from QuotedName 39 at (at + 1) 0 s ≡ Whole kind to → R)
+    → (b ≡ 34 → quoted_from Text 34 at (at + 1) 0 s ≡ Whole kind to → R) → spelled k at minus b s ≡ Whole kind to → IsQuoted kind → R
+by_quotes R Layout at minus b s kind to c f g e q = cc
+by_quotes R Percent at minus b s kind to c f g e q = absurd (subst (Not IsQuoted) e (line_not IsQuoted (λ n h. h) (at + 1) 0 s) q)
+by_quotes R Small at minus b s kind to c f g e q = absurd (not_kind Name kind _ to (λ h. h) e q)
+by_quotes R Capital at minus b s kind to c f g e q = absurd (not_kind Variable kind _ to (λ h. h) e q)
+by_quotes R Digit at minus b s kind to c f g e q = absurd (subst (Not IsQuoted) e (number_not IsQuoted (λ n h. h) at minus b s) q)
+by_quotes R SingleQuote at minus b s kind to c f g e q = f (c.0 refl) e
+by_quotes R DoubleQuote at minus b s kind to c f g e q = g (c.1 refl) e
+by_quotes R Slash at minus b s kind to c f g e q =
+    if_either (λ x. x ≡ Whole kind to → R) (begins_with 42 s) (block_from at (at + 2) 0 (drop 1 s)) (Whole Name (at + 1 + run symbols s))
+    (λ t h. absurd (subst (Not IsQuoted) h (block_not IsQuoted (λ n h. h) at (at + 2) 0 (drop 1 s)) q))
+    (λ t h. absurd (not_kind Name kind _ to (λ h. h) h q)) e
+by_quotes R Dot at minus b s kind to c f g e q =
+    if_either (λ x. x ≡ Whole kind to → R) (run symbols s == 0 && ends_clause s) (Whole End (at + 1)) (Whole Name (at + 1 + run symbols s))
+    (λ t h. absurd (not_kind End kind _ to (λ h. h) h q))
+    (λ t h. absurd (not_kind Name kind _ to (λ h. h) h q)) e
+by_quotes R Symbol at minus b s kind to c f g e q = absurd (not_kind Name kind _ to (λ h. h) e q)
+by_quotes R Solo at minus b s kind to c f g e q = absurd (not_kind Name kind _ to (λ h. h) e q)
+by_quotes R (Mark k) at minus b s kind to c f g e q = absurd (not_kind k kind _ to (c.2 k refl) e q)
+by_quotes R Bad at minus b s kind to c f g e q = cc
+
+quoted_spelled : (at : ℕ) (minus : Bool) (b : ℕ) (s : List ℕ) (kind : TokenKind) (to : ℕ) → begins at minus (b ∷ s) ≡ Whole kind to
+    → IsQuoted kind → IsUtf8 (text_from b 0 s)
+quoted_spelled at minus b s kind to =
     let w : IsWhole (Whole kind to) = tt in
-    subst (λ x. IsUtf8 (text_from x 0 s)) (sym (c.0 refl)) (quoted_utf8 (length s) QuotedName 39 at (at + 1) s (omega arith) (omega arith) (subst IsWhole (sym e) w))
-quoted_spelled DoubleQuote at minus b s kind to c e q =
-    let w : IsWhole (Whole kind to) = tt in
-    subst (λ x. IsUtf8 (text_from x 0 s)) (sym (c.1 refl)) (quoted_utf8 (length s) Text 34 at (at + 1) s (omega arith) (omega arith) (subst IsWhole (sym e) w))
-quoted_spelled Slash at minus b s kind to c e q =
-    if_either (λ x. x ≡ Whole kind to → IsUtf8 (text_from b 0 s)) (begins_with 42 s) (block_from at (at + 2) 0 (drop 1 s)) (Whole Name (at + 1 + run symbols s))
-    (λ t f. absurd (subst (Not IsQuoted) f (block_not IsQuoted (λ n h. h) at (at + 2) 0 (drop 1 s)) q))
-    (λ t f. absurd (not_kind Name kind _ to (λ h. h) f q)) e
-quoted_spelled Dot at minus b s kind to c e q =
-    if_either (λ x. x ≡ Whole kind to → IsUtf8 (text_from b 0 s)) (run symbols s == 0 && ends_clause s) (Whole End (at + 1)) (Whole Name (at + 1 + run symbols s))
-    (λ t f. absurd (not_kind End kind _ to (λ h. h) f q))
-    (λ t f. absurd (not_kind Name kind _ to (λ h. h) f q)) e
-quoted_spelled Symbol at minus b s kind to c e q = absurd (not_kind Name kind _ to (λ h. h) e q)
-quoted_spelled Solo at minus b s kind to c e q = absurd (not_kind Name kind _ to (λ h. h) e q)
-quoted_spelled (Mark k) at minus b s kind to c e q = absurd (not_kind k kind _ to (c.2 k refl) e q)
-quoted_spelled Bad at minus b s kind to c e q = cc
+    by_quotes (IsUtf8 (text_from b 0 s)) (class_of b) at minus b s kind to (quote_class b)
+    (λ e h. subst (λ x. IsUtf8 (text_from x 0 s)) (sym e)
+    (quoted_utf8 (length s) QuotedName 39 at (at + 1) s (omega arith) (omega arith) (subst IsWhole (sym h) w)))
+    (λ e h. subst (λ x. IsUtf8 (text_from x 0 s)) (sym e)
+    (quoted_utf8 (length s) Text 34 at (at + 1) s (omega arith) (omega arith) (subst IsWhole (sym h) w)))
 
 -- a token begins at its place
 abbrev pub Begun : List ℕ → Token → Type 0
@@ -89,7 +98,7 @@ token_begun text (x ∷ ts) at m f u (suc k) h t e = token_begun text ts x.to (i
 pub token_of : (text : List ℕ) (t : Token) → Contains (scan_of text).tokens t → Begun text t
 token_of text t c = token_begun text (scan_of text).tokens 0 false (scan_of text).fault (text_made_up text) c.0 c.1 t c.2
 
-front : (text : List ℕ) (t : Token) (b : Begun text t) → begins t.from b.0 (get_or text t.from 0 ∷ drop (t.from + 1) text) ≡ Whole t.kind t.to
+pub front : (text : List ℕ) (t : Token) (b : Begun text t) → begins t.from b.0 (get_or text t.from 0 ∷ drop (t.from + 1) text) ≡ Whole t.kind t.to
 front text t b = let h : t.from < length text = omega (arith, b.1.1, b.1.2) in ap (begins t.from b.0) (sym (drop_one text t.from h)) ∙ b.1.0
 
 pub token_within : (text : List ℕ) (t : Token) → Contains (scan_of text).tokens t → (t.from < t.to) × (t.to ≤ length text)
@@ -104,4 +113,4 @@ plain_text text t c p =
 pub quoted_text : (text : List ℕ) (t : Token) → Contains (scan_of text).tokens t → IsQuoted t.kind → IsUtf8 (unquoted text t)
 quoted_text text t c q =
     let b = token_of text t c in
-    quoted_spelled (class_of (get_or text t.from 0)) t.from b.0 (get_or text t.from 0) (drop (t.from + 1) text) t.kind t.to (quote_class (get_or text t.from 0)) (front text t b) q
+    quoted_spelled t.from b.0 (get_or text t.from 0) (drop (t.from + 1) text) t.kind t.to (front text t b) q

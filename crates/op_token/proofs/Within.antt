@@ -242,3 +242,19 @@ spelled_ends Bad at minus b s h = tt
 
 pub begins_ends : (at : ℕ) (minus : Bool) (b : ℕ) (s : List ℕ) → EndsBy (at + 1) (at + suc (length s)) (begins at minus (b ∷ s))
 begins_ends at minus b s = spelled_ends (class_of b) at minus b s (digit_class b)
+
+-- a token and a gap end among the bytes
+pub token_ends : (at : ℕ) (minus : Bool) (s : List ℕ) (kind : TokenKind) (end : ℕ) → begins at minus s ≡ Whole kind end
+    → (at < end) × (end ≤ at + length s)
+token_ends at minus [] kind end h = cc
+token_ends at minus (b ∷ s) kind end h =
+    let w : EndsBy (at + 1) (at + suc (length s)) (Whole kind end) =
+    subst (EndsBy (at + 1) (at + suc (length s))) h (begins_ends at minus b s) in
+    (omega (arith, w.0), w.1)
+
+pub gap_ends : (at : ℕ) (minus : Bool) (b : ℕ) (s : List ℕ) (end : ℕ) → begins at minus (b ∷ s) ≡ Gap end
+    → (at < end) × (end ≤ at + length (b ∷ s))
+gap_ends at minus b s end h =
+    let w : EndsBy (at + 1) (at + suc (length s)) (Gap end) =
+    subst (EndsBy (at + 1) (at + suc (length s))) h (begins_ends at minus b s) in
+    (omega (arith, w.0), w.1)

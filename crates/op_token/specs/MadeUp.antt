@@ -1,5 +1,5 @@
 -- A text is made up of its tokens, with layout and comments between them.
-use Rattle.std.specs.Prelude.{◌≡◌, ℕ, ◌-◌, ◌<◌, ◌≤◌, Bool, true, false, List, [], ◌∷◌, Option, Some, None, drop, length, slice_index, if◌then◌else◌}
+use Rattle.std.specs.Prelude.{◌≡◌, ℕ, ◌==◌, ◌-◌, ◌<◌, ◌≤◌, Bool, true, false, ◌&&◌, List, [], ◌∷◌, Option, Some, None, drop, length, slice_index, if◌then◌else◌}
 use Rattle.op_token.specs.declared.token.Token.{Token}
 use Rattle.op_token.specs.declared.token.TokenFault.{TokenFault}
 use Rattle.op_token.specs.declared.spelling.Spelling.TheVariants.{Gap, Whole, Fault}
@@ -12,10 +12,10 @@ pub data Gaps (text : List ℕ) : ℕ → ℕ → Type 0 where
   further : {i j k : ℕ} (minus : Bool) → Gaps text i j → begins j minus (drop j text) ≡ Gap k → Gaps text i k
 
 -- from a place on, the text is gaps and tokens in turn to its end, or to a place where a fault begins. `minus` says that the name -
--- ends at the place
+-- ends at the place, so that it stands directly before what begins there
 abbrev pub MadeUp : List ℕ → ℕ → Bool → List Token → Option TokenFault → Type 0
 MadeUp text at minus [] None = Gaps text at (length text)
-MadeUp text at minus [] (Some f) = (i : ℕ) × ((m : Bool) × (Gaps text at i × (begins i m (drop i text) ≡ Fault f)))
+MadeUp text at minus [] (Some f) = (i : ℕ) × (Gaps text at i × (begins i (minus && at == i) (drop i text) ≡ Fault f))
 MadeUp text at minus (t ∷ ts) f =
     Gaps text at t.from
     × ((t.layout_before ≡ true → at < t.from) × (t.layout_before ≡ false → at ≡ t.from))

@@ -1,12 +1,12 @@
 -- The faults of tokens (ISO/IEC 13211-1, 6.4), each as what is said of the bytes from the place on where it begins; and layout and
--- comments, each as what is said of the whole of its bytes. Nothing here says how a text is walked over.
+-- comments, each as what is said of the whole of its bytes. Nothing here says how a text is walked over. Where one of these begins, it
+-- comes before any token that is spelt there as well: 0xg is a fault, though 0 is an integer, and /* a comment, though / is a name.
 use Rattle.std.specs.Prelude.{◌≡◌, ℕ, ◌==◌, ◌+◌, ◌<◌, Bool, true, false, ◌&&◌, ◌||◌, List, [], ◌∷◌, ◌++◌, length, map, codes, All}
 use Rattle.std.specs.Prelude.{encode_utf8, Option}
 use Rattle.std.specs.List.{concat}
 use Rattle.std.specs.Char.{IsScalar}
 use Rattle.op_token.specs.declared.token.TokenFaultKind.{TokenFaultKind}
 use Rattle.op_token.specs.declared.token.TokenFaultKind.TheVariants.{BadChar, OpenQuote, OpenComment, BadEscape, BadNumber, NumberRange}
-use Rattle.op_token.specs.Set.{begins_with}
 use Rattle.op_token.specs.Spellings.{layout_characters, alphanumeric, symbol_characters, octal_digits, decimal_digits}
 use Rattle.op_token.specs.Spellings.{hexadecimal_digits, is_one_of, IsNumber, IsInRange, IsEscape, AreQuoted, IsCharacterCode}
 
@@ -25,10 +25,15 @@ pub record HasNoCharacter (s : List ℕ) : Type 0 where
 abbrev pub HasNoEscape : List ℕ → Type 0
 HasNoEscape s = (e behind : List ℕ) (value : Option ℕ) → IsEscape e value → s ≡ e ++ behind → ⊥
 
+-- these bytes begin with one of some characters
+abbrev pub starts_with : List ℕ → List ℕ → Bool
+starts_with characters [] = false
+starts_with characters (b ∷ s) = is_one_of characters b
+
 -- the end of a comment stands in these bytes
 abbrev pub closes_comment : List ℕ → Bool
 closes_comment [] = false
-closes_comment (b ∷ s) = (b == 42 && begins_with 47 s) || closes_comment s
+closes_comment (b ∷ s) = (b == 42 && starts_with (codes "/") s) || closes_comment s
 
 -- a comment begins here, and behind some characters of it, which don't end it, the rest stands: from % on, and from /* on
 pub record LineUpTo (s rest : List ℕ) : Type 0 where
@@ -47,8 +52,9 @@ pub record BlockUpTo (s rest : List ℕ) : Type 0 where
 pub record QuotedUpTo (s rest : List ℕ) : Type 0 where
   pub quote : ℕ
   pub body : List ℕ
+  pub meant : List ℕ
   pub is_quote : is_one_of (codes "'\"") quote ≡ true
-  pub are : AreQuoted quote body
+  pub are : AreQuoted quote body meant
   pub split : s ≡ quote ∷ (body ++ rest)
 
 -- layout, or a comment; one that no newline ends goes to the end of the text (6.4.1)
@@ -79,11 +85,6 @@ pub data IsBadEscape (s : List ℕ) (place : ℕ) : Type 0 where
   escape_in_quotes : (rest : List ℕ) (w : QuotedUpTo s (92 ∷ rest)) → HasNoEscape rest → place ≡ 1 + length w.body → IsBadEscape s place
   escape_in_code : (rest : List ℕ) → s ≡ codes "0'\\" ++ rest → HasNoEscape rest → place ≡ 2 → IsBadEscape s place
 
--- these bytes begin with one of some characters
-abbrev pub starts_with : List ℕ → List ℕ → Bool
-starts_with characters [] = false
-starts_with characters (b ∷ s) = is_one_of characters b
-
 -- a . and a digit stand here
 abbrev pub starts_fraction : List ℕ → Bool
 starts_fraction [] = false
@@ -96,7 +97,7 @@ pub data IsBadNumber (s : List ℕ) : Type 0 where
   no_hexadecimal : (rest : List ℕ) → s ≡ codes "0x" ++ rest → starts_with hexadecimal_digits rest ≡ false → IsBadNumber s
   fraction : (digits rest : List ℕ) (n : ℕ) → IsNumber 10 decimal_digits digits n → starts_fraction rest ≡ true
       → s ≡ digits ++ rest → IsBadNumber s
-  no_code : (rest : List ℕ) → s ≡ codes "0'" ++ rest → begins_with 92 rest ≡ false
+  no_code : (rest : List ℕ) → s ≡ codes "0'" ++ rest → starts_with (codes "\\") rest ≡ false
       → ((c behind : List ℕ) (n : ℕ) → IsCharacterCode c n → rest ≡ c ++ behind → ⊥) → IsBadNumber s
   newline_code : (rest : List ℕ) → s ≡ codes "0'\\" ++ 10 ∷ rest → IsBadNumber s
 

@@ -1,7 +1,8 @@
 -- The tokens (ISO/IEC 13211-1, 6.4), each as what is said of the whole of its bytes. Nothing here says how a text is walked over.
 use Rattle.std.specs.Prelude.{◌≡◌, ℕ, suc, ◌==◌, ◌+◌, ◌*◌, ◌<◌, ◌≤◌, Bool, true, false, ◌&&◌, ◌||◌, not, List, [], ◌∷◌, ◌++◌, length}
-use Rattle.std.specs.Prelude.{codes, fold, All, encode_utf8, Option, Some, None, if◌then◌else◌}
-use Rattle.std.specs.List.{list_all, list_any, concat}
+use Rattle.std.specs.Prelude.{codes, fold, encode_utf8, Option, Some, None, if◌then◌else◌}
+use Rattle.std.specs.List.{list_all, list_any}
+use Rattle.std.specs.Option.{option_map_or}
 use Rattle.std.specs.Char.{IsScalar}
 use Rattle.op_token.specs.declared.token.TokenKind.{TokenKind}
 use Rattle.op_token.specs.declared.token.TokenKind.TheVariants.{Name, QuotedName, Variable, Integer, Text, OpenRound, CloseRound}
@@ -96,23 +97,30 @@ pub data IsEscape (s : List ℕ) (value : Option ℕ) : Type 0 where
   hexadecimal_code : (digits : List ℕ) (n : ℕ) → IsNumber 16 hexadecimal_digits digits n → IsScalar n
       → s ≡ codes "x" ++ (digits ++ codes "\\") → value ≡ Some n → IsEscape s value
 
--- one character of a text in quotes: itself, but no quote, backslash or newline; the quote doubled; or an escape
-pub data IsQuotedCharacter (quote : ℕ) (s : List ℕ) : Type 0 where
-  plain : (c : ℕ) → IsScalar c → (c ≡ quote → ⊥) → (c ≡ 92 → ⊥) → (c ≡ 10 → ⊥) → s ≡ encode_utf8 c → IsQuotedCharacter quote s
-  doubled : s ≡ quote ∷ quote ∷ [] → IsQuotedCharacter quote s
-  escaped : (e : List ℕ) (value : Option ℕ) → IsEscape e value → s ≡ 92 ∷ e → IsQuotedCharacter quote s
+-- one character of a text in quotes, and the bytes that it stands for: itself, but no quote, backslash or newline; the quote doubled,
+-- which is one quote; or an escape, which is its character, and nothing where it has none
+pub data IsQuotedCharacter (quote : ℕ) (s meant : List ℕ) : Type 0 where
+  plain : (c : ℕ) → IsScalar c → is_one_of (quote ∷ codes "\\\n") c ≡ false → s ≡ encode_utf8 c → meant ≡ s → IsQuotedCharacter quote s meant
+  doubled : s ≡ quote ∷ quote ∷ [] → meant ≡ quote ∷ [] → IsQuotedCharacter quote s meant
+  escaped : (e : List ℕ) (value : Option ℕ) → IsEscape e value → s ≡ 92 ∷ e → meant ≡ option_map_or encode_utf8 value []
+      → IsQuotedCharacter quote s meant
 
--- some characters of a text in quotes, one behind the other
-pub record AreQuoted (quote : ℕ) (s : List ℕ) : Type 0 where
-  pub characters : List (List ℕ)
-  pub each : All (IsQuotedCharacter quote) characters
-  pub joined : s ≡ concat characters
+-- some characters of a text in quotes, one behind the other, and the bytes that they stand for
+pub data AreQuoted (quote : ℕ) : List ℕ → List ℕ → Type 0 where
+  no_characters : AreQuoted quote [] []
+  one_more : (c meant s rest : List ℕ) → IsQuotedCharacter quote c meant → AreQuoted quote s rest → AreQuoted quote (c ++ s) (meant ++ rest)
 
--- a text between two quotes
-pub record IsQuoted (quote : ℕ) (s : List ℕ) : Type 0 where
+-- a text between two quotes, and the bytes that it stands for
+pub record IsQuoted (quote : ℕ) (s meant : List ℕ) : Type 0 where
   pub inside : List ℕ
-  pub are : AreQuoted quote inside
+  pub are : AreQuoted quote inside meant
   pub whole : s ≡ quote ∷ (inside ++ quote ∷ [])
+
+-- a quoted token, and the bytes that it stands for
+abbrev pub StandsFor : TokenKind → List ℕ → List ℕ → Type 0
+StandsFor QuotedName s meant = IsQuoted 39 s meant
+StandsFor Text s meant = IsQuoted 34 s meant
+StandsFor kind s meant = ⊥
 
 -- what stands behind 0' : a character but the quote and the backslash, the quote doubled, or an escape that stands for a character
 pub data IsCharacterCode (s : List ℕ) (n : ℕ) : Type 0 where
@@ -140,10 +148,10 @@ pub data IsInteger (minus : Bool) (s : List ℕ) (n : ℕ) : Type 0 where
 -- the spellings of each kind of token; `minus` says that the unquoted name - stands directly before
 abbrev pub IsToken : Bool → TokenKind → List ℕ → Type 0
 IsToken minus Name s = IsName s
-IsToken minus QuotedName s = IsQuoted 39 s
+IsToken minus QuotedName s = (meant : List ℕ) × IsQuoted 39 s meant
 IsToken minus Variable s = is_word_from variable_starts s ≡ true
 IsToken minus (Integer n) s = IsInteger minus s n
-IsToken minus Text s = IsQuoted 34 s
+IsToken minus Text s = (meant : List ℕ) × IsQuoted 34 s meant
 IsToken minus OpenRound s = s ≡ codes "("
 IsToken minus CloseRound s = s ≡ codes ")"
 IsToken minus OpenSquare s = s ≡ codes "["

@@ -1,12 +1,12 @@
 //! Laws of the definitions, for the layers above. Each is a function without a parameter, whose contract is the law.
 
-ghost use Rattle.std.specs.Prelude.{◌≡◌, ◌⊎◌, ℕ, suc, List, [], ◌≤◌, ◌<◌, ◌+◌, ◌++◌, ◌∷◌};
-ghost use Rattle.std.specs.Prelude.{length, drop, take, ◌-◌, Some, Bool, encode_utf8, Contains, IsUtf8, slice_range};
+ghost use Rattle.std.specs.Prelude.{◌≡◌, ◌↔◌, ℕ, suc, List, [], ◌≤◌, ◌<◌, ◌+◌, ◌++◌, ◌∷◌, codes, slice_index, slice_range};
+ghost use Rattle.std.specs.Prelude.{length, drop, take, ◌-◌, Some, Bool, IsTrue, encode_utf8, Contains, IsUtf8};
 ghost use Rattle.std.specs.Char.{IsScalar};
 ghost use Rattle.op_token.specs.Character.{char_at, first_char};
-ghost use Rattle.op_token.specs.Tokens.{scan_of, unquoted, IsPlain, IsQuoted};
+ghost use Rattle.op_token.specs.Tokens.{is_minus, scan_of, unquoted, IsPlain, IsQuoted};
 ghost use Rattle.op_token.specs.MadeUp.{MadeUp};
-ghost use Rattle.op_token.specs.Spellings.{IsToken, IsBefore};
+ghost use Rattle.op_token.specs.Spellings.{IsToken, IsBefore, StandsFor};
 ghost use Rattle.op_token.specs.SpellingFaults.{IsFault, IsGap};
 ghost use Rattle.op_token.specs.declared.token.Token.{Token};
 ghost use Rattle.op_token.specs.declared.token.TokenKind.{TokenKind};
@@ -73,6 +73,20 @@ pub fn token_texts()
         IsUtf8 (unquoted text t) }
 {}
 
+/// What a quoted token is said to stand for is what its spelling stands for, and a spelling stands for one text alone.
+pub fn quoted_texts()
+    ensures spelled { (text : List ℕ) (t : Token) → Contains (scan_of text).tokens t → IsQuoted t.kind →
+        StandsFor t.kind (slice_range text t.from t.to) (unquoted text t) }
+    ensures alone { (kind : TokenKind) (s one other : List ℕ) → StandsFor kind s one → StandsFor kind s other → one ≡ other }
+{}
+
+/// The name `-` is told by a token's kind, first byte and length exactly where the token is an unquoted name that is spelled so.
+pub fn minus_is_a_name()
+    ensures { (text : List ℕ) (t : Token) → t.from < t.to → t.to ≤ length text →
+        (IsTrue (is_minus t.kind (slice_index text t.from) (t.to - t.from))
+        ↔ ((t.kind ≡ TokenKind.Name) × (slice_range text t.from t.to ≡ codes "-"))) }
+{}
+
 /// A token is the longest at its place: no longer beginning of what stands there is a token.
 pub fn tokens_are_longest()
     ensures { (at : ℕ) (minus : Bool) (s : List ℕ) (kind other : TokenKind) (end n : ℕ) →
@@ -80,9 +94,11 @@ pub fn tokens_are_longest()
         begins at minus (take n s) ≡ Whole other (at + n) → ⊥ }
 {}
 
-/// A token is spelt as its kind is.
+/// A token is spelt as its kind is, from its place to its end, which is among the bytes.
 pub fn tokens_are_spellings()
-    ensures { (at : ℕ) (minus : Bool) (s : List ℕ) (kind : TokenKind) (end : ℕ) → begins at minus s ≡ Whole kind end →
+    ensures within { (at : ℕ) (minus : Bool) (s : List ℕ) (kind : TokenKind) (end : ℕ) → begins at minus s ≡ Whole kind end →
+        (at < end) × (end ≤ at + length s) }
+    ensures spelled { (at : ℕ) (minus : Bool) (s : List ℕ) (kind : TokenKind) (end : ℕ) → begins at minus s ≡ Whole kind end →
         IsToken minus kind (take (end - at) s) × IsBefore kind (take (end - at) s) (drop (end - at) s) }
 {}
 
@@ -110,10 +126,13 @@ pub fn faults_stand()
         (place : ℕ) × (told.place ≡ at + place) × IsFault minus told.kind s place }
 {}
 
-/// What is passed over is layout or a comment.
+/// What is passed over is layout or a comment, to its end, which is among the bytes; where no byte is left, nothing is.
 pub fn gaps_are_layout_or_comments()
-    ensures { (at : ℕ) (minus : Bool) (s : List ℕ) (end : ℕ) → begins at minus s ≡ Gap end →
-        (s ≡ []) ⊎ IsGap (take (end - at) s) (drop (end - at) s) }
+    ensures nothing { (at : ℕ) (minus : Bool) → begins at minus [] ≡ Gap at }
+    ensures within { (at : ℕ) (minus : Bool) (b : ℕ) (s : List ℕ) (end : ℕ) → begins at minus (b ∷ s) ≡ Gap end →
+        (at < end) × (end ≤ at + length (b ∷ s)) }
+    ensures spelled { (at : ℕ) (minus : Bool) (b : ℕ) (s : List ℕ) (end : ℕ) → begins at minus (b ∷ s) ≡ Gap end →
+        IsGap (take (end - at) (b ∷ s)) (drop (end - at) (b ∷ s)) }
 {}
 
 /// Layout and comments are passed over.

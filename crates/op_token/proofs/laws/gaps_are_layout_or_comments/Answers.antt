@@ -1,5 +1,7 @@
+use Rattle.std.proofs.Common.{refl}
+use Rattle.op_token.proofs.Within.{gap_ends}
 use Rattle.op_token.proofs.FaultsFound.{gap_found}
 use Rattle.op_token.proofs.laws.gaps_are_layout_or_comments.Goals as goal
 
 pub returns : goal.returns
-returns c = gap_found
+returns c = record { nothing = λ at minus. refl; within = gap_ends; spelled = gap_found }

@@ -1,5 +1,6 @@
+use Rattle.op_token.proofs.Within.{token_ends}
 use Rattle.op_token.proofs.SpeltSound.{begins_sound}
 use Rattle.op_token.proofs.laws.tokens_are_spellings.Goals as goal
 
 pub returns : goal.returns
-returns c = begins_sound
+returns c = record { within = token_ends; spelled = begins_sound }

@@ -1,0 +1,5 @@
+use Rattle.op_token.proofs.Minus.{minus_is}
+use Rattle.op_token.proofs.laws.minus_is_a_name.Goals as goal
+
+pub returns : goal.returns
+returns c = minus_is
