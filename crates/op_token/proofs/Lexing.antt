@@ -16,7 +16,7 @@ lex_inside at (suc n) l m (b ∷ s) h =
     let e : at + suc n ≡ suc at + n = omega arith in
     rw e (lex_inside (suc at) n l m s (omega arith))
 
-drop_behind : (i n : ℕ) (s : List ℕ) → drop n (drop i s) ≡ drop (i + n) s
+pub drop_behind : (i n : ℕ) (s : List ℕ) → drop n (drop i s) ≡ drop (i + n) s
 drop_behind zero n s = let e : 0 + n ≡ n = omega arith in rw e refl
 drop_behind (suc i) n [] = nil n
   where

@@ -1,5 +1,5 @@
 -- The name - is told by its kind, its first byte and its length.
-use Rattle.std.proofs.Common.{◌≡◌, ◌↔◌, ℕ, zero, suc, ◌+◌, ◌-◌, ◌<◌, ◌≤◌, Bool, true, ◌&&◌, List, [], ◌∷◌, length, take, drop, get_or}
+use Rattle.std.proofs.Common.{◌≡◌, ◌↔◌, ℕ, zero, suc, ◌+◌, ◌-◌, ◌<◌, ◌≤◌, true, List, [], ◌∷◌, length, take, drop, get_or}
 use Rattle.std.proofs.Common.{refl, ap, sym, ◌∙◌, subst, arith, length-drop, IsTrue}
 use Rattle.std.specs.Prelude.{◌==◌, codes, slice_index, slice_range}
 use Rattle.std.proofs.lemmas.Bool.{eqb-true, eq-eqb, and_from}
@@ -9,6 +9,7 @@ use Rattle.op_token.specs.declared.token.TokenKind.TheVariants.{Name}
 use Rattle.op_token.specs.Tokens.{is_minus}
 use Rattle.op_token.proofs.Dropping.{drop_one}
 use Rattle.op_token.proofs.Within.{and_left, and_right}
+use Rattle.op_token.proofs.SpeltSound.{first_same, rest_same}
 
 -- a name of one byte, which is -
 abbrev IsMinus : TokenKind → ℕ → ℕ → Type 0
@@ -21,12 +22,6 @@ minus_told kind b n h = cc
 tells_minus : (kind : TokenKind) (b n : ℕ) → IsMinus kind b n → is_minus kind b n ≡ true
 tells_minus kind b n w =
     subst (λ k. is_minus k b n ≡ true) (sym w.0) (and_from (b == 45) (n == 1) (eq-eqb b 45 w.1) (eq-eqb n 1 w.2))
-
-first_same : {x y : ℕ} {xs ys : List ℕ} → x ∷ xs ≡ y ∷ ys → x ≡ y
-first_same h = cc
-
-rest_same : {x y : ℕ} {xs ys : List ℕ} → x ∷ xs ≡ y ∷ ys → xs ≡ ys
-rest_same h = cc
 
 -- a list of one byte or more, of which some are taken
 taken : (b n : ℕ) (s : List ℕ) → 0 < n → n ≤ suc (length s) → take n (b ∷ s) ≡ 45 ∷ [] → (b ≡ 45) × (n ≡ 1)
@@ -45,9 +40,9 @@ minus_is text t l h =
     let d : drop t.from text ≡ b ∷ s = drop_one text t.from (omega arith) in
     let m : length (drop (t.from + 1) text) ≡ length text - (t.from + 1) = length-drop (t.from + 1) text in (
       (λ e.
-      let w = minus_told t.kind b n e in
-      (w.0, ap (take n) d ∙ ap (λ i. take i (b ∷ s)) w.2 ∙ ap (λ i. i ∷ []) w.1)),
+          let w = minus_told t.kind b n e in
+          (w.0, ap (take n) d ∙ ap (λ i. take i (b ∷ s)) w.2 ∙ ap (λ i. i ∷ []) w.1)),
       (λ w.
-      let k = taken b n s (omega arith) (omega arith) (sym (ap (take n) d) ∙ w.1) in
-      tells_minus t.kind b n (w.0, k.0, k.1)),
+          let k = taken b n s (omega arith) (omega arith) (sym (ap (take n) d) ∙ w.1) in
+          tells_minus t.kind b n (w.0, k.0, k.1)),
     )

@@ -1,21 +1,16 @@
 -- What begins a text begins each longer beginning of it.
-use Rattle.std.proofs.Common.{◌≡◌, ℕ, zero, suc, ◌+◌, ◌-◌, ◌<◌, ◌≤◌, Bool, true, false, ◌&&◌, ◌||◌, List, [], ◌∷◌, ◌++◌, Option, Some, None, length, take, drop, refl, ap, sym, ◌∙◌, subst, cond, arith, length-take}
-use Rattle.std.specs.Prelude.{◌==◌, nat_lt, nat_le, if◌then◌else◌, unwrap_or}
+use Rattle.std.proofs.Common.{◌≡◌, ℕ, zero, suc, ◌+◌, ◌-◌, ◌<◌, ◌≤◌, Bool, true, false, ◌&&◌, List, [], ◌∷◌, ◌++◌, Option, Some, None, length, take, drop, refl, ap, sym, ◌∙◌, subst, cond, arith, length-take}
+use Rattle.std.specs.Prelude.{◌==◌, nat_lt, if◌then◌else◌}
 use Rattle.std.specs.Option.{option_map_or}
 use Rattle.std.proofs.lemmas.List.{take-append-drop}
-use lib.Utf8.{scalar, encode}
+use lib.Utf8.{encode}
 use Rattle.op_token.specs.declared.character.Character.{Character}
 use Rattle.op_token.specs.declared.escape.Escape.{Escape}
 use Rattle.op_token.specs.declared.set.Set.{Set}
-use Rattle.op_token.specs.declared.set.Set.TheVariants.{Word, Symbol as symbols, Decimal, Hexadecimal, Octal, Binary}
-use Rattle.op_token.specs.declared.spelling.Spelling.{Spelling}
-use Rattle.op_token.specs.declared.spelling.Spelling.TheVariants.{Gap, Whole, Fault}
-use Rattle.op_token.specs.declared.token.TokenKind.{TokenKind}
-use Rattle.op_token.specs.declared.token.TokenKind.TheVariants.{Name, QuotedName, Variable, Integer, Text, End}
-use Rattle.op_token.specs.declared.token.TokenFaultKind.TheVariants.{BadChar, OpenQuote, BadEscape, BadNumber, NumberRange}
+use Rattle.op_token.specs.declared.set.Set.TheVariants.{Hexadecimal, Octal}
 use Rattle.op_token.specs.Set.{run, has, begins_with}
 use Rattle.op_token.specs.Character.{is_scalar, char_at, first_char}
-use Rattle.op_token.specs.Spelling.{fault, simple_escape, number_of, numbered, escape_at, quoted_from, ranged, least_magnitude, based, is_fraction, decimal, escaped_code_at, code_at, number_at}
+use Rattle.op_token.specs.Spelling.{simple_escape, number_of, numbered, escape_at}
 use Rattle.op_token.proofs.Within.{if_either, map_either, char_within}
 use Rattle.op_token.proofs.Characters.{IsRead, char_is, char_reads}
 

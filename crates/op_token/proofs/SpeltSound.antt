@@ -188,7 +188,7 @@ dot_before b (c ∷ s) t q = go (has symbols c) t q
     go true t q = cc
     go false t q = sym (ends_same (c ∷ s)) ∙ t
 
-rest_same : {x y : ℕ} {xs ys : List ℕ} → x ∷ xs ≡ y ∷ ys → xs ≡ ys
+pub rest_same : {x y : ℕ} {xs ys : List ℕ} → x ∷ xs ≡ y ∷ ys → xs ≡ ys
 rest_same h = cc
 
 dot_stands : (at : ℕ) (minus : Bool) (b : ℕ) (s : List ℕ) (kind : TokenKind) (e : ℕ) → (b == 46) ≡ true

@@ -98,9 +98,10 @@ pub data IsEscape (s : List ℕ) (value : Option ℕ) : Type 0 where
       → s ≡ codes "x" ++ (digits ++ codes "\\") → value ≡ Some n → IsEscape s value
 
 -- one character of a text in quotes, and the bytes that it stands for: itself, but no quote, backslash or newline; the quote doubled,
--- which is one quote; or an escape, which is its character, and nothing where it has none
+-- for one quote; or an escape, for its character in UTF-8, and for nothing where the backslash stands before a newline
 pub data IsQuotedCharacter (quote : ℕ) (s meant : List ℕ) : Type 0 where
-  plain : (c : ℕ) → IsScalar c → is_one_of (quote ∷ codes "\\\n") c ≡ false → s ≡ encode_utf8 c → meant ≡ s → IsQuotedCharacter quote s meant
+  plain : (c : ℕ) → IsScalar c → is_one_of (quote ∷ codes "\\\n") c ≡ false → s ≡ encode_utf8 c → meant ≡ s
+      → IsQuotedCharacter quote s meant
   doubled : s ≡ quote ∷ quote ∷ [] → meant ≡ quote ∷ [] → IsQuotedCharacter quote s meant
   escaped : (e : List ℕ) (value : Option ℕ) → IsEscape e value → s ≡ 92 ∷ e → meant ≡ option_map_or encode_utf8 value []
       → IsQuotedCharacter quote s meant
@@ -108,7 +109,8 @@ pub data IsQuotedCharacter (quote : ℕ) (s meant : List ℕ) : Type 0 where
 -- some characters of a text in quotes, one behind the other, and the bytes that they stand for
 pub data AreQuoted (quote : ℕ) : List ℕ → List ℕ → Type 0 where
   no_characters : AreQuoted quote [] []
-  one_more : (c meant s rest : List ℕ) → IsQuotedCharacter quote c meant → AreQuoted quote s rest → AreQuoted quote (c ++ s) (meant ++ rest)
+  one_more : (c meant s rest : List ℕ) → IsQuotedCharacter quote c meant → AreQuoted quote s rest
+      → AreQuoted quote (c ++ s) (meant ++ rest)
 
 -- a text between two quotes, and the bytes that it stands for
 pub record IsQuoted (quote : ℕ) (s meant : List ℕ) : Type 0 where

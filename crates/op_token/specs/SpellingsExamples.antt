@@ -83,6 +83,9 @@ a_sign_is_a_newline = record {
   whole = refl;
 }
 
+pub a_continued_line_and_a_quote : text_from 39 0 (codes "a\\\nb''c' d") ≡ codes "ab'c"
+a_continued_line_and_a_quote = refl
+
 pub a_line_goes_on : StandsFor Text (codes "\"\\\n\"") []
 a_line_goes_on = record {
   inside = codes "\\\n";
@@ -201,6 +204,19 @@ no_digit = (no_hexadecimal (codes "g") refl refl, refl)
 
 pub a_newline_behind_a_backslash : IsFault false BadNumber (codes "0'\\\n") 0
 a_newline_behind_a_backslash = (newline_code [] refl, refl)
+
+pub a_letter_is_no_escape : begins 0 false (codes "'\\q'") ≡ fault 1 BadEscape
+a_letter_is_no_escape = refl
+
+pub a_byte_is_no_character : begins 5 false (39 ∷ 255 ∷ 39 ∷ []) ≡ fault 6 BadChar
+a_byte_is_no_character = refl
+
+-- a fault and a comment come before the tokens 0 and /
+pub a_fault_before_a_digit : begins 0 false (codes "0xg") ≡ fault 0 BadNumber
+a_fault_before_a_digit = refl
+
+pub a_comment_before_a_slash : begins 0 false (codes "/**/a") ≡ Gap 4
+a_comment_before_a_slash = refl
 
 out_of_range : IsInRange false 9223372036854775808 → ⊥
 out_of_range (within h) = lt_irrefl 9223372036854775807 h
