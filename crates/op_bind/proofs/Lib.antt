@@ -1,12 +1,12 @@
-pub mod Facts
-pub mod Seen
-pub mod Undoing
-mod Loading
-mod Weighing
-mod Zipping
-mod Turning
-pub mod Unifying
-pub mod Growing
-pub mod Renaming
-pub mod Made
-mod Copying
+mod ArgumentPairs
+pub mod BindingsInvariant
+pub mod ClauseRenaming
+pub mod KeptTerms
+mod LoadedTerms
+mod OccursCheck
+mod ReductionLaws
+pub mod StateGrowth
+mod TermCopies
+pub mod UndoneBindings
+pub mod UnificationLoop
+pub mod ValueHeads

@@ -9,3 +9,10 @@ pub record Grows (old new : State) : Type 0 where
   pub bound_there : length old.bound ≤ length new.bound
   pub bound : oldest (length old.bound) new.bound ≡ old.bound
   pub count : old.count ≤ new.count
+
+-- more may be bound, and all else is as it was
+pub record IsLater (old new : State) : Type 0 where
+  pub terms : new.terms ≡ old.terms
+  pub count : new.count ≡ old.count
+  pub enough : length old.bound ≤ length new.bound
+  pub bound : oldest (length old.bound) new.bound ≡ old.bound

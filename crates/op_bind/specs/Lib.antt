@@ -1,8 +1,6 @@
-pub mod State
-pub mod Sound
 pub mod Grown
+pub mod State
+pub mod Unified
 pub mod Visited
-pub mod Built
-pub mod Loaded
-pub mod Pairs
-pub mod Marks
+pub mod Within
+pub mod inner

@@ -3,7 +3,7 @@ use Rattle.std.specs.Prelude.{ℕ, ◌-◌, ◌<◌, ◌≤◌, List, [], ◌∷
 use Rattle.std.specs.Coded.{Coded, code_by, coded×, coded_ℕ, coded_list}
 use Rattle.op_logic.specs.Term.{Term}
 use Rattle.op_logic.specs.Bind.{Bindings, apply}
-use Rattle.op_logic.specs.Code.{terms_code}
+use Rattle.op_logic.specs.inner.Code.{terms_code}
 use Rattle.op_term.specs.Places.{term_at}
 
 pub record State : Type 0 where

@@ -4,7 +4,7 @@ ghost use Rattle.op_logic.specs.Bind.{lookup, follow};
 ghost use Rattle.op_term.specs.Places.{term_at, args_at};
 ghost use Rattle.op_term.specs.Head.{head};
 ghost use Rattle.op_bind.specs.State.{State, bindings, value_of, undone, mark_of, oldest, IsGoodMark};
-ghost use Rattle.op_bind.specs.Sound.{IsRanked};
+ghost use Rattle.op_bind.specs.inner.Sound.{IsRanked};
 ghost use Rattle.op_bind.specs.Grown.{Grows};
 
 use crate::places::{Mark, Ref};
@@ -28,7 +28,7 @@ pub struct Bindings {
 impl Model for Bindings {
     ghost use Rattle.std.specs.Prelude.{reverse, length};
     ghost use Rattle.op_bind.specs.State.{State, state_code};
-    ghost use Rattle.op_bind.specs.Sound.{IsSound};
+    ghost use Rattle.op_bind.specs.inner.Sound.{IsSound};
 
     ghost Value = { State };
 

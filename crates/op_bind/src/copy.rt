@@ -2,8 +2,8 @@ ghost use Rattle.std.specs.Prelude.{◌≡◌, ◌+◌, ◌<◌, ◌≤◌, ◌+
 ghost use Rattle.op_logic.specs.Term.{Term as SpecTerm, args_of, arity, size, IsWithin};
 ghost use Rattle.op_term.specs.Places.{term_at};
 ghost use Rattle.op_bind.specs.Visited.{visit};
-ghost use Rattle.op_bind.specs.Built.{args_list, argument_count, join, HasArgs, NodesWithin, IsMore};
-ghost use Rattle.op_bind.specs.Sound.{AllWithin};
+ghost use Rattle.op_bind.specs.inner.Built.{args_list, argument_count, join, HasArgs, NodesWithin, IsMore};
+ghost use Rattle.op_bind.specs.Within.{AllWithin};
 
 use op_base::Memory;
 use op_term::{Builder, Fuel, Node, Tree, WalkFault};

@@ -1,7 +1,7 @@
 ghost use Rattle.std.specs.Prelude.{◌≡◌, ◌+◌, ◌<◌, ◌≤◌, ◌^◌, length, OnOk, OnErr, IfOk};
 ghost use Rattle.op_logic.specs.Term.{IsWithin, shift, size};
 ghost use Rattle.op_term.specs.Places.{term_at};
-ghost use Rattle.op_bind.specs.Loaded.{shifted_node, CanShift};
+ghost use Rattle.op_bind.specs.inner.Loaded.{shifted_node, CanShift};
 ghost use Rattle.op_bind.specs.Grown.{Grows};
 ghost use Rattle.op_bind.specs.State.{bindings};
 

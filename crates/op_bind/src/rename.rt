@@ -2,9 +2,10 @@ ghost use Rattle.std.specs.Prelude.{◌≡◌, ◌+◌, ◌<◌, ◌≤◌, ℕ,
 ghost use Rattle.op_logic.specs.Term.{IsWithin, shift};
 ghost use Rattle.op_term.specs.Places.{term_at};
 ghost use Rattle.op_bind.specs.State.{State, bindings};
-ghost use Rattle.op_bind.specs.Sound.{AllWithin, AreBound};
+ghost use Rattle.op_bind.specs.Within.{AllWithin};
+ghost use Rattle.op_bind.specs.inner.Sound.{AreBound};
 ghost use Rattle.op_bind.specs.Grown.{Grows};
-ghost use Rattle.op_bind.specs.Pairs.{unified, with_variables};
+ghost use Rattle.op_bind.specs.Unified.{unified, with_variables};
 
 use crate::bindings::Bindings;
 use crate::places::{Clause, Ref, Unified};

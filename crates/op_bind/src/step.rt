@@ -1,5 +1,5 @@
 ghost use Rattle.std.specs.Prelude.{◌≡◌};
-ghost use Rattle.op_bind.specs.Pairs.{step_of};
+ghost use Rattle.op_bind.specs.inner.Pairs.{step_of};
 
 use op_term::Node;
 

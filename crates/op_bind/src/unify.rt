@@ -4,9 +4,10 @@ ghost use Rattle.op_logic.specs.Bind.{lookup};
 ghost use Rattle.op_logic.specs.Laws.{instance_of, Respects, steps_of};
 ghost use Rattle.op_term.specs.Places.{term_at};
 ghost use Rattle.op_bind.specs.State.{State, bindings, value_of};
-ghost use Rattle.op_bind.specs.Sound.{IsRanked};
-ghost use Rattle.op_bind.specs.Grown.{Grows};
-ghost use Rattle.op_bind.specs.Pairs.{IsLater, turn_of, turned, unified, ArePairs, IsBindTurn, zip};
+ghost use Rattle.op_bind.specs.inner.Sound.{IsRanked};
+ghost use Rattle.op_bind.specs.Grown.{Grows, IsLater};
+ghost use Rattle.op_bind.specs.Unified.{unified};
+ghost use Rattle.op_bind.specs.inner.Pairs.{reduction_of, reduced, ArePairs, IsBindReduction, zip};
 
 use crate::bindings::Bindings;
 use crate::places::{Ref, Unified};
@@ -57,7 +58,7 @@ impl Bindings {
         requires there { r < length self.old.terms }
         requires free { lookup (bindings self.old) v ≡ None }
         requires ranked { IsRanked v (term_at self.old.terms r) }
-        ensures turn { IfOk result (λ went. IsBindTurn went self.old self.new v r (1 + (fuel.old - fuel.new))) }
+        ensures reduction { IfOk result (λ went. IsBindReduction went self.old self.new v r (1 + (fuel.old - fuel.new))) }
         ensures paid { fuel.new ≤ fuel.old }
         ensures later { IsLater self.old self.new }
         ensures spent { result ≡ Err WalkFault.Spent → fuel.old < size (value_of self.old r) }
@@ -80,10 +81,10 @@ impl Bindings {
         requires a_there { a < length self.old.terms }
         requires b_there { b < length self.old.terms }
         requires todo_there { ArePairs (length self.old.terms) (reverse todo.old.items) }
-        ensures turn { IfOk result (λ went. turn_of self.old todo.old.items a b
-            ≡ turned went self.new todo.new.items (fuel.old - fuel.new)) }
+        ensures reduction { IfOk result (λ went. reduction_of self.old todo.old.items a b
+            ≡ reduced went self.new todo.new.items (fuel.old - fuel.new)) }
         ensures paid { fuel.new ≤ fuel.old }
-        ensures spent { result ≡ Err WalkFault.Spent → fuel.old < steps_of (turn_of self.old todo.old.items a b) }
+        ensures spent { result ≡ Err WalkFault.Spent → fuel.old < steps_of (reduction_of self.old todo.old.items a b) }
         ensures later { IsLater self.old self.new }
         ensures todo_there { OnOk result (ArePairs (length self.old.terms) (reverse todo.new.items)) }
     {
@@ -112,8 +113,8 @@ impl Bindings {
             ≡ Some (Some (bindings self.new), fuel.new) }
         ensures no { result ≡ Ok Unified.No → unified fuel.old self.old (term_at self.old.terms a.now) (term_at self.old.terms b.now)
             ≡ Some (None, fuel.new) }
-        ensures spent { result ≡ Err WalkFault.Spent → unified fuel.old self.old (term_at self.old.terms a.now) (term_at self.old.terms b.now)
-            ≡ None }
+        ensures spent { result ≡ Err WalkFault.Spent
+            → unified fuel.old self.old (term_at self.old.terms a.now) (term_at self.old.terms b.now) ≡ None }
         ensures later { IsLater self.old self.new }
         ensures falls { fuel.new ≤ fuel.old }
         ensures grows { Grows self.old self.new }

@@ -1,4 +1,4 @@
-pub mod ShelfLemmas
-pub mod EntryLemmas
-pub mod FrameLemmas
-pub mod WholeLemmas
+pub mod EntryLaws
+pub mod FrameLaws
+pub mod PieceLaws
+pub mod ShelfLaws

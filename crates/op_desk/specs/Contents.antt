@@ -1,5 +1,6 @@
 -- What a desk may tell of its bytes, and what its calls do to them.
-use Rattle.std.specs.Prelude.{◌≡◌, ℕ, ◌<◌, ◌≤◌, true, false, List, [], ◌∷◌, length, take, drop, Option, Some, None, IsSomeAnd, option_map, option_and_then, if◌then◌else◌, bytes_eq, ⊤}
+use Rattle.std.specs.Prelude.{◌≡◌, ℕ, ◌<◌, ◌≤◌, true, false, List, [], ◌∷◌, length, take, drop, Option, Some, None, IsSomeAnd, option_map}
+use Rattle.std.specs.Prelude.{option_and_then, if◌then◌else◌, bytes_eq, ⊤}
 use Rattle.std.specs.Io.KnownBytes.{Appends}
 use Rattle.op_desk.specs.Channel.{is_read, is_dash}
 use Rattle.op_desk.specs.declared.chan.Chan.{Chan}

@@ -1,9 +1,9 @@
-pub mod Channel
-pub mod Frame
-pub mod Contents
 pub mod Answer
-pub mod Entries
+pub mod Channel
 pub mod Channels
-pub mod Source
+pub mod Contents
+pub mod Frame
 pub mod Memory
+pub mod Source
 pub mod System
+pub mod inner

@@ -1,11 +1,14 @@
-ghost use Rattle.std.specs.Prelude.{◌≡◌, ℕ, ◌<◌, ◌⊎◌, ◌↔◌, Bool, true, false, Some, [], ◌++◌, refl, IsTrue, IsErr, IsErrOf, OnOk, OnErr, IfOk, Contains, List, length};
+ghost use Rattle.std.specs.Prelude.{◌≡◌, ℕ, ◌<◌, ◌⊎◌, ◌↔◌, Bool, true, false, Some, [], ◌++◌, refl, IsTrue, IsErr, IsErrOf, OnOk, OnErr};
+ghost use Rattle.std.specs.Prelude.{IfOk, Contains, List, length};
 ghost use Rattle.std.specs.Io.{ReadsAtMost, WritesAtMost};
 ghost use Rattle.std.specs.Io.KnownBytes.{ReadConsumes, WriteAppends};
 ghost use Rattle.op_desk.specs.Answer.{Counts, Steady, own_count, other_count};
 ghost use Rattle.op_desk.specs.Channel.{is_read};
 ghost use Rattle.op_desk.specs.Contents.{IsMissing, CannotAttach, Gives, attached, emptied};
 ghost use Rattle.op_desk.specs.Frame.{Each, Same, SameBut, Becomes};
-ghost use Rattle.op_desk.specs.Memory.{left_of, written_of, shelf_of, standard_of, fresh_of, failing_of, never_fails, read_faults_of, write_faults_of, attaches_of, takes_of, puts_of, fetches_of, one_more, AttachFails, TakeFails, PutFails, FetchFails, is_empty};
+ghost use Rattle.op_desk.specs.Memory.{left_of, written_of, shelf_of, standard_of, fresh_of, failing_of, never_fails, read_faults_of};
+ghost use Rattle.op_desk.specs.Memory.{write_faults_of, attaches_of, takes_of, puts_of, fetches_of, one_more, AttachFails, TakeFails};
+ghost use Rattle.op_desk.specs.Memory.{PutFails, FetchFails, is_empty};
 ghost use Rattle.op_desk.specs.Channels.{at};
 ghost use Rattle.op_desk.specs.Source.{told};
 
@@ -126,7 +129,8 @@ impl Desk for MemoryDesk {
     fn attach(&mut self, chan: Chan, name: &str) -> Result<(), DeskFault>
         requires { IsTrue (fresh_of self.old chan) }
         ensures reads { OnOk result (is_read chan ≡ true → Becomes chan
-            (attached (Some (shelf_of self.old)) (Some (standard_of self.old chan)) name.now) (told (left_of self.old)) (told (left_of self.new))) }
+            (attached (Some (shelf_of self.old)) (Some (standard_of self.old chan)) name.now)
+            (told (left_of self.old)) (told (left_of self.new))) }
         ensures writes { OnOk result (is_read chan ≡ false → Becomes chan
             (emptied (Some (written_of self.old chan))) (told (written_of self.old)) (told (written_of self.new))) }
         ensures left_stays { OnOk result (is_read chan ≡ false → Same (told (left_of self.old)) (told (left_of self.new))) }

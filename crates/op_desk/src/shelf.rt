@@ -1,6 +1,7 @@
-ghost use Rattle.std.specs.Prelude.{◌≡◌, ◌<◌, ◌≤◌, [], ◌++◌, ◌∷◌, None, Some, OnOk, OnErr, IfOk, IfSome, IfNone, MatchOption, vec_len, length, string_bytes, slice_index_or, slice_set};
+ghost use Rattle.std.specs.Prelude.{◌≡◌, ◌<◌, ◌≤◌, [], ◌++◌, ◌∷◌, None, Some, OnOk, OnErr, IfOk, IfSome, IfNone, MatchOption, vec_len};
+ghost use Rattle.std.specs.Prelude.{length, string_bytes, slice_index_or, slice_set};
 ghost use Rattle.op_desk.specs.Contents.{FileGives, Gives, IsNamedOnce, bytes_of, with_file};
-ghost use Rattle.op_desk.specs.Entries.{files_of, Holds};
+ghost use Rattle.op_desk.specs.inner.Entries.{files_of, Holds};
 
 use crate::bytes::Bytes;
 use crate::source::copy_front;
@@ -27,7 +28,7 @@ impl Model for Shelf {
 
     ghost Value = { Files };
 
-    ghost use Rattle.op_desk.specs.Entries.{files_of};
+    ghost use Rattle.op_desk.specs.inner.Entries.{files_of};
 
     ghost view = { λ a. files_of a.entries.items };
 

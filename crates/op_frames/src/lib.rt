@@ -8,6 +8,6 @@ pub mod laws;
 mod open_boxes;
 
 pub use boxes::BoxFrame;
-pub use choice::{Choice, ChoiceKind};
+pub use choice::Choice;
 pub use frames::Frames;
 pub use open_boxes::OpenBoxes;

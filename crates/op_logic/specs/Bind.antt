@@ -1,6 +1,7 @@
 -- Bindings, and the unifier of pairs of terms with the count of its steps (ISO/IEC 13211-1, 7.3; the occurs check is in
 -- every binding, and the count of steps is this project's own).
-use Rattle.std.specs.Prelude.{ℕ, zero, suc, ◌+◌, ◌==◌, nat_le, ◌-◌, Bool, false, ◌&&◌, List, [], ◌∷◌, if◌then◌else◌, Option, Some, None, max, min}
+use Rattle.std.specs.Prelude.{ℕ, zero, suc, ◌+◌, ◌==◌, nat_le, ◌-◌, Bool, false, ◌&&◌, List, [], ◌∷◌, if◌then◌else◌, Option, Some, None}
+use Rattle.std.specs.Prelude.{max, min}
 use Rattle.std.specs.Ordering.{int_eq}
 use Rattle.op_logic.specs.Term.{Term, var, int, node, Args, arg, args_of, size, arity, occurs, replace}
 
@@ -32,17 +33,17 @@ abbrev pub Pairs : Type 0 → Type 0
 Pairs N = List (Term N × Term N)
 
 -- what one pair comes to, and the steps that it counts
-pub data Turn (N : Type 0) : Type 0 where
-  clash : ℕ → Turn N
-  goes : Bindings N → Pairs N → ℕ → Turn N
+pub data Reduction (N : Type 0) : Type 0 where
+  clash : ℕ → Reduction N
+  goes : Bindings N → Pairs N → ℕ → Reduction N
 
 abbrev pub zip_args : {N : Type 0} → Args N → Args N → Pairs N → Pairs N
 zip_args (arg t ts) (arg u us) ps = (t, u) ∷ zip_args ts us ps
 zip_args _ _ ps = ps
 
 -- a variable that is not bound, and another term
-abbrev pub bind_turn : {N : Type 0} → ℕ → Term N → Bindings N → Pairs N → Turn N
-bind_turn v t σ ps =
+abbrev pub bind_reduction : {N : Type 0} → ℕ → Term N → Bindings N → Pairs N → Reduction N
+bind_reduction v t σ ps =
     let s : Term _ = apply σ t in
     if occurs v s then clash (1 + size s) else goes ((v, t) ∷ σ) ps (1 + size s)
 
@@ -53,14 +54,14 @@ same_head eq (node f ts) (node g us) = eq f g && (arity ts == arity us)
 same_head eq _ _ = false
 
 -- two terms that were followed: of two variables the greater is bound to the lesser
-abbrev pub meet : {N : Type 0} → (N → N → Bool) → Term N → Term N → Bindings N → Pairs N → Turn N
-meet eq (var v) (var w) σ ps = if v == w then goes σ ps 1 else bind_turn (max v w) (var (min v w)) σ ps
-meet eq (var v) u σ ps = bind_turn v u σ ps
-meet eq t (var w) σ ps = bind_turn w t σ ps
+abbrev pub meet : {N : Type 0} → (N → N → Bool) → Term N → Term N → Bindings N → Pairs N → Reduction N
+meet eq (var v) (var w) σ ps = if v == w then goes σ ps 1 else bind_reduction (max v w) (var (min v w)) σ ps
+meet eq (var v) u σ ps = bind_reduction v u σ ps
+meet eq t (var w) σ ps = bind_reduction w t σ ps
 meet eq t u σ ps = if same_head eq t u then goes σ (zip_args (args_of t) (args_of u) ps) 1 else clash 1
 
-abbrev pub turn : {N : Type 0} → (N → N → Bool) → Bindings N → Term N → Term N → Pairs N → Turn N
-turn eq σ a b ps = meet eq (follow σ a) (follow σ b) σ ps
+abbrev pub reduction : {N : Type 0} → (N → N → Bool) → Bindings N → Term N → Term N → Pairs N → Reduction N
+reduction eq σ a b ps = meet eq (follow σ a) (follow σ b) σ ps
 
 -- the unifier, or None where there is none, with the count
 abbrev pub Solved : Type 0 → Type 0
@@ -70,8 +71,8 @@ abbrev pub add_steps : {N : Type 0} → ℕ → Option (Solved N) → Option (So
 add_steps c None = None
 add_steps c (Some r) = Some (r.0, c + r.1)
 
--- what a turn leaves to solve
-abbrev pub after : {N : Type 0} → Turn N → (Bindings N → Pairs N → Option (Solved N)) → Option (Solved N)
+-- what a reduction leaves to solve
+abbrev pub after : {N : Type 0} → Reduction N → (Bindings N → Pairs N → Option (Solved N)) → Option (Solved N)
 after (clash c) rest = Some (None, c)
 after (goes σ ps c) rest = add_steps c (rest σ ps)
 
@@ -79,7 +80,7 @@ after (goes σ ps c) rest = add_steps c (rest σ ps)
 abbrev pub solve : {N : Type 0} → (N → N → Bool) → ℕ → Bindings N → Pairs N → Option (Solved N)
 solve eq k σ [] = Some (Some σ, 0)
 solve eq zero σ (p ∷ ps) = None
-solve eq (suc k) σ (p ∷ ps) = after (turn eq σ p.0 p.1 ps) (λ τ qs. solve eq k τ qs)
+solve eq (suc k) σ (p ∷ ps) = after (reduction eq σ p.0 p.1 ps) (λ τ qs. solve eq k τ qs)
 
 -- with so many steps left: the result and the steps that are left then, or None where they are spent
 abbrev pub within : {A : Type 0} → ℕ → Option (A × ℕ) → Option (A × ℕ)

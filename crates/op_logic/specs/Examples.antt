@@ -11,7 +11,9 @@ pub a_variable_and_a_term : solve nat_eq 9 [] ((var 0, five) ∷ []) ≡ Some (S
 a_variable_and_a_term = refl
 
 -- s(X,f(X)) and s(Y,Y): X is bound to Y, and then Y occurs in f(Y)
-pub an_occurs_check : solve nat_eq 9 [] ((node 0 (arg (var 0) (arg (node 1 (arg (var 0) no_args)) no_args)), node 0 (arg (var 1) (arg (var 1) no_args))) ∷ []) ≡ Some (None, 6)
+pub an_occurs_check : solve nat_eq 9 []
+    ((node 0 (arg (var 0) (arg (node 1 (arg (var 0) no_args)) no_args)), node 0 (arg (var 1) (arg (var 1) no_args))) ∷ [])
+    ≡ Some (None, 6)
 an_occurs_check = refl
 
 -- of two variables the greater is bound to the lesser

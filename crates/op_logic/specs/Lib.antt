@@ -1,6 +1,6 @@
-pub mod Term
-pub mod Code
-pub mod Names
 pub mod Bind
-pub mod Laws
 pub mod Examples
+pub mod Laws
+pub mod Names
+pub mod Term
+pub mod inner

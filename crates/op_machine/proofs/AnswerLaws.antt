@@ -1,7 +1,8 @@
 -- What the parts of a machine come to is what its calls answer.
 use Rattle.std.proofs.Common.{◌≡◌, ℕ, Bool, false, List, [], ◌∷◌, refl, sym, ap, ◌∙◌, append-nil}
 use Rattle.op_trace.specs.declared.barrier.Barrier.TheVariants.{Call}
-use Rattle.op_trace.specs.World.{World, Setup, Turn, Goal, loaded}
+use Rattle.op_trace.specs.World.{World, Turn, Goal, loaded}
+use Rattle.op_trace.specs.Act.{Setup, setup_for}
 use Rattle.op_trace.specs.Visit.{Verdict, Failed, CutTo, Stopped, Spent, Visited, gives, with_turns, and_then, visit}
 use Rattle.op_trace.specs.Ending as ending
 use Rattle.op_trace.specs.Run.{ran, run, started, ending_of}
@@ -12,8 +13,8 @@ use Rattle.op_machine.specs.declared.core_state.Ending.TheVariants as outcome
 use Rattle.op_machine.specs.declared.turn.Last.{Last}
 use Rattle.op_machine.specs.declared.turn.Turn as declared
 use Rattle.op_machine.specs.declared.turn.Turn.TheVariants as turn
-use Rattle.op_store.specs.Stored.{Stored}
-use Rattle.op_machine.specs.Program.{clauses, goal_named}
+use Rattle.op_store.specs.Stored.{Stored, database_of}
+use Rattle.op_machine.specs.Program.{goal_named}
 use Rattle.op_machine.specs.Meaning.{state_of, world_in, verdict_of}
 use Rattle.op_machine.specs.Resume.{State, at_top, owed, resume}
 use Rattle.op_machine.specs.Machine.{kept_of, to_come, only_ending, ending_for, last_after, Answers}
@@ -33,13 +34,13 @@ resume-none s v = ended v.turns v.verdict v.world
 
 pub begun-run : (t : Stored) (g : Term ℕ) (n : ℕ) (names : List (List ℕ × ℕ)) (b w : ℕ) (c : Core) (l : Last) (f : Bool)
     → IsBegun t g n names b w c
-    → to_come (kept_of c l f) ≡ run (record { budget = b; wanted = w }) (goal_named t g) n (loaded (clauses t))
+    → to_come (kept_of c l f) ≡ run (setup_for b w) (goal_named t g) n (loaded (database_of t))
 unfolding to_come owed
 begun-run t g n names b w c l f h =
-    let s : Setup = record { budget = b; wanted = w } in
+    let s : Setup = setup_for b w in
     ap (λ (x : Setup). ran (owed x (state_of c))) h.setup
     ∙ (ap (λ (x : State). ran (owed s x)) h.state
-    ∙ resume-none s (visit s (Goal (goal_named t g) (Call 0) ∷ []) [] (started n (loaded (clauses t)))))
+    ∙ resume-none s (visit s (Goal (goal_named t g) (Call 0) ∷ []) [] (started n (loaded (database_of t)))))
 
 ending-same : (e : Ending) → ending_of (verdict_of e) ≡ ending_for e
 ending-same outcome.Stopped = refl

@@ -6,11 +6,13 @@ use Rattle.op_logic.specs.Term.{Term, shift}
 use Rattle.op_logic.specs.Bind.{Bindings, Solved as Result}
 use Rattle.op_trace.specs.declared.barrier.Barrier.{Barrier}
 use Rattle.op_trace.specs.declared.barrier.Barrier.TheVariants.{Call, InCondition, AtSuccess}
-use Rattle.op_trace.specs.World.{Text, Clause, World, Setup, Item, Goal, Cut, Exit, Has, procedure}
+use Rattle.op_trace.specs.Database.{Text, Clause}
+use Rattle.op_trace.specs.World.{World, Tries, First, Item, Goal, Cut, Exit, Try, Has}
+use Rattle.op_trace.specs.Act.{Yield, Fails, Gives, Gives_again, Act, Setup}
 use Rattle.op_trace.specs.Visit.{Stopped, Control, TrueGoal, FailGoal, CutGoal, Conjunction, Disjunction, IfThenElse, BoxedGoal, control}
-use Rattle.op_trace.specs.Visit.{is_true, entered, Choice, Redo, Branch, More, Fail, Condition}
+use Rattle.op_trace.specs.Visit.{Inside, Clauses, Tried, inside, counted_as, is_true, entered, Choice, Redo, Branch, More, Again, Fail, Condition}
 use Rattle.op_machine.specs.Resume.{stays, goes, keep, with_more, State, Forward, Backward, Over, Moved, paid, chosen, head_unified, tried}
-use Rattle.op_machine.specs.Resume.{branched, move}
+use Rattle.op_machine.specs.Resume.{branched, entered_state, acted, yielded, tried_again, move}
 use Rattle.op_machine.specs.inner.Barriers.{Behind, Scoped, IsGiven, IsGoalBarrier, AreGiven, AreScoped, InStep}
 
 -- no choice point is dropped as the last by a cut of a goal
@@ -18,6 +20,7 @@ pub goal-goes : (c d : ℕ) (x : Choice) (m : Barrier) → IsGoalBarrier c d m �
 goal-goes c d (Redo k g σ J) m h = refl
 goal-goes c d (Branch t b σ J) m h = refl
 goal-goes c d (More cs k g σ J) m h = refl
+goal-goes c d (Again t k g σ J) m h = refl
 goal-goes c d (Fail k g σ J) m h = refl
 goal-goes c d (Condition n t b σ J) (Call k) h = refl
 goal-goes c d (Condition n t b σ J) (InCondition k) h = refl
@@ -55,6 +58,7 @@ scoped-along K L (Cut m ∷ J) same s = (
   scoped-along K L J (λ n h. same n (inr h)) s.1,
 )
 scoped-along K L (Exit k g ∷ J) same s = scoped-along K L J same s
+scoped-along K L (Try t k g ∷ J) same s = scoped-along K L J same s
 
 pub goal-given : (c d : ℕ) (m : Barrier) → IsGoalBarrier c d m → IsGiven c d m
 goal-given c d (Call k) h = h
@@ -67,6 +71,7 @@ has-given c d (Goal t b ∷ J) m a h =
     elim h [ inl e ↦ subst (IsGiven c d) (sym e) (goal-given c d b a.0) | inr r ↦ has-given c d J m a.1 r ]
 has-given c d (Cut b ∷ J) m a h = elim h [ inl e ↦ subst (IsGiven c d) (sym e) a.0 | inr r ↦ has-given c d J m a.1 r ]
 has-given c d (Exit k g ∷ J) m a h = has-given c d J m a h
+has-given c d (Try t k g ∷ J) m a h = has-given c d J m a h
 
 module _ (c d x y : ℕ) (more : c ≤ x) (over : d ≤ y) where
   pub barrier-more : (m : Barrier) → IsGoalBarrier c d m → IsGoalBarrier x y m
@@ -84,12 +89,14 @@ module _ (c d x y : ℕ) (more : c ≤ x) (over : d ≤ y) where
   given-more (Goal t b ∷ J) a = (barrier-more b a.0, given-more J a.1)
   given-more (Cut b ∷ J) a = (one-more b a.0, given-more J a.1)
   given-more (Exit k g ∷ J) a = given-more J a
+  given-more (Try t k g ∷ J) a = given-more J a
 
   pub scoped-more : (K : List Choice) → AreScoped c d K → AreScoped x y K
   scoped-more [] a = tt
   scoped-more (Redo k g σ J ∷ K) a = (tt, scoped-more K a.1)
   scoped-more (Branch t m σ J ∷ K) a = ((a.0.0, given-more (Goal t m ∷ J) a.0.1), scoped-more K a.1)
   scoped-more (More cs k g σ J ∷ K) a = ((a.0.0, a.0.1, omega arith, given-more J a.0.3), scoped-more K a.1)
+  scoped-more (Again t k g σ J ∷ K) a = ((a.0.0, given-more J a.0.1), scoped-more K a.1)
   scoped-more (Fail k g σ J ∷ K) a = (tt, scoped-more K a.1)
   scoped-more (Condition n t m σ J ∷ K) a = ((a.0.0, given-more (Goal t m ∷ J) a.0.1), scoped-more K a.1)
 
@@ -163,6 +170,13 @@ if_then_else_chosen-scoped c d n t u e m σ J K h a fresh s =
       ((λ x has. ap (keep x) (keep-past n m e σ J K) ∙ sym (same x has)), scoped-along K L (Goal u m ∷ J) same s),
     )
 
+-- a box that was entered, over its own choice point
+pub box-in_step : (i : Inside) (k : ℕ) (g : Term Text) (J : List Item) (L : List Choice) (σ : Bindings Text) (w : World)
+    → keep (Call k) L ≡ L → Scoped L J → k ≤ w.calls → AreGiven w.calls w.conditions J → AreScoped w.calls w.conditions L
+    → InStep (entered_state i k g J L σ w)
+box-in_step (Clauses cs) k g J L σ w own s h a all = more-scoped w.calls w.conditions cs k g σ J L own s h a all
+box-in_step Tried k g J L σ w own s h a all = (s, a, all)
+
 pub chosen-in_step : (q : Control) (t : Term Text) (m : Barrier) (J : List Item) (K : List Choice) (σ : Bindings Text) (w : World)
     → Behind m K J → Scoped K J → IsGoalBarrier w.calls w.conditions m → AreGiven w.calls w.conditions J → AreScoped w.calls w.conditions K
     → InStep (chosen q t m J K σ w).state
@@ -190,7 +204,7 @@ chosen-in_step BoxedGoal t m J K σ w b s h a all =
     let same : w.conditions ≤ w.conditions = omega arith in
     let fresh : w.calls < k = omega arith in
     let given : AreGiven (w.calls + 1) w.conditions J = given-more w.calls w.conditions (w.calls + 1) w.conditions more same J a in
-    more-scoped (w.calls + 1) w.conditions (procedure w.clauses t) k t σ J L (keep-own k t σ J K)
+    box-in_step (inside w.database t) k t J L σ (record w { calls = w.calls + 1; events = w.events + 1 }) (keep-own k t σ J K)
     (scoped-along K L J (λ n has. keep-fresh w.calls w.conditions k n t σ J K (has-given w.calls w.conditions J n a has) fresh) s)
     (omega arith) given
     (tt, scoped-more w.calls w.conditions (w.calls + 1) w.conditions more same K all)
@@ -237,6 +251,17 @@ pub branched-in_step : (s : Setup) (t : Term Text) (m : Barrier) (σ : Bindings 
     → InStep (branched s t m σ J K w).state
 branched-in_step s t m σ J K w sc a all = paid-in_step (nat_le (w.steps + 1) s.budget) s 1 w _ (sc, a, all)
 
+pub acted-in_step : (t : Bool) (s : Setup) (a : Act) (k : ℕ) (g : Term Text) (J : List Item) (K : List Choice) (σ : Bindings Text) (w : World)
+    → Scoped K J → AreGiven w.calls w.conditions J → AreScoped w.calls w.conditions K
+    → InStep (acted t s a w (yielded k g J K σ)).state
+acted-in_step true s a k g J K σ w sc gi all = go a.yield
+  where
+    go : (y : Yield) → InStep (yielded k g J K σ y (record (counted_as w a.after) { steps = w.steps + a.cost })).state
+    go Fails = all
+    go (Gives τ) = (sc, gi, all)
+    go (Gives_again τ x) = (sc, gi, ((sc, gi), all))
+acted-in_step false s a k g J K σ w sc gi all = tt
+
 pub move-in_step : (s : Setup) (t : State) → InStep t → InStep (move s t).state
 move-in_step s (Forward [] K σ w) h = go (w.solutions + 1 == s.wanted)
   where
@@ -247,6 +272,9 @@ move-in_step s (Forward [] K σ w) h = go (w.solutions + 1 == s.wanted)
 move-in_step s (Forward (Exit k g ∷ J) K σ w) h =
     (h.0, h.1, (tt, h.2))
 move-in_step s (Forward (Cut m ∷ J) K σ w) h = (scoped-along K (keep m K) J h.0.0 h.0.1, h.1.1, keep-scoped w.calls w.conditions m K h.2)
+move-in_step s (Forward (Try t k g ∷ J) K σ w) h =
+    let a : Act = s.act (s.budget - w.steps) t g σ w in
+    acted-in_step (nat_le (w.steps + a.cost) s.budget) s a k g J K σ w h.0 h.1 h.2
 move-in_step s (Forward (Goal t m ∷ J) K σ w) h =
     paid-in_step (nat_le (w.steps + 1) s.budget) s 1 w _
     (chosen-in_step (control t) t m J K σ (record w { steps = w.steps + 1 }) h.0.0 h.0.1 h.1.0 h.1.1 h.2)
@@ -254,6 +282,7 @@ move-in_step s (Backward [] w) h = tt
 move-in_step s (Backward (Redo k g σ J ∷ K) w) h = h.1
 move-in_step s (Backward (Branch t m σ J ∷ K) w) h = branched-in_step s t m σ J K w h.0.0 h.0.1 h.1
 move-in_step s (Backward (Condition n t m σ J ∷ K) w) h = branched-in_step s t m σ J K w h.0.0 h.0.1 h.1
+move-in_step s (Backward (Again t k g σ J ∷ K) w) h = paid-in_step (nat_le (w.steps + 1) s.budget) s 1 w _ (h.0.0, h.0.1, h.1)
 move-in_step s (Backward (Fail k g σ J ∷ K) w) h = h.1
 move-in_step s (Backward (More [] k g σ J ∷ K) w) h = h.1
 move-in_step s (Backward (More (c ∷ cs) k g σ J ∷ K) w) h = tried-in_step s c cs k g σ J K w h.0.0 h.0.1 h.0.2 h.0.3 h.1

@@ -6,12 +6,14 @@ use Rattle.op_logic.specs.Term.{Term, shift}
 use Rattle.op_logic.specs.Bind.{Bindings, solve, unify, Solved as Result}
 use Rattle.op_trace.specs.declared.barrier.Barrier.{Barrier}
 use Rattle.op_trace.specs.declared.barrier.Barrier.TheVariants.{Call}
-use Rattle.op_trace.specs.World.{Text, text_eq, Clause, World, Setup, Item, Goal, Cut, Exit, open_boxes, procedure}
+use Rattle.op_trace.specs.Database.{Text, text_eq, Clause}
+use Rattle.op_trace.specs.World.{World, Tries, First, Item, Goal, Cut, Exit, Try, open_boxes}
+use Rattle.op_trace.specs.Act.{Yield, Fails, Gives, Gives_again, Act, Setup}
 use Rattle.op_trace.specs.Visit.{Stopped, Control, TrueGoal, FailGoal, CutGoal, Conjunction, Disjunction, IfThenElse, BoxedGoal, control}
-use Rattle.op_trace.specs.Visit.{is_true, entered, Choice, Redo, Branch, More, Fail, Condition}
-use Rattle.op_trace.proofs.Later.{IsLess, within-less}
+use Rattle.op_trace.specs.Visit.{Inside, Clauses, Tried, inside, counted_as, is_true, entered, Choice, Redo, Branch, More, Again, Fail, Condition}
+use Rattle.op_trace.proofs.WalkSteps.{IsLess, within-less}
 use Rattle.op_machine.specs.Resume.{stays, goes, keep, with_more, State, Forward, Backward, Over, Moved, paid, chosen, head_unified, tried}
-use Rattle.op_machine.specs.Resume.{branched, move}
+use Rattle.op_machine.specs.Resume.{branched, entered_state, acted, yielded, tried_again, move}
 use Rattle.op_machine.specs.inner.Bounds.{pending, IsNested, AreNested, event_bound, Counts, Counted}
 
 -- the bound rises with the steps
@@ -35,11 +37,13 @@ nested-more n m [] h i = tt
 nested-more n m (Goal t b ∷ J) h i = nested-more n m J h i
 nested-more n m (Cut b ∷ J) h i = (i.0, nested-more n m J h i.1)
 nested-more n m (Exit k g ∷ J) h i = (i.0, omega arith, nested-more n m J h i.2)
+nested-more n m (Try t k g ∷ J) h i = (i.0, omega arith, nested-more n m J h i.2)
 
 pub all-nested-more : (n m : ℕ) (K : List Choice) → n ≤ m → AreNested n K → AreNested m K
 all-nested-more n m [] h a = tt
 all-nested-more n m (Redo k g σ J ∷ K) h a = (nested-more n m (Exit k g ∷ J) h a.0, all-nested-more n m K h a.1)
 all-nested-more n m (More cs k g σ J ∷ K) h a = (nested-more n m (Exit k g ∷ J) h a.0, all-nested-more n m K h a.1)
+all-nested-more n m (Again t k g σ J ∷ K) h a = (nested-more n m (Exit k g ∷ J) h a.0, all-nested-more n m K h a.1)
 all-nested-more n m (Branch t b σ J ∷ K) h a = (nested-more n m J h a.0, all-nested-more n m K h a.1)
 all-nested-more n m (Condition c t b σ J ∷ K) h a = (nested-more n m J h a.0, all-nested-more n m K h a.1)
 all-nested-more n m (Fail k g σ J ∷ K) h a = (nested-more n m (Exit k g ∷ J) h a.0, all-nested-more n m K h a.1)
@@ -50,11 +54,13 @@ nested-length n [] i = omega arith
 nested-length n (Goal t b ∷ J) i = nested-length n J i
 nested-length n (Cut b ∷ J) i = nested-length n J i.1
 nested-length n (Exit k g ∷ J) i = omega (arith, i.0, i.1)
+nested-length n (Try t k g ∷ J) i = omega (arith, i.0, i.1)
 
 pub pending-below : (c : Choice) (K : List Choice) → pending K ≤ pending (c ∷ K)
 pending-below (Redo k g σ J) K = omega arith
 pending-below (Branch t m σ J) K = omega arith
 pending-below (More cs k g σ J) K = omega arith
+pending-below (Again t k g σ J) K = omega arith
 pending-below (Fail k g σ J) K = omega arith
 pending-below (Condition n t m σ J) K = omega arith
 
@@ -62,6 +68,7 @@ pub nested-below : (n : ℕ) (c : Choice) (K : List Choice) → AreNested n (c �
 nested-below n (Redo k g σ J) K a = a.1
 nested-below n (Branch t m σ J) K a = a.1
 nested-below n (More cs k g σ J) K a = a.1
+nested-below n (Again t k g σ J) K a = a.1
 nested-below n (Fail k g σ J) K a = a.1
 nested-below n (Condition c t m σ J) K a = a.1
 
@@ -106,6 +113,15 @@ pub more-pending : (cs : List Clause) (k : ℕ) (g : Term Text) (σ : Bindings T
     → pending (with_more cs k g σ J K) ≡ pending K
 more-pending [] k g σ J K = refl
 more-pending (c ∷ cs) k g σ J K = refl
+
+-- a box that was entered, over its own choice point
+pub box-counted : (i : Inside) (s : Setup) (k : ℕ) (g : Term Text) (J : List Item) (K : List Choice) (σ : Bindings Text) (w : World)
+    → Counts s w → w.solutions ≤ w.steps → w.events + (2 * suc (length (open_boxes J)) + pending K) ≤ event_bound w.steps
+    → IsNested w.calls (Exit k g ∷ J) → AreNested w.calls K
+    → Counted s (entered_state i k g J K σ w)
+box-counted (Clauses cs) s k g J K σ w counts sol ev nest all =
+    (counts, omega (arith, ev, more-pending cs k g σ J K), omega (arith, sol), more-nested w.calls cs k g σ J K nest all)
+box-counted Tried s k g J K σ w counts sol ev nest all = (counts, ev, sol, nest, all)
 
 -- a goal of which a step was paid, from n steps
 pub chosen-counted : (q : Control) (s : Setup) (n : ℕ) (t : Term Text) (m : Barrier) (J : List Item) (K : List Choice) (σ : Bindings Text)
@@ -156,13 +172,10 @@ chosen-counted q s n t m J K σ w e below c con sol ev nest all = go q
         let deep : length (open_boxes J) ≤ w.calls = nested-length w.calls J nest in
         let this : IsNested (w.calls + 1) (Exit (w.calls + 1) t ∷ J) =
         (omega arith, omega arith, nested-more w.calls (w.calls + 1) J more nest) in
-        let cs : List Clause = procedure w.clauses t in (
-          record { steps = below; calls = omega arith; conditions = omega arith },
-          omega (arith, up, more-pending cs (w.calls + 1) t σ J (Fail (w.calls + 1) t σ J ∷ K)),
-          omega arith,
-          more-nested (w.calls + 1) cs (w.calls + 1) t σ J (Fail (w.calls + 1) t σ J ∷ K) this
-              (this, all-nested-more w.calls (w.calls + 1) K more all),
-        )
+        box-counted (inside w.database t) s (w.calls + 1) t J (Fail (w.calls + 1) t σ J ∷ K) σ
+        (record w { calls = w.calls + 1; events = w.events + 1 })
+        (record { steps = below; calls = omega arith; conditions = omega arith }) (omega arith) (omega (arith, up))
+        this (this, all-nested-more w.calls (w.calls + 1) K more all)
 
 pub entered-nested : (f : ℕ) (c : Clause) (k : ℕ) (g : Term Text) (J : List Item) (n : ℕ) → IsNested n (Exit k g ∷ J)
     → IsNested n (entered f c k g J)
@@ -239,6 +252,64 @@ branched-counted s t m σ J K w counts sol ev nest all =
       all,
     ))
 
+-- a try: it fails, or its box exits
+pub acted-counted : (t : Bool) (s : Setup) (a : Act) (k : ℕ) (g : Term Text) (J : List Item) (K : List Choice) (σ : Bindings Text) (w : World)
+    → nat_le (w.steps + a.cost) s.budget ≡ t → Counts s w → w.solutions ≤ w.steps
+    → w.events + (2 * suc (length (open_boxes J)) + pending K) ≤ event_bound w.steps → IsNested w.calls (Exit k g ∷ J) → AreNested w.calls K
+    → Counted s (acted t s a w (yielded k g J K σ)).state
+acted-counted true s a k g J K σ w test counts sol ev nest all = go a.yield
+  where
+    fits : w.steps + a.cost ≤ s.budget
+    fits = grind (arith, nat_tests)
+
+    more : event_bound w.steps ≤ event_bound (w.steps + a.cost)
+    more = bound-same w.steps (w.steps + a.cost) (omega arith)
+
+    go : (y : Yield) → Counted s (yielded k g J K σ y (record (counted_as w a.after) { steps = w.steps + a.cost })).state
+    go Fails = (
+      record { steps = fits; calls = omega (arith, counts.calls); conditions = omega (arith, counts.conditions) },
+      omega (arith, ev, more),
+      omega (arith, sol),
+      all,
+    )
+    go (Gives τ) = (
+      record { steps = fits; calls = omega (arith, counts.calls); conditions = omega (arith, counts.conditions) },
+      omega (arith, ev, more),
+      omega (arith, sol),
+      nest,
+      all,
+    )
+    go (Gives_again τ x) = (
+      record { steps = fits; calls = omega (arith, counts.calls); conditions = omega (arith, counts.conditions) },
+      omega (arith, ev, more),
+      omega (arith, sol),
+      nest,
+      (nest, all),
+    )
+acted-counted false s a k g J K σ w test counts sol ev nest all =
+    let more : event_bound w.steps ≤ event_bound s.budget = bound-same w.steps s.budget counts.steps in (
+      record { steps = omega arith; calls = omega (arith, counts.steps, counts.calls); conditions = omega (arith, counts.steps, counts.conditions) },
+      omega (arith, ev, more),
+      omega (arith, sol, counts.steps),
+    )
+
+-- a further try
+pub again-counted : (s : Setup) (t : Tries) (k : ℕ) (g : Term Text) (σ : Bindings Text) (J : List Item) (K : List Choice) (w : World)
+    → Counts s w → w.solutions ≤ suc w.steps → w.events + pending K ≤ event_bound w.steps
+    → IsNested w.calls (Exit k g ∷ J) → AreNested w.calls K
+    → Counted s (tried_again s t k g σ J K w).state
+again-counted s t k g σ J K w counts sol ev nest all =
+    paid-counted (nat_le (w.steps + 1) s.budget) s 1 w _ refl counts (omega (arith, ev)) sol
+    (λ fits.
+    let up : event_bound w.steps + (4 * w.steps + 6) ≤ event_bound (w.steps + 1) = bound-up w.steps (w.steps + 1) (omega arith) in
+    let deep : length (open_boxes J) < w.calls + 1 = omega (arith, nest.0, nest.1) in (
+      record { steps = fits; calls = omega (arith, counts.calls); conditions = omega (arith, counts.conditions) },
+      omega (arith, up, ev, deep, counts.calls),
+      omega (arith, sol),
+      nest,
+      all,
+    ))
+
 pub move-counted : (s : Setup) (t : State) → Counted s t → Counted s (move s t).state
 move-counted s (Forward [] K σ w) h = go (w.solutions + 1 == s.wanted)
   where
@@ -249,6 +320,9 @@ move-counted s (Forward [] K σ w) h = go (w.solutions + 1 == s.wanted)
 move-counted s (Forward (Exit k g ∷ J) K σ w) h =
     (record { steps = h.0.steps; calls = h.0.calls; conditions = h.0.conditions }, omega arith, h.2, h.3.2, (h.3, h.4))
 move-counted s (Forward (Cut m ∷ J) K σ w) h = (h.0, omega (arith, h.1, keep-pending m K), h.2, h.3.1, keep-nested w.calls m K h.4)
+move-counted s (Forward (Try t k g ∷ J) K σ w) h =
+    let a : Act = s.act (s.budget - w.steps) t g σ w in
+    acted-counted (nat_le (w.steps + a.cost) s.budget) s a k g J K σ w refl h.0 h.2 h.1 h.3 h.4
 move-counted s (Forward (Goal t m ∷ J) K σ w) h =
     paid-counted (nat_le (w.steps + 1) s.budget) s 1 w _ refl h.0 (omega arith) (omega arith)
     (λ fits. chosen-counted (control t) s w.steps t m J K σ (record w { steps = w.steps + 1 })
@@ -258,6 +332,7 @@ move-counted s (Backward (Redo k g σ J ∷ K) w) h =
     (record { steps = h.0.steps; calls = h.0.calls; conditions = h.0.conditions }, omega arith, h.2, h.3.1)
 move-counted s (Backward (Branch t m σ J ∷ K) w) h = branched-counted s t m σ J K w h.0 h.2 h.1 h.3.0 h.3.1
 move-counted s (Backward (Condition n t m σ J ∷ K) w) h = branched-counted s t m σ J K w h.0 h.2 h.1 h.3.0 h.3.1
+move-counted s (Backward (Again t k g σ J ∷ K) w) h = again-counted s t k g σ J K w h.0 h.2 h.1 h.3.0 h.3.1
 move-counted s (Backward (Fail k g σ J ∷ K) w) h =
     (record { steps = h.0.steps; calls = h.0.calls; conditions = h.0.conditions }, omega arith, h.2, h.3.1)
 move-counted s (Backward (More [] k g σ J ∷ K) w) h =

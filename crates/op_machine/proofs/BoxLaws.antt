@@ -1,23 +1,21 @@
 -- The boxes that a machine keeps, as continuations and boxes are added, and a choice point is returned to.
 use Rattle.std.proofs.Common.{◌≡◌, ℕ, zero, suc, ◌+◌, ◌<◌, ◌≤◌, Bool, true, false, List, [], ◌∷◌, ◌++◌, length, take, nat_lt, All, refl}
-use Rattle.std.proofs.Common.{sym, ap, ◌∙◌, subst, arith, if◌then◌else◌, length-append}
-use Rattle.std.proofs.lemmas.List.{get_or-take, get_or_append_left, length-take-le}
+use Rattle.std.proofs.Common.{sym, ap, ◌∙◌, subst, arith, if◌then◌else◌}
+use Rattle.std.proofs.lemmas.List.{get_or-take, length-take-le}
 use Rattle.std.proofs.lemmas.List.Elements.{All-filter, All-append}
-use Rattle.std.proofs.Math.Seq.{get_or-append_seam}
-use Rattle.op_logic.proofs.Tests.{by_order}
 use Rattle.op_trace.specs.declared.barrier.Barrier.{Barrier}
 use Rattle.op_frames.specs.declared.boxes.BoxFrame.{BoxFrame}
-use Rattle.op_frames.specs.declared.choice.ChoiceKind.{ChoiceKind}
-use Rattle.op_frames.specs.declared.choice.ChoiceKind.TheVariants as kind
+use Rattle.op_machine.specs.declared.choice_points.ChoiceKind.{ChoiceKind}
+use Rattle.op_machine.specs.declared.choice_points.ChoiceKind.TheVariants as kind
 use Rattle.op_frames.specs.Frames.{open_from}
 use Rattle.op_frames.proofs.Chains.{chain-pushed, chain-kept}
-use Rattle.op_machine.specs.declared.choice_points.Held.{Held}
 use Rattle.op_machine.specs.declared.continuations.Item.{Item}
 use Rattle.op_machine.specs.declared.continuations.Item.TheVariants as item
 use Rattle.op_machine.specs.Meaning.{Frame}
 use Rattle.op_machine.specs.inner.Cuts.{frame_stays, frame_goes, keep_frames}
 use Rattle.op_machine.specs.inner.Continuations.{continuation_in}
 use Rattle.op_machine.specs.inner.Boxes.{boxes_before, exits, innermost, IsCalled, IsEntered, AreBoxes, IsTried, AreBoxed}
+use Rattle.op_machine.proofs.ContinuationLaws.{longer, longer-each}
 
 -- a box that was called stays so, where its chain and its continuation stay
 pub called-along : (B C : List BoxFrame) (L M : List (List Item)) (c d k g n : ℕ) → c ≤ d → continuation_in M n ≡ continuation_in L n
@@ -28,16 +26,13 @@ called-along B C L M c d k g n h l o a = record {
   chain = o ∙ (a.chain ∙ ap (λ (I : List Item). (k, g) ∷ exits I) (sym l));
 }
 
-tried-along : (B C : List BoxFrame) (L M : List (List Item)) (q : ChoiceKind) (x : Held) (n : ℕ) → continuation_in M n
-    ≡ continuation_in L n
-    → ((k : ℕ) → k ≤ x.calls → open_from C k ≡ open_from B k) → IsTried B L q x n → IsTried C M q x n
-tried-along B C L M (kind.Redo k) x n l o a = tt
-tried-along B C L M (kind.Branch p) x n l o a = tt
-tried-along B C L M (kind.More k) x n l o a = called-along B C L M x.calls x.calls k x.goal n (omega arith) l (o k a.given) a
-tried-along B C L M (kind.Fail k) x n l o a = tt
-tried-along B C L M (kind.Condition p) x n l o a = tt
-tried-along B C L M (kind.Catch k) x n l o a = tt
-tried-along B C L M (kind.Findall k) x n l o a = tt
+tried-along : (B C : List BoxFrame) (L M : List (List Item)) (q : ChoiceKind) (c g n : ℕ) → continuation_in M n ≡ continuation_in L n
+    → ((k : ℕ) → k ≤ c → open_from C k ≡ open_from B k) → IsTried B c L q g n → IsTried C c M q g n
+tried-along B C L M (kind.Redo k) c g n l o a = tt
+tried-along B C L M (kind.Branch m) c g n l o a = tt
+tried-along B C L M (kind.More k rs i) c g n l o a = called-along B C L M c c k g n (omega arith) l (o k a.given) a
+tried-along B C L M (kind.Fail k) c g n l o a = tt
+tried-along B C L M (kind.Condition d m) c g n l o a = tt
 
 -- so do choice points, where the continuations and the chains that were there stay
 pub boxed-along : (B C : List BoxFrame) (L M : List (List Item)) (c d l m : ℕ) (F : List Frame) → c ≤ d → l ≤ m
@@ -52,7 +47,8 @@ boxed-along B C L M c d l m (f ∷ F) hc hl ls os a =
         continuations_there = omega arith;
         rest = a.0.rest;
         given = λ n h. subst (λ (I : List Item). innermost I ≤ f.kept.calls) (sym (ls n (omega arith))) (a.0.given n h);
-        tried = tried-along B C L M f.kind f.kept f.rest (ls f.rest (omega (arith, a.0.rest))) (λ k h. os k (omega arith)) a.0.tried;
+        tried = tried-along B C L M f.kept.kind f.kept.calls f.kept.goal f.rest (ls f.rest (omega (arith, a.0.rest)))
+            (λ k h. os k (omega arith)) a.0.tried;
       },
       boxed-along B C L M f.kept.calls f.kept.calls f.kept.continuations f.kept.continuations F (omega arith) (omega arith)
           (λ n h. ls n (omega arith)) (λ k h. os k (omega arith)) a.1,
@@ -76,48 +72,28 @@ keep-boxed B L c l (f ∷ F) m a = go (frame_stays f m) (frame_goes f m) (keep-b
     go false false below = boxed-more B L f.kept.calls c f.kept.continuations l (keep_frames m F)
         a.0.calls_there a.0.continuations_there below
 
--- a further continuation
-abbrev pub longer : List (List Item) → Item → ℕ → List (List Item)
-longer L i n = L ++ (i ∷ continuation_in L n) ∷ []
-
-pub longer-same : (L : List (List Item)) (i : Item) (n m : ℕ) → m < length L → continuation_in (longer L i n) m ≡ continuation_in L m
-longer-same L i n m h = get_or_append_left L ((i ∷ continuation_in L n) ∷ []) [] m h
-
 entered-given : (B : List BoxFrame) (c : ℕ) (L : List (List Item)) (i : Item) (n : ℕ) → AreBoxes B c L → n < length L → IsEntered B c L i n
     → innermost (i ∷ continuation_in L n) ≤ c
 entered-given B c L (item.Goal g m) n a h e = a.given n h
 entered-given B c L (item.Cut m) n a h e = a.given n h
 entered-given B c L (item.Exit k g) n a h e = e.given
+entered-given B c L (item.Try k g) n a h e = e.given
 
 entered-chain : (B : List BoxFrame) (c : ℕ) (L : List (List Item)) (i : Item) (n : ℕ) → AreBoxes B c L → n < length L → IsEntered B c L i n
     → open_from B (innermost (i ∷ continuation_in L n)) ≡ exits (i ∷ continuation_in L n)
 entered-chain B c L (item.Goal g m) n a h e = a.chains n h
 entered-chain B c L (item.Cut m) n a h e = a.chains n h
 entered-chain B c L (item.Exit k g) n a h e = e.chain
+entered-chain B c L (item.Try k g) n a h e = e.chain
 
 pub longer-boxes : (B : List BoxFrame) (c : ℕ) (L : List (List Item)) (i : Item) (n : ℕ) → AreBoxes B c L → n < length L
     → IsEntered B c L i n
     → AreBoxes B c (longer L i n)
-longer-boxes B c L i n a h e =
-    let I : List Item = i ∷ continuation_in L n in
-    let len : length (longer L i n) ≡ length L + 1 = length-append L (I ∷ []) in
-    let P : List Item → Type 0 = λ J. innermost J ≤ c in
-    let Q : List Item → Type 0 = λ J. open_from B (innermost J) ≡ exits J in
-    let at_end : (m : ℕ) → length L ≤ m → m < length (longer L i n) → continuation_in (longer L i n) m ≡ I =
-    λ m k l.
-    let s : m ≡ length L = omega arith in
-    ap (λ x. continuation_in (longer L i n) x) s ∙ get_or-append_seam L I [] [] in
-    record {
-      numbers = a.numbers;
-      given = λ m l.
-          by_order m (length L)
-          (λ k. subst P (sym (longer-same L i n m k)) (a.given m k))
-          (λ k. subst P (sym (at_end m k l)) (entered-given B c L i n a h e));
-      chains = λ m l.
-          by_order m (length L)
-          (λ k. subst Q (sym (longer-same L i n m k)) (a.chains m k))
-          (λ k. subst Q (sym (at_end m k l)) (entered-chain B c L i n a h e));
-    }
+longer-boxes B c L i n a h e = record {
+  numbers = a.numbers;
+  given = longer-each (λ (m : ℕ) (I : List Item). innermost I ≤ c) L i n a.given (entered-given B c L i n a h e);
+  chains = longer-each (λ (m : ℕ) (I : List Item). open_from B (innermost I) ≡ exits I) L i n a.chains (entered-chain B c L i n a h e);
+}
 
 -- a box is called before a continuation
 abbrev pub with_box : List BoxFrame → BoxFrame → List BoxFrame
@@ -182,7 +158,7 @@ restored-boxed B c L F f stay b =
 pub restored-tried : (B : List BoxFrame) (c : ℕ) (L : List (List Item)) (F : List Frame) (f : Frame)
     → ((k : ℕ) → k < f.kept.calls + 1 → open_from (boxes_before (f.kept.calls + 1) B) k ≡ open_from B k)
     → AreBoxed B L c (length L) (f ∷ F)
-    → IsTried (boxes_before (f.kept.calls + 1) B) (take f.kept.continuations L) f.kind f.kept f.rest
+    → IsTried (boxes_before (f.kept.calls + 1) B) f.kept.calls (take f.kept.continuations L) f.kept.kind f.kept.goal f.rest
 restored-tried B c L F f stay b =
-    tried-along B (boxes_before (f.kept.calls + 1) B) L (take f.kept.continuations L) f.kind f.kept f.rest
+    tried-along B (boxes_before (f.kept.calls + 1) B) L (take f.kept.continuations L) f.kept.kind f.kept.calls f.kept.goal f.rest
     (taken-same L f.kept.continuations f.rest b.0.rest) (λ k h. stay k (omega arith)) b.0.tried

@@ -1,7 +1,7 @@
 -- Clauses from one on.
 use Rattle.std.proofs.Common.{◌≡◌, ℕ, zero, suc, ◌<◌, ◌≤◌, List, [], ◌∷◌, length, get_or, refl, sym, ap, ◌∙◌, arith}
 use Rattle.op_bind.specs.declared.places.Clause.{Clause as NumberedClause}
-use Rattle.op_trace.specs.World.{Clause}
+use Rattle.op_trace.specs.Database.{Clause}
 use Rattle.op_trace.specs.Visit as visit
 use Rattle.op_store.specs.Stored.{Stored}
 use Rattle.op_machine.specs.declared.core_state.Core.{Core}

@@ -1,8 +1,8 @@
 -- Laws of continuations that share their ends.
 use Rattle.std.proofs.Common.{◌≡◌, ℕ, zero, suc, ◌+◌, ◌-◌, ◌<◌, ◌≤◌, List, [], ◌∷◌, ◌++◌, length, take, get_or, refl, sym, ap, ◌∙◌, subst}
 use Rattle.std.proofs.Common.{arith, length-append}
-use Rattle.std.proofs.lemmas.List.{get_or_append_left}
-use Rattle.std.proofs.Math.Seq.{get_or-append_seam, take-length}
+use Rattle.std.proofs.lemmas.List.{get_or_append_left, take-take}
+use Rattle.std.proofs.Math.Seq.{get_or-append_seam, take-append_seam, take-length}
 use Rattle.op_logic.proofs.Tests.{by_order}
 use Rattle.op_trace.specs.World.{head_number}
 use Rattle.op_machine.specs.declared.continuations.Item.{Item}
@@ -11,26 +11,44 @@ use Rattle.op_machine.specs.declared.continuations.Cell.{Cell}
 use Rattle.op_machine.specs.inner.Continuations.{continuation_in, only_empty, continuations_after, continuations_of, opened, AreLinked}
 use Rattle.op_machine.specs.inner.Continuations.{Begins}
 
-abbrev pub joined : List (List Item) → Cell → List (List Item)
-joined L c = L ++ (c.item ∷ continuation_in L c.rest) ∷ []
+-- a further continuation
+abbrev pub longer : List (List Item) → Item → ℕ → List (List Item)
+longer L i n = L ++ (i ∷ continuation_in L n) ∷ []
 
-pub length-joined : (L : List (List Item)) (c : Cell) → length (joined L c) ≡ length L + 1
-length-joined L c = length-append L ((c.item ∷ continuation_in L c.rest) ∷ [])
+pub length-longer : (L : List (List Item)) (i : Item) (n : ℕ) → length (longer L i n) ≡ length L + 1
+length-longer L i n = length-append L ((i ∷ continuation_in L n) ∷ [])
+
+pub longer-same : (L : List (List Item)) (i : Item) (n m : ℕ) → m < length L → continuation_in (longer L i n) m ≡ continuation_in L m
+longer-same L i n m h = get_or_append_left L ((i ∷ continuation_in L n) ∷ []) [] m h
+
+pub longer-last : (L : List (List Item)) (i : Item) (n : ℕ) → continuation_in (longer L i n) (length L) ≡ i ∷ continuation_in L n
+longer-last L i n = get_or-append_seam L (i ∷ continuation_in L n) [] []
+
+-- what holds of each continuation that was there, and of the further one, holds of each
+pub longer-each : (P : ℕ → List Item → Type 0) (L : List (List Item)) (i : Item) (n : ℕ)
+    → ((m : ℕ) → m < length L → P m (continuation_in L m)) → P (length L) (i ∷ continuation_in L n)
+    → (m : ℕ) → m < length (longer L i n) → P m (continuation_in (longer L i n) m)
+longer-each P L i n each last m h =
+    by_order m (length L)
+    (λ l. subst (P m) (sym (longer-same L i n m l)) (each m l))
+    (λ g.
+    let e : m ≡ length L = omega (arith, length-longer L i n) in
+    subst (λ (k : ℕ). P k (continuation_in (longer L i n) k)) (sym e) (subst (P (length L)) (sym (longer-last L i n)) last))
+
+-- the one that a cell begins
+abbrev pub joined : List (List Item) → Cell → List (List Item)
+joined L c = longer L c.item c.rest
 
 pub length-continuations_after : (L : List (List Item)) (cs : List Cell) → length (continuations_after L cs) ≡ length L + length cs
 length-continuations_after L [] = omega arith
-length-continuations_after L (c ∷ cs) = length-continuations_after (joined L c) cs ∙ omega (arith, length-joined L c)
-
-pub continuation_in-joined : (L : List (List Item)) (c : Cell) (n : ℕ) → n < length L → continuation_in (joined L c) n
-    ≡ continuation_in L n
-continuation_in-joined L c n h = get_or_append_left L ((c.item ∷ continuation_in L c.rest) ∷ []) [] n h
+length-continuations_after L (c ∷ cs) = length-continuations_after (joined L c) cs ∙ omega (arith, length-longer L c.item c.rest)
 
 pub continuation_in-continuations_after : (L : List (List Item)) (cs : List Cell) (n : ℕ) → n < length L
     → continuation_in (continuations_after L cs) n ≡ continuation_in L n
 continuation_in-continuations_after L [] n h = refl
 continuation_in-continuations_after L (c ∷ cs) n h =
-    let l : n < length (joined L c) = omega (arith, length-joined L c) in
-    continuation_in-continuations_after (joined L c) cs n l ∙ continuation_in-joined L c n h
+    let l : n < length (joined L c) = omega (arith, length-longer L c.item c.rest) in
+    continuation_in-continuations_after (joined L c) cs n l ∙ longer-same L c.item c.rest n h
 
 pub continuations_after-push : (L : List (List Item)) (cs : List Cell) (c : Cell) → continuations_after L (cs ++ c ∷ [])
     ≡ joined (continuations_after L cs) c
@@ -56,31 +74,25 @@ pub opened-cons : (i : Item) (I : List Item) → length (opened (i ∷ I)) ≤ s
 opened-cons (item.Goal f m) I = omega arith
 opened-cons (item.Cut m) I = omega arith
 opened-cons (item.Exit k g) I = omega arith
+opened-cons (item.Try k g) I = omega arith
 
 pub joined-shallow : (L : List (List Item)) (c : Cell) → c.rest < length L → AreShallow L → AreShallow (joined L c)
-joined-shallow L c r s m h =
-    by_order m (length L)
-    (λ l. subst (λ (I : List Item). length (opened I) ≤ m) (sym (continuation_in-joined L c m l)) (s m l))
-    (λ g.
-    let e : m ≡ length L = omega (arith, length-joined L c) in
-    let at_end : continuation_in (joined L c) m ≡ c.item ∷ continuation_in L c.rest = ap (λ n. continuation_in (joined L c) n) e
-    ∙ get_or-append_seam L (c.item ∷ continuation_in L c.rest) [] [] in
-    let small : length (opened (c.item ∷ continuation_in L c.rest)) ≤ m =
+joined-shallow L c r s =
+    let small : length (opened (c.item ∷ continuation_in L c.rest)) ≤ length L =
     omega (arith, opened-cons c.item (continuation_in L c.rest), s c.rest r) in
-    subst (λ (I : List Item). length (opened I) ≤ m) (sym at_end) small)
+    longer-each (λ (m : ℕ) (I : List Item). length (opened I) ≤ m) L c.item c.rest s small
 
 pub cell-begins : (L : List (List Item)) (cs : List Cell) (i : ℕ) (d : Cell) → AreShallow L → AreLinked L cs → i < length cs
     → Begins (continuations_after L cs) (length L + i) (get_or cs i d)
 cell-begins L [] i d s l h = absurd (omega arith)
 cell-begins L (c ∷ cs) zero d s l h =
     let M : List (List Item) = continuations_after (joined L c) cs in
-    let here : length L < length (joined L c) = omega (arith, length-joined L c) in
-    let there : c.rest < length (joined L c) = omega (arith, length-joined L c, l.0) in
+    let here : length L < length (joined L c) = omega (arith, length-longer L c.item c.rest) in
+    let there : c.rest < length (joined L c) = omega (arith, length-longer L c.item c.rest, l.0) in
     let at_end : continuation_in M (length L) ≡ c.item ∷ continuation_in L c.rest =
-    continuation_in-continuations_after (joined L c) cs (length L) here
-    ∙ get_or-append_seam L (c.item ∷ continuation_in L c.rest) [] [] in
+    continuation_in-continuations_after (joined L c) cs (length L) here ∙ longer-last L c.item c.rest in
     let rest : continuation_in M c.rest ≡ continuation_in L c.rest = continuation_in-continuations_after (joined L c) cs c.rest there
-    ∙ continuation_in-joined L c c.rest l.0 in
+    ∙ longer-same L c.item c.rest c.rest l.0 in
     let small : length (opened (c.item ∷ continuation_in L c.rest)) ≤ length L =
     omega (arith, opened-cons c.item (continuation_in L c.rest), s c.rest l.0) in
     let e : length L + 0 ≡ length L = omega arith in
@@ -92,7 +104,7 @@ cell-begins L (c ∷ cs) zero d s l h =
       shallow = subst (λ (I : List Item). length (opened I) ≤ length L) (sym at_end) small;
     })
 cell-begins L (c ∷ cs) (suc i) d s l h =
-    let e : length (joined L c) + i ≡ length L + suc i = omega (arith, length-joined L c) in
+    let e : length (joined L c) + i ≡ length L + suc i = omega (arith, length-longer L c.item c.rest) in
     subst (λ n. Begins (continuations_after (joined L c) cs) n (get_or cs i d)) e
     (cell-begins (joined L c) cs i d (joined-shallow L c l.0 s) l.3 (omega arith))
 
@@ -109,25 +121,15 @@ continuation_begins cs n d l p h =
     let i : n - 1 < length cs = omega (arith, length_continuations_of cs) in
     subst (λ m. Begins (continuations_of cs) m (get_or cs (n - 1) d)) e (cell-begins only_empty cs (n - 1) d only_empty-shallow l i)
 
-pub take-within : {A : Type 0} (n m : ℕ) (xs : List A) → n ≤ m → take n (take m xs) ≡ take n xs
-take-within zero m xs h = refl
-take-within (suc n) zero xs h = absurd (omega arith)
-take-within (suc n) (suc m) [] h = refl
-take-within (suc n) (suc m) (x ∷ xs) h = ap (λ ys. x ∷ ys) (take-within n m xs (omega arith))
-
-take-joined : (L : List (List Item)) (I : List Item) → take (length L) (L ++ I ∷ []) ≡ L
-take-joined [] I = refl
-take-joined (J ∷ L) I = ap (λ K. J ∷ K) (take-joined L I)
-
 take-first : (L M : List (List Item)) (n : ℕ) → n ≤ length L → take (length L) M ≡ L → take n M ≡ take n L
-take-first L M n h e = sym (take-within n (length L) M h) ∙ ap (take n) e
+take-first L M n h e = sym (take-take n (length L) M h) ∙ ap (take n) e
 
 -- what was there is the beginning
 first-continuations : (L : List (List Item)) (cs : List Cell) → take (length L) (continuations_after L cs) ≡ L
 first-continuations L [] = take-length L
 first-continuations L (c ∷ cs) =
-    take-first (joined L c) (continuations_after (joined L c) cs) (length L) (omega (arith, length-joined L c))
-    (first-continuations (joined L c) cs) ∙ take-joined L (c.item ∷ continuation_in L c.rest)
+    take-first (joined L c) (continuations_after (joined L c) cs) (length L) (omega (arith, length-longer L c.item c.rest))
+    (first-continuations (joined L c) cs) ∙ take-append_seam L ((c.item ∷ continuation_in L c.rest) ∷ [])
 
 -- the first cells make the first continuations
 cut-after : (L : List (List Item)) (cs : List Cell) (n : ℕ) → n ≤ length cs → continuations_after L (take n cs)
@@ -137,7 +139,7 @@ cut-after L cs zero h =
     sym (first-continuations L cs) ∙ ap (λ k. take k (continuations_after L cs)) e
 cut-after L [] (suc n) h = absurd (omega arith)
 cut-after L (c ∷ cs) (suc n) h =
-    let e : length (joined L c) + n ≡ length L + suc n = omega (arith, length-joined L c) in
+    let e : length (joined L c) + n ≡ length L + suc n = omega (arith, length-longer L c.item c.rest) in
     cut-after (joined L c) cs n (omega arith) ∙ ap (λ k. take k (continuations_after (joined L c) cs)) e
 
 pub continuations-cut : (cs : List Cell) (n : ℕ) → 0 < n → n ≤ length (continuations_of cs) → continuations_of (take (n - 1) cs)

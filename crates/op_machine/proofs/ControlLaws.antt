@@ -3,13 +3,13 @@ use Rattle.std.proofs.Common.{◌≡◌, ◌≢◌, ℕ, suc, ◌<◌, Bool, tru
 use Rattle.std.specs.Bool.{OnTrue, OnFalse}
 use Rattle.std.proofs.lemmas.Slice.Eq.{bytes_eq-Decides}
 use Rattle.op_logic.proofs.Tests.{by_order, by_test}
-use Rattle.op_logic.proofs.Naming.{same_number, name-more}
+use Rattle.op_logic.proofs.NameTables.{same_number, name-more}
 use Rattle.op_logic.specs.Term.{Term, var, int, node, Args, no_args, arg, args_of, nth_arg, arity, atom}
 use Rattle.op_logic.specs.Names.{name_at, IsTable}
 use Rattle.op_term.specs.Head.{head, sym as sym_of}
 use Rattle.op_term.specs.declared.node.Node.TheVariants as nodes
 use Rattle.op_term.specs.declared.symbols.Sym.{Sym}
-use Rattle.op_trace.specs.World.{Text, text_eq}
+use Rattle.op_trace.specs.Database.{Text, text_eq}
 use Rattle.op_trace.specs.Visit.{Control, TrueGoal, FailGoal, CutGoal, IfThenElse, Disjunction, BoxedGoal, control_of_disjunction, control}
 use Rattle.op_trace.specs.Visit.{control_of_atom, control_of_pair, is_true}
 use Rattle.op_trace.specs.Visit as visit

@@ -5,8 +5,8 @@ use Rattle.std.proofs.lemmas.List.{length-take-le, length-drop}
 use Rattle.op_bind.specs.State.{oldest}
 use Rattle.op_trace.specs.declared.barrier.Barrier.{Barrier}
 use Rattle.op_trace.specs.Visit as visit
-use Rattle.op_frames.specs.declared.choice.ChoiceKind.{ChoiceKind}
-use Rattle.op_frames.specs.declared.choice.ChoiceKind.TheVariants as kind
+use Rattle.op_machine.specs.declared.choice_points.ChoiceKind.{ChoiceKind}
+use Rattle.op_machine.specs.declared.choice_points.ChoiceKind.TheVariants as kind
 use Rattle.op_store.specs.Stored.{Stored}
 use Rattle.op_machine.specs.declared.choice_points.Held.{Held}
 use Rattle.op_machine.specs.declared.core_state.Core.{Core}
@@ -16,29 +16,24 @@ use Rattle.op_machine.specs.inner.Invariant.{AreFrames, IsEarlier, IsGood}
 use Rattle.op_machine.specs.Resume.{stays, goes, keep}
 use Rattle.op_machine.specs.inner.Cuts.{kind_stays, kind_goes, frame_stays, frame_goes, keep_frames}
 use Rattle.op_frames.specs.declared.boxes.BoxFrame.{BoxFrame}
+use Rattle.op_frames.specs.Frames.{Framed}
 use Rattle.op_machine.specs.inner.Boxes.{AreBoxes, AreBoxed}
 use Rattle.op_machine.proofs.BoxLaws.{keep-boxed}
 use Rattle.op_machine.proofs.LevelLaws.{Rises, choice_points-rise, frames-rise}
 
-pub stays-same : (t : Stored) (v : Level) (q : ChoiceKind) (h : Held) (n : ℕ) (m : Barrier) → stays (choice_point_by t v q h n) m
-    ≡ kind_stays q h m
-stays-same t v (kind.Redo k) h n m = refl
-stays-same t v (kind.Branch p) h n m = refl
-stays-same t v (kind.More k) h n m = refl
-stays-same t v (kind.Fail k) h n m = refl
-stays-same t v (kind.Condition p) h n m = refl
-stays-same t v (kind.Catch k) h n m = refl
-stays-same t v (kind.Findall k) h n m = refl
+pub stays-same : (t : Stored) (v : Level) (q : ChoiceKind) (g n : ℕ) (m : Barrier) → stays (choice_point_by t v q g n) m ≡ kind_stays q m
+stays-same t v (kind.Redo k) g n m = refl
+stays-same t v (kind.Branch b) g n m = refl
+stays-same t v (kind.More k rs i) g n m = refl
+stays-same t v (kind.Fail k) g n m = refl
+stays-same t v (kind.Condition c b) g n m = refl
 
-pub goes-same : (t : Stored) (v : Level) (q : ChoiceKind) (h : Held) (n : ℕ) (m : Barrier) → goes (choice_point_by t v q h n) m
-    ≡ kind_goes q h m
-goes-same t v (kind.Redo k) h n m = refl
-goes-same t v (kind.Branch p) h n m = refl
-goes-same t v (kind.More k) h n m = refl
-goes-same t v (kind.Fail k) h n m = refl
-goes-same t v (kind.Condition p) h n m = refl
-goes-same t v (kind.Catch k) h n m = refl
-goes-same t v (kind.Findall k) h n m = refl
+pub goes-same : (t : Stored) (v : Level) (q : ChoiceKind) (g n : ℕ) (m : Barrier) → goes (choice_point_by t v q g n) m ≡ kind_goes q m
+goes-same t v (kind.Redo k) g n m = refl
+goes-same t v (kind.Branch b) g n m = refl
+goes-same t v (kind.More k rs i) g n m = refl
+goes-same t v (kind.Fail k) g n m = refl
+goes-same t v (kind.Condition c b) g n m = refl
 
 -- an earlier moment is the beginning of a later one
 pub rises-back : (v : Level) (f : Frame) → IsEarlier f v → Rises (level_at f v) v
@@ -74,8 +69,9 @@ pub keep-choice_points : (t : Stored) (floor : ℕ) (v : Level) (F : List Frame)
 keep-choice_points t floor v [] m a = refl
 keep-choice_points t floor v (f ∷ F) m a =
     go (frame_stays f m) (frame_goes f m) (keep-choice_points t floor u F m a.3)
-    ∙ (ap (λ (p : Bool). if p then C ∷ K else (if frame_goes f m then K else keep m K)) (sym (stays-same t u f.kind f.kept f.rest m))
-    ∙ ap (λ (q : Bool). if stays C m then C ∷ K else (if q then K else keep m K)) (sym (goes-same t u f.kind f.kept f.rest m)))
+    ∙ (ap (λ (p : Bool). if p then C ∷ K else (if frame_goes f m then K else keep m K))
+    (sym (stays-same t u f.kept.kind f.kept.goal f.rest m))
+    ∙ ap (λ (q : Bool). if stays C m then C ∷ K else (if q then K else keep m K)) (sym (goes-same t u f.kept.kind f.kept.goal f.rest m)))
   where
     u : Level
     u = level_at f v
@@ -93,6 +89,13 @@ keep-choice_points t floor v (f ∷ F) m a =
     go false true below = choice_points-rise t floor (level_at f v) v F (rises-back v f a.0) a.3
     go false false below = choice_points-rise t floor (level_at f v) v (keep_frames m F) (rises-back v f a.0)
         (keep-are t floor (level_at f v) F m a.3) ∙ below
+
+-- a cut to a number of choice points keeps those of its barrier
+pub cut-keeps : (old new : Framed Held) (F : List Frame) (n : ℕ) (m : Barrier) → new ≡ record old { choices = take n old.choices }
+    → F ≡ old.choices → reverse (take n F) ≡ keep_frames m (reverse F) → reverse new.choices ≡ keep_frames m (reverse old.choices)
+cut-keeps old new F n m cut same kept =
+    ap (λ (x : Framed Held). reverse x.choices) cut
+    ∙ subst (λ (xs : List Frame). reverse (take n xs) ≡ keep_frames m (reverse xs)) same kept
 
 -- the machine with the choice points that a cut keeps
 pub cut_moved-choice_points : (c d : Core) (m : Barrier) → IsGood c → d ≡ record c { frames = d.frames } → reverse d.frames.choices

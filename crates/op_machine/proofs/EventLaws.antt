@@ -4,7 +4,8 @@ use Rattle.op_logic.specs.Term.{Term}
 use Rattle.op_logic.specs.Bind.{apply}
 use Rattle.op_trace.specs.declared.port.Port.{Port}
 use Rattle.op_trace.specs.World as world
-use Rattle.op_trace.specs.World.{Text, World, Event, open_boxes, head_number}
+use Rattle.op_trace.specs.Database.{Text}
+use Rattle.op_trace.specs.World.{World, Event, open_boxes, head_number}
 use Rattle.op_trace.specs.Visit.{event_of}
 use Rattle.op_machine.specs.declared.continuations.Item.{Item}
 use Rattle.op_machine.specs.declared.continuations.Item.TheVariants as item
@@ -19,6 +20,7 @@ open_boxes-items t v [] = refl
 open_boxes-items t v (item.Goal f m ∷ I) = open_boxes-items t v I
 open_boxes-items t v (item.Cut m ∷ I) = open_boxes-items t v I
 open_boxes-items t v (item.Exit k g ∷ I) = ap (λ ks. k ∷ ks) (open_boxes-items t v I)
+open_boxes-items t v (item.Try k g ∷ I) = ap (λ ks. k ∷ ks) (open_boxes-items t v I)
 
 abbrev an_event : World → Port → ℕ → Term Text → ℕ → ℕ → Event
 an_event w p k g parent depth = record { chrono = w.events + 1; call = k; parent = parent; depth = depth; port = p; goal = g }

@@ -2,30 +2,34 @@
 use Rattle.std.proofs.Common.{◌≡◌, ◌<◌, ℕ, List, ◌∷◌, length, refl, sym, ap, ◌∙◌, subst}
 use Rattle.op_logic.specs.Term.{Term, var, int, node, args_of, nth_arg}
 use Rattle.op_logic.specs.Names.{HasNames, ArgsHaveNames}
-use Rattle.op_logic.proofs.Shifting.{nth-names}
+use Rattle.op_logic.proofs.ShiftedTerms.{nth-names}
 use Rattle.op_term.specs.Places.{term_at}
 use Rattle.op_trace.specs.declared.barrier.Barrier.{Barrier}
 use Rattle.op_trace.specs.World as world
-use Rattle.op_trace.specs.World.{Text, World}
+use Rattle.op_trace.specs.Database.{Text}
+use Rattle.op_trace.specs.World.{World}
 use Rattle.op_machine.specs.declared.core_state.Core.{Core}
 use Rattle.op_machine.specs.declared.core_state.Mode.TheVariants as mode
 use Rattle.op_machine.specs.declared.core_state.Step.TheVariants as step
 use Rattle.op_machine.specs.declared.continuations.Item.TheVariants as item
 use Rattle.op_machine.specs.Program.{goal_named}
 use Rattle.op_machine.specs.Meaning.{item_term, level_in, items_now, choice_points_in, bindings_now, world_in, goal_now}
-use Rattle.op_machine.specs.inner.Invariant.{IsGoal, IsGood}
+use Rattle.op_machine.specs.inner.Invariant.{HasGoal, IsGood}
 use Rattle.op_machine.specs.inner.Moves.{Advances, conjunction_before}
 use Rattle.op_machine.specs.Resume.{Forward, silent}
+use Rattle.op_machine.proofs.AdvanceLaws.{good-at}
 
 args-names : (n : ℕ) (t : Term ℕ) → HasNames n t → ArgsHaveNames n (args_of t)
 args-names n (var v) h = tt
 args-names n (int i) h = tt
 args-names n (node f ts) h = h.1
 
-pub argument-goal : (n : ℕ) (ts : List (Term ℕ)) (g i r : ℕ) → IsGoal n ts g → r < length ts → term_at ts r
-    ≡ nth_arg (args_of (term_at ts g)) i → IsGoal n ts r
-argument-goal n ts g i r goal there value =
-    (there, subst (HasNames n) (sym value) (nth-names n (args_of (term_at ts g)) i (args-names n (term_at ts g) goal.1)))
+pub argument-goal : (c : Core) (g i r : ℕ) → HasGoal c g → r < length c.bindings.terms
+    → term_at c.bindings.terms r ≡ nth_arg (args_of (term_at c.bindings.terms g)) i → HasGoal c r
+argument-goal c g i r goal there value =
+    let n : ℕ = length c.store.names in
+    let t : Term ℕ = term_at c.bindings.terms g in
+    (there, subst (HasNames n) (sym value) (nth-names n (args_of t) i (args-names n t goal.1)))
 
 -- two continuations were added, and the machine goes on with the second
 pub select_conjunction-advances : (c mid new : Core) (g : ℕ) (m : Barrier) (n first second tail items : ℕ) → mid
@@ -54,16 +58,7 @@ select_conjunction-advances c mid new g m n first second tail items em en ef es 
     record {
       turns = refl;
       state = cc;
-      good = record {
-        level = good.level;
-        frames = good.frames;
-        mode = inside;
-        values = good.values;
-        failure = good.failure;
-        boxes =
-            good.boxes;
-        boxed = good.boxed;
-      };
+      good = good-at new new.steps (mode.Forward items) good inside;
       looked = tt;
       store = ap (λ (x : Core). x.store) en ∙ ap (λ (x : Core). x.store) em;
       names = ap (λ (x : Core). x.names) en ∙ ap (λ (x : Core). x.names) em;

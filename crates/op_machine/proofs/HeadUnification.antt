@@ -1,4 +1,4 @@
--- A clause's head is head_unified: what its unification leads to.
+-- A clause's head is unified: what its unification leads to.
 use Rattle.std.proofs.Common.{◌≡◌, ℕ, ◌+◌, ◌-◌, ◌<◌, ◌≤◌, nat_eq, nat_le, Bool, true, false, List, [], ◌∷◌, length, reverse, Option, Some}
 use Rattle.std.proofs.Common.{None, refl, sym, ap, ◌∙◌, subst, arith, if◌then◌else◌}
 use Rattle.std.proofs.lemmas.Bool.Decides.{nat_tests}
@@ -6,18 +6,19 @@ use Rattle.op_logic.specs.Term.{Term, shift}
 use Rattle.op_logic.specs.Bind.{Bindings, Solved, solve, unify}
 use Rattle.op_logic.specs.Laws.{rename_solved}
 use Rattle.op_logic.specs.Names.{name_at, IsTable, HaveNames}
-use Rattle.op_logic.proofs.Shifting.{shift-names}
+use Rattle.op_logic.proofs.ShiftedTerms.{shift-names}
 use Rattle.op_term.specs.Places.{term_at}
 use Rattle.op_bind.specs.State as bind
 use Rattle.op_bind.specs.State.{bindings}
 use Rattle.op_bind.specs.Grown.{Grows}
-use Rattle.op_bind.specs.Pairs.{unified, with_variables}
+use Rattle.op_bind.specs.Unified.{unified, with_variables}
 use Rattle.op_trace.specs.declared.barrier.Barrier.TheVariants.{Call}
 use Rattle.op_trace.specs.World as world
-use Rattle.op_trace.specs.World.{Text, text_eq, Clause, World}
+use Rattle.op_trace.specs.Database.{Text, text_eq, Clause}
+use Rattle.op_trace.specs.World.{World}
 use Rattle.op_trace.specs.Visit as visit
 use Rattle.op_trace.specs.Visit.{is_true, entered}
-use Rattle.op_trace.proofs.Later.{IsLess, within-less}
+use Rattle.op_trace.proofs.WalkSteps.{IsLess, within-less}
 use Rattle.op_machine.specs.declared.core_state.Core.{Core}
 use Rattle.op_machine.specs.declared.core_state.Mode.TheVariants as mode
 use Rattle.op_machine.specs.declared.core_state.Ending.TheVariants as outcome
@@ -25,13 +26,14 @@ use Rattle.op_machine.specs.declared.core_state.Step.TheVariants as step
 use Rattle.op_bind.specs.declared.places.Clause.{Clause as NumberedClause}
 use Rattle.op_machine.specs.Program.{clause_in, goal_named, IsKnown}
 use Rattle.op_machine.specs.Meaning.{setup_of, world_in, level_in, level_of, items_now, goal_now, bindings_now, choice_points_in}
-use Rattle.op_machine.specs.inner.Invariant.{IsGood, IsGoal}
+use Rattle.op_machine.specs.inner.Invariant.{IsGood, HasGoal, HasItems}
 use Rattle.op_machine.specs.inner.Moves.{Advances, clause_unified, head_unifier, body_entered, body_before}
 use Rattle.op_machine.specs.Resume.{Forward, Backward, Over, Moved, silent, head_unified}
 use Rattle.op_machine.proofs.LevelLaws.{Rises, rises-bindings, choice_points-rise, frames-rise, term-rises, items_in-rise, values-rise}
 use Rattle.op_machine.proofs.LevelLaws.{failure-rises, level-bindings}
 use Rattle.op_machine.proofs.NamedTerms.{shift-named, is_true-shift, unified-named, found, nothing, found-names}
 use Rattle.op_machine.proofs.StepLaws.{pay-yes, pay-no}
+use Rattle.op_machine.proofs.AdvanceLaws.{silent-advances}
 
 -- what the goal and the head of a clause come to, over numbers
 abbrev pub numbered_unifier : Core → NumberedClause → ℕ → Option (Solved ℕ)
@@ -78,7 +80,7 @@ bound-good c s steps good g names = record {
 }
 
 pub bound-names : (c : Core) (r : NumberedClause) (g after : ℕ) (s : bind.State) → IsGood c
-    → IsGoal (length c.store.names) c.bindings.terms g → IsKnown (length c.store.names) r
+    → HasGoal c g → IsKnown (length c.store.names) r
     → numbered_unifier c r g ≡ Some (found (bindings s) after) → HaveNames (length c.store.names) (bindings s)
 bound-names c r g after s good goal clause e =
     found-names (length c.store.names) (c.budget - c.steps) c.bindings (term_at c.bindings.terms g) (shift c.bindings.count r.head)
@@ -90,7 +92,7 @@ abbrev entered_by : Bool → Term Text → ℕ → Term Text → List world.Item
 entered_by b t k g J = if b then world.Exit k g ∷ J else world.Goal t (Call k) ∷ world.Exit k g ∷ J
 
 entered-same : (c : Core) (s : bind.State) (r : NumberedClause) (k g b n steps : ℕ) → IsGood c → Grows c.bindings s
-    → IsGoal (length c.store.names) c.bindings.terms g → n < length c.continuations
+    → HasGoal c g → HasItems c n
     → term_at s.terms b ≡ shift c.bindings.count r.body
     → entered c.bindings.count (clause_in c.store r) k (goal_now c g) (items_now c n)
     ≡ body_before (bound_on c s steps) b k (world.Exit k (goal_now (bound_on c s steps) g) ∷ items_now (bound_on c s steps) n)
@@ -112,7 +114,7 @@ entered-same c s r k g b n steps good grows goal there value =
 -- a head that matched: the body is entered, under the bindings that were found
 pub head-matches : (c : Core) (s : bind.State) (r : NumberedClause) (k g b n after : ℕ) → IsTable c.store.names → c.steps ≤ c.budget
     → IsGood c → Grows c.bindings s
-    → IsGoal (length c.store.names) c.bindings.terms g → n < length c.continuations
+    → HasGoal c g → HasItems c n
     → numbered_unifier c r g ≡ Some (found (bindings s) (after + r.vars))
     → s.count ≡ c.bindings.count + r.vars
     → term_at s.terms b ≡ shift c.bindings.count r.body
@@ -180,75 +182,22 @@ head-spent c r k g n table below none =
     go (Some (Some σ, left)) less f = unpaid σ left less (nat_le vars left) refl f
 
 -- what the machine does then is that move
-pub matches-advances : (c : Core) (s : bind.State) (steps : ℕ) (new : Core) (m n : Moved) → m ≡ n
-    → Advances (bound_on c s steps) new n step.Silent → Advances c new m step.Silent
-matches-advances c s steps new m n e a = record {
-  turns = a.turns ∙ ap (λ (x : Moved). x.turns) (sym e);
-  state = a.state ∙ ap (λ (x : Moved). x.state) (sym e);
-  good = a.good;
-  looked = tt;
-  store = a.store;
-  names = a.names;
-  budget = a.budget;
-  wanted = a.wanted;
-}
-
 pub differs-advances : (c : Core) (s : bind.State) (r : NumberedClause) (k g n after left : ℕ) → IsTable c.store.names → IsGood c
     → numbered_unifier c r g ≡ Some (nothing after) → s ≡ c.bindings → left ≡ after
     → Advances c (record c { bindings = s; steps = c.budget - left; mode = mode.Backward }) (clause_unified c r k g n) step.Silent
 differs-advances c s r k g n after left table good e kept l =
-    let m : clause_unified c r k g n ≡ silent (Backward (choice_points_in c) (record (world_in c) { steps = c.budget - after })) =
-    head-differs c r k g n after table e in
-    let done : Advances c (record c { steps = c.budget - after; mode = mode.Backward }) (clause_unified c r k g n) step.Silent = record {
-      turns = ap (λ (x : Moved). x.turns) (sym m);
-      state = ap (λ (x : Moved). x.state) (sym m);
-      good = record {
-        level = good.level;
-        frames = good.frames;
-        mode = tt;
-        values = good.values;
-        failure = good.failure;
-        boxes =
-            good.boxes;
-        boxed = good.boxed;
-      };
-      looked = tt;
-      store = refl;
-      names = refl;
-      budget = refl;
-      wanted = refl;
-    } in
     subst (λ (b : bind.State). Advances c (record c { bindings = b; steps = c.budget - left; mode = mode.Backward })
     (clause_unified c r k g n) step.Silent) (sym kept)
-    (subst (λ (x : ℕ). Advances c (record c { steps = c.budget - x; mode = mode.Backward }) (clause_unified c r k g n) step.Silent) (sym l)
-    done)
+    (silent-advances c (c.budget - left) mode.Backward (clause_unified c r k g n) good tt
+    (head-differs c r k g n after table e
+    ∙ ap (λ (x : ℕ). silent (Backward (choice_points_in c) (record (world_in c) { steps = c.budget - x }))) (sym l)))
 
 pub head-spent-advances : (c : Core) (s : bind.State) (r : NumberedClause) (k g n : ℕ) (new : Core) → IsTable c.store.names
     → c.steps ≤ c.budget → IsGood c → with_variables r.vars (numbered_unifier c r g) ≡ None → s ≡ c.bindings
     → new ≡ record c { bindings = s; steps = c.budget; mode = mode.Over outcome.Spent }
     → Advances c new (clause_unified c r k g n) step.Silent
 head-spent-advances c s r k g n new table below good e still is =
-    let m : clause_unified c r k g n ≡ silent (Over visit.Spent (record (world_in c) { steps = c.budget })) =
-    head-spent c r k g n table below e in
-    let done : Advances c (record c { steps = c.budget; mode = mode.Over outcome.Spent }) (clause_unified c r k g n) step.Silent = record {
-      turns = ap (λ (x : Moved). x.turns) (sym m);
-      state = ap (λ (x : Moved). x.state) (sym m);
-      good = record {
-        level = good.level;
-        frames = good.frames;
-        mode = tt;
-        values = good.values;
-        failure = good.failure;
-        boxes =
-            good.boxes;
-        boxed = good.boxed;
-      };
-      looked = tt;
-      store = refl;
-      names = refl;
-      budget = refl;
-      wanted = refl;
-    } in
     subst (λ (x : Core). Advances c x (clause_unified c r k g n) step.Silent) (sym is)
     (subst (λ (b : bind.State). Advances c (record c { bindings = b; steps = c.budget; mode = mode.Over outcome.Spent })
-    (clause_unified c r k g n) step.Silent) (sym still) done)
+    (clause_unified c r k g n) step.Silent) (sym still)
+    (silent-advances c c.budget (mode.Over outcome.Spent) (clause_unified c r k g n) good tt (head-spent c r k g n table below e)))

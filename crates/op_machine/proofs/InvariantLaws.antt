@@ -1,6 +1,6 @@
 -- A continuation is added, a choice point is made, and a choice point is returned to.
-use Rattle.std.proofs.Common.{◌≡◌, ℕ, ◌+◌, ◌<◌, ◌≤◌, List, [], ◌∷◌, ◌++◌, length, take, reverse, refl, sym, subst, arith, length-append}
-use Rattle.std.proofs.Common.{length-take}
+use Rattle.std.proofs.Common.{◌≡◌, ℕ, ◌+◌, ◌<◌, ◌≤◌, List, ◌∷◌, length, take, reverse, refl, sym, subst, arith, length-take}
+use Rattle.std.proofs.lemmas.List.{take-take}
 use Rattle.op_machine.specs.declared.core_state.Core.{Core}
 use Rattle.op_machine.specs.declared.core_state.Mode.{Mode}
 use Rattle.op_machine.specs.declared.core_state.Mode.TheVariants as mode
@@ -14,19 +14,16 @@ use Rattle.op_frames.specs.declared.boxes.BoxFrame.{BoxFrame}
 use Rattle.op_frames.specs.Frames.{open_from}
 use Rattle.op_bind.specs.State.{mark_of, IsGoodMark}
 use Rattle.op_machine.specs.inner.Boxes.{boxes_before, IsEntered, IsTried, AreBoxes, AreBoxed}
-use Rattle.op_machine.proofs.BoxLaws.{longer-boxes, longer-same, boxed-along, restored-boxes, restored-boxed, restored-tried, with_box}
+use Rattle.op_machine.proofs.BoxLaws.{longer-boxes, boxed-along, restored-boxes, restored-boxed, restored-tried, with_box}
 use Rattle.op_machine.proofs.BoxLaws.{pushed-boxes}
 use Rattle.op_frames.proofs.Chains.{chain-kept}
-use Rattle.op_machine.proofs.ContinuationLaws.{take-within}
+use Rattle.op_machine.proofs.ContinuationLaws.{longer, length-longer, longer-same}
 use Rattle.op_machine.proofs.LevelLaws.{rises-continuations, choice_points-rise, frames-rise, level-continuations, level-now, earlier-now}
 
-abbrev added : Core → Item → ℕ → List (List Item)
-added c i n = c.continuations ++ (i ∷ continuation_in c.continuations n) ∷ []
-
-pub added-choice_points : (c : Core) (i : Item) (n : ℕ) → IsGood c → choice_points_in (record c { continuations = added c i n })
-    ≡ choice_points_in c
+pub added-choice_points : (c : Core) (i : Item) (n : ℕ) → IsGood c
+    → choice_points_in (record c { continuations = longer c.continuations i n }) ≡ choice_points_in c
 added-choice_points c i n good =
-    choice_points-rise c.store c.floor.terms (level_in c) (level_of c.bindings (added c i n)) (reverse c.frames.choices)
+    choice_points-rise c.store c.floor.terms (level_in c) (level_of c.bindings (longer c.continuations i n)) (reverse c.frames.choices)
     (rises-continuations c.bindings c.continuations (i ∷ continuation_in c.continuations n)) good.frames
 
 mode-more : (m n : ℕ) (q : Mode) → m ≤ n → IsMode m q → IsMode n q
@@ -35,21 +32,20 @@ mode-more m n mode.Backward h a = tt
 mode-more m n (mode.Over e) h a = tt
 
 pub added-good : (c : Core) (i : Item) (n : ℕ) → IsGood c → IsItem (length c.store.names) c.bindings.terms i → n < length c.continuations
-    → IsEntered c.frames.boxes c.calls c.continuations i n → IsGood (record c { continuations = added c i n })
+    → IsEntered c.frames.boxes c.calls c.continuations i n → IsGood (record c { continuations = longer c.continuations i n })
 added-good c i n good it h entered =
-    let len : length (added c i n) ≡ length c.continuations + 1 =
-    length-append c.continuations ((i ∷ continuation_in c.continuations n) ∷ []) in
+    let len : length (longer c.continuations i n) ≡ length c.continuations + 1 = length-longer c.continuations i n in
     record {
       level = level-continuations c.store c.floor.terms c.bindings c.continuations i n good.level it h;
-      frames = frames-rise c.store c.floor.terms (level_in c) (level_of c.bindings (added c i n)) (reverse c.frames.choices)
+      frames = frames-rise c.store c.floor.terms (level_in c) (level_of c.bindings (longer c.continuations i n)) (reverse c.frames.choices)
           (rises-continuations c.bindings c.continuations (i ∷ continuation_in c.continuations n)) good.frames;
-      mode = mode-more (length c.continuations) (length (added c i n)) c.mode (omega arith) good.mode;
+      mode = mode-more (length c.continuations) (length (longer c.continuations i n)) c.mode (omega arith) good.mode;
       values = good.values;
       failure = good.failure;
       boxes = longer-boxes c.frames.boxes c.calls c.continuations i n good.boxes h entered;
-      boxed = boxed-along c.frames.boxes c.frames.boxes c.continuations (added c i n) c.calls c.calls (length c.continuations)
-          (length (added c i n)) (reverse c.frames.choices)
-          (omega arith) (omega arith) (longer-same c.continuations i n) (λ k b. refl) good.boxed;
+      boxed = boxed-along c.frames.boxes c.frames.boxes c.continuations (longer c.continuations i n) c.calls c.calls
+          (length c.continuations) (length (longer c.continuations i n)) (reverse c.frames.choices) (omega arith) (omega arith)
+          (longer-same c.continuations i n) (λ k b. refl) good.boxed;
     }
 
 abbrev IsValued : Core → Type 0
@@ -101,9 +97,9 @@ restored-good c d f good popped e back same stays =
       level = here.1;
       frames = here.3;
       mode = subst (IsMode (length (take f.kept.continuations d.continuations))) (sym back) tt;
-      values = subst (λ ts. AreValues ts d.values.items d.names) (sym (take-within d.floor.terms f.mark.terms d.bindings.terms floor))
+      values = subst (λ ts. AreValues ts d.values.items d.names) (sym (take-take d.floor.terms f.mark.terms d.bindings.terms floor))
           values;
-      failure = subst (λ ts. IsFailure ts d.failure) (sym (take-within d.floor.terms f.mark.terms d.bindings.terms floor)) failed;
+      failure = subst (λ ts. IsFailure ts d.failure) (sym (take-take d.floor.terms f.mark.terms d.bindings.terms floor)) failed;
       boxes = restored-boxes d.frames.boxes d.calls d.continuations (reverse d.frames.choices) f stays (popped-boxes c d good e same)
           (popped-boxed c d f good popped e same);
       boxed = restored-boxed d.frames.boxes d.calls d.continuations (reverse d.frames.choices) f stays
@@ -114,8 +110,8 @@ restored-good c d f good popped e back same stays =
 pub popped-tried : (c d : Core) (f : Frame) → IsGood c → reverse c.frames.choices ≡ f ∷ reverse d.frames.choices → d
     ≡ record c { frames = d.frames }
     → d.frames.boxes ≡ c.frames.boxes → Stays d f
-    → (f.kept.calls ≤ d.calls) × IsTried (boxes_before (f.kept.calls + 1) d.frames.boxes) (take f.kept.continuations d.continuations)
-    f.kind f.kept f.rest
+    → (f.kept.calls ≤ d.calls) × IsTried (boxes_before (f.kept.calls + 1) d.frames.boxes) f.kept.calls
+    (take f.kept.continuations d.continuations) f.kept.kind f.kept.goal f.rest
 popped-tried c d f good popped e same stays =
     let boxed : AreBoxed d.frames.boxes d.continuations d.calls (length d.continuations) (f ∷ reverse d.frames.choices) =
     popped-boxed c d f good popped e same in
@@ -141,7 +137,7 @@ popped-frame c d f good popped e =
 -- a choice point was made now
 pub pushed-good : (c : Core) (f : Frame) (F : List Frame) → IsGood c → f.mark ≡ mark_of c.bindings → IsGoodMark c.bindings f.mark
     → f.kept.continuations ≡ length c.continuations → f.kept.calls ≡ c.calls → IsFrame c.store (level_in c) f
-    → IsTried c.frames.boxes c.continuations f.kind f.kept f.rest
+    → IsTried c.frames.boxes f.kept.calls c.continuations f.kept.kind f.kept.goal f.rest
     → reverse F ≡ f ∷ reverse c.frames.choices → IsGood (record c { frames = record c.frames { choices = F } })
 pushed-good c f F good mark marked continuations calls frame tried new =
     let v : Level = level_in c in

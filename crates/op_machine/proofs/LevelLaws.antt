@@ -1,30 +1,25 @@
 -- Moments that follow one another: what was there is still there, so earlier choice points mean what they meant.
 use Rattle.std.proofs.Common.{◌≡◌, ℕ, ◌+◌, ◌-◌, ◌<◌, ◌≤◌, List, [], ◌∷◌, ◌++◌, length, take, drop, map, All, pos, refl, sym, ap, ◌∙◌}
 use Rattle.std.proofs.Common.{subst, arith, length-append}
-use Rattle.std.proofs.lemmas.List.{get_or-take, get_or_append_left}
-use Rattle.std.proofs.Math.Seq.{take-length, get_or-append_seam}
-use Rattle.op_logic.proofs.Tests.{by_order}
+use Rattle.std.proofs.lemmas.List.{get_or-take, take-take}
+use Rattle.std.proofs.Math.Seq.{take-length, take-append_seam}
 use Rattle.op_logic.specs.Term.{Term, int}
 use Rattle.op_logic.specs.Names.{HasNames, HaveNames}
 use Rattle.op_term.specs.Places.{term_at}
 use Rattle.op_bind.specs.State as bind
 use Rattle.op_bind.specs.State.{oldest, resolved, mark_of, undone, bindings, IsGoodMark}
 use Rattle.op_bind.specs.Grown.{Grows}
-use Rattle.op_bind.proofs.Unifying.{oldest-oldest}
+use Rattle.op_bind.proofs.UnificationLoop.{oldest-oldest}
 use Rattle.op_trace.specs.World as world
 use Rattle.op_machine.specs.declared.continuations.Item.{Item}
 use Rattle.op_machine.specs.declared.continuations.Item.TheVariants as item
 use Rattle.op_machine.specs.Meaning.{Frame}
-use Rattle.op_machine.proofs.ContinuationLaws.{take-within}
+use Rattle.op_machine.proofs.ContinuationLaws.{longer, longer-each}
 use Rattle.op_machine.specs.inner.Continuations.{continuation_in}
 use Rattle.op_store.specs.Stored.{Stored}
 use Rattle.op_machine.specs.Program.{goal_named}
 use Rattle.op_machine.specs.Meaning.{Level, level_at, level_of, items_in, item_term, choice_points_of, choice_point_of}
 use Rattle.op_machine.specs.inner.Invariant.{IsGoal, IsItem, AreItems, IsLevel, IsEarlier, IsFrame, AreFrames, AreValues, IsFailure}
-
-take-front : {A : Type 0} (xs ys : List A) → take (length xs) (xs ++ ys) ≡ xs
-take-front [] ys = refl
-take-front (x ∷ xs) ys = ap (λ zs. x ∷ zs) (take-front xs ys)
 
 -- what was there is the beginning of what is there
 pub record Rises (v w : Level) : Type 0 where
@@ -55,17 +50,17 @@ rises-continuations s L I = record {
   bound_there = omega arith;
   bound = oldest-all s.bound;
   continuations_there = omega (arith, length-append L (I ∷ []));
-  continuations = take-front L (I ∷ []);
+  continuations = take-append_seam L (I ∷ []);
 }
 
 pub level_at-rises : (v w : Level) (f : Frame) → Rises v w → IsEarlier f v → level_at f w ≡ level_at f v
 level_at-rises v w f r e =
     let t : take f.mark.terms w.terms ≡ take f.mark.terms v.terms =
-    sym (take-within f.mark.terms (length v.terms) w.terms e.terms_there) ∙ ap (take f.mark.terms) r.terms in
+    sym (take-take f.mark.terms (length v.terms) w.terms e.terms_there) ∙ ap (take f.mark.terms) r.terms in
     let b : oldest f.mark.bound w.bound ≡ oldest f.mark.bound v.bound =
     sym (oldest-oldest f.mark.bound (length v.bound) w.bound e.bound_there r.bound_there) ∙ ap (oldest f.mark.bound) r.bound in
     let l : take f.kept.continuations w.continuations ≡ take f.kept.continuations v.continuations =
-    sym (take-within f.kept.continuations (length v.continuations) w.continuations e.continuations_there)
+    sym (take-take f.kept.continuations (length v.continuations) w.continuations e.continuations_there)
     ∙ ap (take f.kept.continuations) r.continuations in
     cc
 
@@ -109,11 +104,13 @@ pub item-rises : (n : ℕ) (t : Stored) (v w : Level) (i : Item) → Rises v w �
 item-rises n t v w (item.Goal r m) h a = ap (λ (x : Term ℕ). world.Goal (goal_named t x) m) (term-rises v w r h a.0)
 item-rises n t v w (item.Cut m) h a = refl
 item-rises n t v w (item.Exit k r) h a = ap (λ (x : Term ℕ). world.Exit k (goal_named t x)) (term-rises v w r h a.0)
+item-rises n t v w (item.Try k r) h a = ap (λ (x : Term ℕ). world.Try world.First k (goal_named t x)) (term-rises v w r h a.0)
 
 pub is-item-rises : (n : ℕ) (v w : Level) (i : Item) → Rises v w → IsItem n v.terms i → IsItem n w.terms i
 is-item-rises n v w (item.Goal r m) h a = goal-rises n v w r h a
 is-item-rises n v w (item.Cut m) h a = tt
 is-item-rises n v w (item.Exit k r) h a = goal-rises n v w r h a
+is-item-rises n v w (item.Try k r) h a = goal-rises n v w r h a
 
 pub items-rise : (n : ℕ) (t : Stored) (v w : Level) (I : List Item) → Rises v w → AreItems n v.terms I → map (item_term t w) I
     ≡ map (item_term t v) I
@@ -141,13 +138,13 @@ items_in-rise t floor v w m h lev l =
 pub values-rise : (floor : ℕ) (v w : Level) (rs : List ℕ) (ps : List (List ℕ × ℕ)) → Rises v w → floor ≤ length v.terms
     → AreValues (take floor v.terms) rs ps → AreValues (take floor w.terms) rs ps
 values-rise floor v w rs ps h f a =
-    let e : take floor w.terms ≡ take floor v.terms = sym (take-within floor (length v.terms) w.terms f) ∙ ap (take floor) h.terms in
+    let e : take floor w.terms ≡ take floor v.terms = sym (take-take floor (length v.terms) w.terms f) ∙ ap (take floor) h.terms in
     subst (λ (ts : List (Term ℕ)). AreValues ts rs ps) (sym e) a
 
 pub failure-rises : (floor : ℕ) (v w : Level) (r : ℕ) → Rises v w → floor ≤ length v.terms → IsFailure (take floor v.terms) r
     → IsFailure (take floor w.terms) r
 failure-rises floor v w r h f a =
-    let e : take floor w.terms ≡ take floor v.terms = sym (take-within floor (length v.terms) w.terms f) ∙ ap (take floor) h.terms in
+    let e : take floor w.terms ≡ take floor v.terms = sym (take-take floor (length v.terms) w.terms f) ∙ ap (take floor) h.terms in
     subst (λ (ts : List (Term ℕ)). IsFailure ts r) (sym e) a
 
 -- a level that has further bindings and terms, but the same continuations
@@ -164,21 +161,13 @@ level-bindings t floor s u L g names lev = record {
 -- a level with a further continuation
 pub level-continuations : (t : Stored) (floor : ℕ) (s : bind.State) (L : List (List Item)) (i : Item) (n : ℕ)
     → IsLevel t floor (level_of s L)
-    → IsItem (length t.names) s.terms i → n < length L → IsLevel t floor (level_of s (L ++ (i ∷ continuation_in L n) ∷ []))
-level-continuations t floor s L i n lev it h =
-    let I : List Item = i ∷ continuation_in L n in
-    let len : length (L ++ I ∷ []) ≡ length L + 1 = length-append L (I ∷ []) in
-    record {
-      continuations = λ m l.
-          by_order m (length L)
-          (λ k. subst (AreItems (length t.names) s.terms) (sym (get_or_append_left L (I ∷ []) [] m k)) (lev.continuations m k))
-          (λ k.
-          let e : m ≡ length L = omega arith in
-          let at_end : continuation_in (L ++ I ∷ []) m ≡ I = ap (λ x. continuation_in (L ++ I ∷ []) x) e ∙ get_or-append_seam L I [] [] in
-          subst (AreItems (length t.names) s.terms) (sym at_end) (it, lev.continuations n h));
-      bound = lev.bound;
-      floor_there = lev.floor_there;
-    }
+    → IsItem (length t.names) s.terms i → n < length L → IsLevel t floor (level_of s (longer L i n))
+level-continuations t floor s L i n lev it h = record {
+  continuations = longer-each (λ (m : ℕ) (I : List Item). AreItems (length t.names) s.terms I) L i n lev.continuations
+      (it, lev.continuations n h);
+  bound = lev.bound;
+  floor_there = lev.floor_there;
+}
 
 -- a choice point that is made now is made at this level
 pub level-now : (s : bind.State) (L : List (List Item)) (f : Frame) → f.mark ≡ mark_of s → f.kept.continuations ≡ length L

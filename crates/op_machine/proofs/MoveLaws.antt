@@ -1,20 +1,24 @@
 -- Each move keeps what is owed.
 use Rattle.std.proofs.Common.{◌≡◌, ℕ, ◌+◌, ◌-◌, ◌≤◌, ◌==◌, nat_le, Bool, true, false, List, [], ◌∷◌, Option, Some, None, refl, sym, ap}
-use Rattle.std.proofs.Common.{◌∙◌, append_assoc, if◌then◌else◌}
+use Rattle.std.proofs.Common.{◌∙◌, append_assoc, if◌then◌else◌, arith}
+use Rattle.std.proofs.lemmas.Bool.Decides.{nat_tests}
 use Rattle.op_logic.specs.Term.{Term, shift}
 use Rattle.op_logic.specs.Bind.{Bindings, unify, Solved as Result}
 use Rattle.op_trace.specs.declared.port.Port.TheVariants as port
 use Rattle.op_trace.specs.declared.barrier.Barrier.{Barrier}
 use Rattle.op_trace.specs.declared.barrier.Barrier.TheVariants.{Call, InCondition, AtSuccess}
-use Rattle.op_trace.specs.World.{Text, text_eq, Clause, World, Setup, same_barrier, Item, Goal, Cut, Exit, Turn, Shown, Solved, procedure}
+use Rattle.op_trace.specs.Database.{Text, text_eq, Clause}
+use Rattle.op_trace.specs.World.{World, same_barrier, Tries, First, Item, Goal, Cut, Exit, Try, Turn, Shown, Solved}
+use Rattle.op_trace.specs.Act.{Yield, Fails, Gives, Gives_again, Act, Setup}
 use Rattle.op_trace.specs.Visit.{Verdict, Failed, CutTo, Stopped, Spent, Visited, gives, with_turns, and_then, event_of, with_event, pays}
 use Rattle.op_trace.specs.Visit.{reaches, cut, shows, Control, TrueGoal, FailGoal, CutGoal, Conjunction, Disjunction, IfThenElse}
-use Rattle.op_trace.specs.Visit.{BoxedGoal, control, entered, Choice, Redo, Branch, More, Fail, Condition, matched, tries, alternatives}
+use Rattle.op_trace.specs.Visit.{BoxedGoal, control, entered, Choice, Redo, Branch, More, Fail, Condition, matched, try_clause, alternatives}
+use Rattle.op_trace.specs.Visit.{Again, Inside, Clauses, Tried, inside, counted_as, acts, tries_again, entered_box, exits, yields}
 use Rattle.op_trace.specs.Visit.{branches, after, boxed, selected, solved, visit, visit_with}
-use Rattle.op_trace.proofs.Agree.{visit_rows}
-use Rattle.op_trace.proofs.Only.{Only, visit-only}
+use Rattle.op_trace.proofs.WalkRows.{visit_rows}
+use Rattle.op_trace.proofs.WalkBarriers.{Only, visit-only}
 use Rattle.op_machine.specs.Resume.{resume, keep, with_more, State, Forward, Backward, Over, owed, Moved, silent, paid, invoked, chosen}
-use Rattle.op_machine.specs.Resume.{head_unified, tried, branched, at_solution, move, world_of}
+use Rattle.op_machine.specs.Resume.{head_unified, tried, branched, at_solution, move, world_of, entered_state, acted, yielded, tried_again}
 use Rattle.op_machine.specs.inner.Barriers.{Behind, InStep}
 
 -- a walk that leads to another, and then to a third
@@ -33,6 +37,7 @@ unfolding resume
 resume-Stopped s [] w = refl
 resume-Stopped s (Redo k g σ J ∷ K) w = resume-Stopped s K w
 resume-Stopped s (Branch t m σ J ∷ K) w = resume-Stopped s K w
+resume-Stopped s (Again t k g σ J ∷ K) w = resume-Stopped s K w
 resume-Stopped s (Condition n t m σ J ∷ K) w = resume-Stopped s K w
 resume-Stopped s (More [] k g σ J ∷ K) w = resume-Stopped s K w
 resume-Stopped s (More (c ∷ cs) k g σ J ∷ K) w = resume-Stopped s K w
@@ -43,6 +48,7 @@ unfolding resume
 resume-Spent s [] w = refl
 resume-Spent s (Redo k g σ J ∷ K) w = resume-Spent s K w
 resume-Spent s (Branch t m σ J ∷ K) w = resume-Spent s K w
+resume-Spent s (Again t k g σ J ∷ K) w = resume-Spent s K w
 resume-Spent s (Condition n t m σ J ∷ K) w = resume-Spent s K w
 resume-Spent s (More [] k g σ J ∷ K) w = resume-Spent s K w
 resume-Spent s (More (c ∷ cs) k g σ J ∷ K) w = resume-Spent s K w
@@ -54,6 +60,7 @@ unfolding resume
 resume-cut s [] m w = refl
 resume-cut s (Redo k g σ J ∷ K) m w = resume-cut s K m w
 resume-cut s (Branch t b σ J ∷ K) m w = resume-cut s K m w
+resume-cut s (Again t k g σ J ∷ K) m w = resume-cut s K m w
 resume-cut s (More [] k g σ J ∷ K) m w = resume-cut s K m w
 resume-cut s (More (c ∷ cs) k g σ J ∷ K) m w = resume-cut s K m w
 resume-cut s (Fail k g σ J ∷ K) m w = go (same_barrier m (Call k)) (resume-cut s K m w)
@@ -109,7 +116,7 @@ matched-row s c k g J w (Some (Some τ, left)) K =
     (λ u. silent (Forward (entered w.variables c k g J) K τ (record u { variables = u.variables + c.variables }))) K refl
 
 pub tried-row : (s : Setup) (c : Clause) (k : ℕ) (g : Term Text) (σ : Bindings Text) (J : List Item) (w : World) (K : List Choice)
-    → and_then (tries (visit s) s c k g σ J w) (resume s K) ≡ comes s (tried s c k g σ J K w)
+    → and_then (try_clause (visit s) s c k g σ J w) (resume s K) ≡ comes s (tried s c k g σ J K w)
 tried-row s c k g σ J w K =
     let pairs : World → List (Term Text × Term Text) = λ u. (g, shift u.variables c.head) ∷ [] in
     paid-row (nat_le (w.steps + 1) s.budget) s 1 w
@@ -132,16 +139,49 @@ unfolding resume
 resume-with_more s [] k g σ J K r w = refl
 resume-with_more s (c ∷ cs) k g σ J K r w = refl
 
+pub entered_box-row : (i : Inside) (s : Setup) (k : ℕ) (g : Term Text) (J : List Item) (σ : Bindings Text) (w : World) (K : List Choice)
+    → and_then (entered_box (visit s) s i k g σ J w) (resume s K) ≡ owed s (entered_state i k g J K σ w)
+unfolding owed resume
+entered_box-row (Clauses cs) s k g J σ w K = sym (resume-with_more s cs k g σ J K Failed w)
+entered_box-row Tried s k g J σ w K = refl
+
 pub boxed-row : (s : Setup) (g : Term Text) (J : List Item) (σ : Bindings Text) (w : World) (K : List Choice)
     → and_then (boxed (visit s) s g J σ w) (resume s K) ≡ comes s (invoked g J K σ w)
-unfolding owed resume
+unfolding resume
 boxed-row s g J σ w K =
     let k : ℕ = w.calls + 1 in
     let u : World = record w { calls = k } in
     ap (with_turns (Shown (event_of port.Call k g σ J u) (with_event u) ∷ []))
-    (and_then-assoc (alternatives (visit s) s (procedure w.clauses g) k g σ J Failed (with_event u)) (after (visit s) s (Fail k g σ J))
-    (resume s K)
-    ∙ sym (resume-with_more s (procedure w.clauses g) k g σ J (Fail k g σ J ∷ K) Failed (with_event u)))
+    (and_then-assoc (entered_box (visit s) s (inside w.database g) k g σ J (with_event u)) (after (visit s) s (Fail k g σ J)) (resume s K)
+    ∙ entered_box-row (inside w.database g) s k g J σ (with_event u) (Fail k g σ J ∷ K))
+
+pub acted-row : (t : Bool) (s : Setup) (a : Act) (w : World) (h : Yield → World → Visited) (m : Yield → World → Moved) (K : List Choice)
+    → nat_le (w.steps + a.cost) s.budget ≡ t
+    → ((u : World) → u.steps ≤ s.budget → and_then (h a.yield u) (resume s K) ≡ comes s (m a.yield u))
+    → and_then (acts t s a w h) (resume s K) ≡ comes s (acted t s a w m)
+unfolding owed
+acted-row true s a w h m K test e =
+    let fits : w.steps + a.cost ≤ s.budget = grind (arith, nat_tests) in
+    e (record (counted_as w a.after) { steps = w.steps + a.cost }) fits
+acted-row false s a w h m K test e = resume-Spent s K _
+
+-- the yield of a try
+pub yields-row : (s : Setup) (k : ℕ) (g : Term Text) (J : List Item) (σ : Bindings Text) (y : Yield) (w : World) (K : List Choice)
+    → w.steps ≤ s.budget
+    → and_then (yields (visit s) s (visit_with (visit s) s J) k g J σ y w) (resume s K) ≡ comes s (yielded k g J K σ y w)
+unfolding owed visit_with
+yields-row s k g J σ Fails w K below = refl
+yields-row s k g J σ (Gives τ) w K below =
+    ap (λ (v : Visited). and_then v (resume s K)) (sym (visit_rows s (Exit k g ∷ J) τ w below))
+yields-row s k g J σ (Gives_again τ t) w K below =
+    push-row s (exits (visit s) s (visit_with (visit s) s J) k g J τ w) (Again t k g σ J) K
+    ∙ ap (λ (v : Visited). and_then v (resume s (Again t k g σ J ∷ K))) (sym (visit_rows s (Exit k g ∷ J) τ w below))
+
+pub again-row : (s : Setup) (t : Tries) (k : ℕ) (g : Term Text) (σ : Bindings Text) (J : List Item) (w : World) (K : List Choice)
+    → and_then (tries_again (visit s) s t k g σ J w) (resume s K) ≡ comes s (tried_again s t k g σ J K w)
+unfolding owed
+again-row s t k g σ J w K =
+    paid-row (nat_le (w.steps + 1) s.budget) s 1 w (visit s (Try t k g ∷ J) σ) (λ u. silent (Forward (Try t k g ∷ J) K σ u)) K refl
 
 pub branched-row : (s : Setup) (t : Term Text) (m : Barrier) (σ : Bindings Text) (J : List Item) (w : World) (K : List Choice)
     → and_then (branches (visit s) s t m σ J w) (resume s K) ≡ comes s (branched s t m σ J K w)
@@ -200,6 +240,11 @@ move-row s (Forward (Exit k g ∷ J) K σ w) below h =
 move-row s (Forward (Cut m ∷ J) K σ w) below h =
     ap (λ (v : Visited). and_then v (resume s K)) (visit_rows s (Cut m ∷ J) σ w below)
     ∙ (ap (λ (v : Visited). and_then (and_then v (cut m)) (resume s K)) (sym (visit_rows s J σ w below)) ∙ cuts-row s m J K σ w h.0.0)
+move-row s (Forward (Try t k g ∷ J) K σ w) below h =
+    let a : Act = s.act (s.budget - w.steps) t g σ w in
+    ap (λ (v : Visited). and_then v (resume s K)) (visit_rows s (Try t k g ∷ J) σ w below)
+    ∙ acted-row (nat_le (w.steps + a.cost) s.budget) s a w (yields (visit s) s (visit_with (visit s) s J) k g J σ) (yielded k g J K σ) K refl
+    (λ u fits. yields-row s k g J σ a.yield u K fits)
 move-row s (Forward (Goal t m ∷ J) K σ w) below h =
     ap (λ (v : Visited). and_then v (resume s K)) (visit_rows s (Goal t m ∷ J) σ w below)
     ∙ paid-row (nat_le (w.steps + 1) s.budget) s 1 w (selected (visit s) s (control t) t m J σ) (chosen (control t) t m J K σ) K
@@ -208,10 +253,11 @@ move-row s (Backward [] w) below h = refl
 move-row s (Backward (Redo k g σ J ∷ K) w) below h = refl
 move-row s (Backward (Branch t m σ J ∷ K) w) below h = branched-row s t m σ J w K
 move-row s (Backward (Condition n t m σ J ∷ K) w) below h = branched-row s t m σ J w K
+move-row s (Backward (Again t k g σ J ∷ K) w) below h = again-row s t k g σ J w K
 move-row s (Backward (Fail k g σ J ∷ K) w) below h = refl
 move-row s (Backward (More [] k g σ J ∷ K) w) below h = refl
 move-row s (Backward (More (c ∷ cs) k g σ J ∷ K) w) below h =
-    let v : Visited = tries (visit s) s c k g σ J w in
+    let v : Visited = try_clause (visit s) s c k g σ J w in
     push-row s v (More cs k g σ J) K
     ∙ (ap (with_turns v.turns) (sym (resume-with_more s cs k g σ J K v.verdict v.world))
     ∙ tried-row s c k g σ J w (with_more cs k g σ J K))

@@ -6,14 +6,14 @@ use Rattle.op_logic.specs.Term.{Term, var, int, node, no_args, arg, shift}
 use Rattle.op_logic.specs.Bind.{Bindings, Solved, apply, unify}
 use Rattle.op_logic.specs.Laws.{rename_bindings, rename_solved}
 use Rattle.op_logic.specs.Names.{name_at, IsTable, HasNames, HaveNames}
-use Rattle.op_logic.proofs.Renaming.{apply-rename, unify-named}
-use Rattle.op_logic.proofs.Having.{unify-names, FoundHasNames}
-use Rattle.op_logic.proofs.Shifting.{shift-rename}
+use Rattle.op_logic.proofs.RenamedUnification.{apply-rename, unify-named}
+use Rattle.op_logic.proofs.UnifierNames.{unify-names, FoundHasNames}
+use Rattle.op_logic.proofs.ShiftedTerms.{shift-rename}
 use Rattle.op_term.specs.Places.{term_at}
 use Rattle.op_bind.specs.State as bind
 use Rattle.op_bind.specs.State.{bindings, value_of}
-use Rattle.op_bind.specs.Pairs.{unified, with_variables}
-use Rattle.op_trace.specs.World.{Text, text_eq}
+use Rattle.op_bind.specs.Unified.{unified, with_variables}
+use Rattle.op_trace.specs.Database.{Text, text_eq}
 use Rattle.op_trace.specs.Visit.{is_true}
 use Rattle.op_store.specs.Stored.{Stored}
 use Rattle.op_machine.specs.Program.{goal_named}

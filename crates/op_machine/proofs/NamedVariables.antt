@@ -6,7 +6,7 @@ use Rattle.op_logic.specs.Term.{Term, var, int}
 use Rattle.op_term.specs.Places.{term_at}
 use Rattle.op_bind.specs.State.{State}
 use Rattle.op_bind.specs.Grown.{Grows}
-use Rattle.op_bind.proofs.Growing.{term-stays}
+use Rattle.op_bind.proofs.StateGrowth.{term-stays}
 use Rattle.op_reader.specs.Reading.{AreCounted}
 use Rattle.op_machine.specs.inner.Invariant.{AreValues}
 

@@ -5,12 +5,15 @@ use Rattle.std.proofs.lemmas.Bool.Decides.{nat_tests}
 use Rattle.op_logic.specs.Term.{Term, shift}
 use Rattle.op_logic.specs.Bind.{Bindings, solve, unify, Solved as Result}
 use Rattle.op_trace.specs.declared.barrier.Barrier.{Barrier}
-use Rattle.op_trace.specs.World.{Text, text_eq, Clause, World, Setup, Item, Goal, Cut, Exit, Solved}
+use Rattle.op_trace.specs.Database.{Text, text_eq, Clause}
+use Rattle.op_trace.specs.World.{World, Tries, First, Item, Goal, Cut, Exit, Try, Solved}
+use Rattle.op_trace.specs.Act.{Yield, Fails, Gives, Gives_again, Act, Setup}
 use Rattle.op_trace.specs.Visit.{Stopped, Control, TrueGoal, FailGoal, CutGoal, Conjunction, Disjunction, IfThenElse, BoxedGoal, control}
-use Rattle.op_trace.specs.Visit.{entered, Choice, Redo, Branch, More, Fail, Condition}
-use Rattle.op_trace.proofs.Later.{IsLess, within-less}
+use Rattle.op_trace.specs.declared.port.Port.TheVariants as port
+use Rattle.op_trace.specs.Visit.{with_event, Inside, Clauses, Tried, inside, counted_as, entered, Choice, Redo, Branch, More, Again, Fail, Condition}
+use Rattle.op_trace.proofs.WalkSteps.{IsLess, within-less}
 use Rattle.op_machine.specs.Resume.{keep, with_more, State, Forward, Backward, Over, Moved, silent, paid, pay, chosen, head_unified, tried}
-use Rattle.op_machine.specs.Resume.{branched, move, world_of}
+use Rattle.op_machine.specs.Resume.{branched, showing, entered_state, acted, yielded, tried_again, move, world_of}
 use Rattle.op_machine.specs.inner.Bounds.{IsGoalFirst, Counted}
 
 abbrev pub count_in : State → ℕ
@@ -29,6 +32,13 @@ paid-onward true s n w h test below k =
     record { count = (k fits).count; steps = omega (arith, (k fits).steps) }
 paid-onward false s n w h test below k = record { count = omega arith; steps = below }
 
+-- the event of a call is counted
+pub entered-onward : (i : Inside) (s : Setup) (t : Term Text) (J : List Item) (K : List Choice) (σ : Bindings Text) (w : World)
+    → IsOnward s w (showing port.Call (w.calls + 1) t σ J (record w { calls = w.calls + 1 })
+    (entered_state i (w.calls + 1) t J (Fail (w.calls + 1) t σ J ∷ K) σ (with_event (record w { calls = w.calls + 1 }))))
+entered-onward (Clauses cs) s t J K σ w = record { count = omega arith; steps = omega arith }
+entered-onward Tried s t J K σ w = record { count = omega arith; steps = omega arith }
+
 pub chosen-onward : (q : Control) (s : Setup) (t : Term Text) (m : Barrier) (J : List Item) (K : List Choice) (σ : Bindings Text)
     (w : World)
     → IsOnward s w (chosen q t m J K σ w)
@@ -38,7 +48,7 @@ chosen-onward CutGoal s t m J K σ w = record { count = omega arith; steps = ome
 chosen-onward (Disjunction a b) s t m J K σ w = record { count = omega arith; steps = omega arith }
 chosen-onward (IfThenElse c a b) s t m J K σ w = record { count = omega arith; steps = omega arith }
 chosen-onward (Conjunction a b) s t m J K σ w = record { count = omega arith; steps = omega arith }
-chosen-onward BoxedGoal s t m J K σ w = record { count = omega arith; steps = omega arith }
+chosen-onward BoxedGoal s t m J K σ w = entered-onward (inside w.database t) s t J K σ w
 
 pub met-onward : (s : Setup) (c : Clause) (k : ℕ) (g : Term Text) (J : List Item) (K : List Choice) (w : World) (o : Option (Result Text))
     → w.steps ≤ s.budget → IsLess (s.budget - w.steps) o → IsOnward s w (head_unified s c k g J K w o)
@@ -66,6 +76,21 @@ pub branched-onward : (s : Setup) (t : Term Text) (m : Barrier) (σ : Bindings T
 branched-onward s t m σ J K w below =
     paid-onward (nat_le (w.steps + 1) s.budget) s 1 w _ refl below (λ fits. record { count = omega arith; steps = omega arith })
 
+pub acted-onward : (t : Bool) (s : Setup) (a : Act) (k : ℕ) (g : Term Text) (J : List Item) (K : List Choice) (σ : Bindings Text) (w : World)
+    → nat_le (w.steps + a.cost) s.budget ≡ t → w.steps ≤ s.budget → IsOnward s w (acted t s a w (yielded k g J K σ))
+acted-onward true s a k g J K σ w test below = go a.yield
+  where
+    go : (y : Yield) → IsOnward s w (yielded k g J K σ y (record (counted_as w a.after) { steps = w.steps + a.cost }))
+    go Fails = record { count = omega arith; steps = omega arith }
+    go (Gives τ) = record { count = omega arith; steps = omega arith }
+    go (Gives_again τ x) = record { count = omega arith; steps = omega arith }
+acted-onward false s a k g J K σ w test below = record { count = omega arith; steps = below }
+
+pub again-onward : (s : Setup) (t : Tries) (k : ℕ) (g : Term Text) (σ : Bindings Text) (J : List Item) (K : List Choice) (w : World)
+    → w.steps ≤ s.budget → IsOnward s w (tried_again s t k g σ J K w)
+again-onward s t k g σ J K w below =
+    paid-onward (nat_le (w.steps + 1) s.budget) s 1 w _ refl below (λ fits. record { count = omega arith; steps = omega arith })
+
 pub move-onward : (s : Setup) (t : State) → (world_of t).steps ≤ s.budget → IsOnward s (world_of t) (move s t)
 move-onward s (Forward [] K σ w) below = go (w.solutions + 1 == s.wanted)
   where
@@ -79,6 +104,9 @@ move-onward s (Forward [] K σ w) below = go (w.solutions + 1 == s.wanted)
     go false = record { count = omega arith; steps = omega arith }
 move-onward s (Forward (Exit k g ∷ J) K σ w) below = record { count = omega arith; steps = omega arith }
 move-onward s (Forward (Cut m ∷ J) K σ w) below = record { count = omega arith; steps = omega arith }
+move-onward s (Forward (Try t k g ∷ J) K σ w) below =
+    let a : Act = s.act (s.budget - w.steps) t g σ w in
+    acted-onward (nat_le (w.steps + a.cost) s.budget) s a k g J K σ w refl below
 move-onward s (Forward (Goal t m ∷ J) K σ w) below =
     paid-onward (nat_le (w.steps + 1) s.budget) s 1 w _ refl below
     (λ fits. chosen-onward (control t) s t m J K σ (record w { steps = w.steps + 1 }))
@@ -86,14 +114,16 @@ move-onward s (Backward [] w) below = record { count = omega arith; steps = omeg
 move-onward s (Backward (Redo k g σ J ∷ K) w) below = record { count = omega arith; steps = omega arith }
 move-onward s (Backward (Branch t m σ J ∷ K) w) below = branched-onward s t m σ J K w below
 move-onward s (Backward (Condition n t m σ J ∷ K) w) below = branched-onward s t m σ J K w below
+move-onward s (Backward (Again t k g σ J ∷ K) w) below = again-onward s t k g σ J K w below
 move-onward s (Backward (Fail k g σ J ∷ K) w) below = record { count = omega arith; steps = omega arith }
 move-onward s (Backward (More [] k g σ J ∷ K) w) below = record { count = omega arith; steps = omega arith }
 move-onward s (Backward (More (c ∷ cs) k g σ J ∷ K) w) below = tried-onward s c k g σ J (with_more cs k g σ J K) w below
 move-onward s (Over r w) below = record { count = omega arith; steps = omega arith }
 
--- what is left to do: steps, a cut, and to be at the end
+-- what is left to do: steps, a cut or a try, and to be at the end
 abbrev pub live : State → ℕ
 live (Forward (Cut m ∷ J) K σ w) = 2
+live (Forward (Try t k g ∷ J) K σ w) = 2
 live (Forward I K σ w) = 1
 live (Backward K w) = 1
 live (Over r w) = 0
@@ -123,6 +153,7 @@ paid-lighter true s n w h test below k =
     lighter (Forward [] K σ u) f h = omega arith
     lighter (Forward (Exit k g ∷ J) K σ u) f h = omega arith
     lighter (Forward (Cut m ∷ J) K σ u) f h = omega arith
+    lighter (Forward (Try t k g ∷ J) K σ u) f h = omega arith
     lighter (Forward (Goal t m ∷ J) K σ u) f h = omega arith
     lighter (Backward K u) f h = omega arith
     lighter (Over r u) f h = omega arith
@@ -134,6 +165,19 @@ first-live [] K σ w h = absurd h
 first-live (Goal t m ∷ J) K σ w h = refl
 first-live (Cut m ∷ J) K σ w h = absurd h
 first-live (Exit k g ∷ J) K σ w h = absurd h
+first-live (Try t k g ∷ J) K σ w h = absurd h
+
+-- a try fails, or its box exits
+pub acted-lighter : (t : Bool) (s : Setup) (a : Act) (k : ℕ) (g : Term Text) (J : List Item) (K : List Choice) (σ : Bindings Text) (w : World)
+    → nat_le (w.steps + a.cost) s.budget ≡ t → w.steps ≤ s.budget
+    → weight s (acted t s a w (yielded k g J K σ)).state < 3 * (s.budget - w.steps) + 2
+acted-lighter true s a k g J K σ w test below = go a.yield
+  where
+    go : (y : Yield) → weight s (yielded k g J K σ y (record (counted_as w a.after) { steps = w.steps + a.cost })).state < 3 * (s.budget - w.steps) + 2
+    go Fails = omega arith
+    go (Gives τ) = omega arith
+    go (Gives_again τ x) = omega arith
+acted-lighter false s a k g J K σ w test below = omega arith
 
 -- a silent move that isn't at the end makes the state lighter
 pub move-lighter : (s : Setup) (t : State) → (world_of t).steps ≤ s.budget → (IsOver t → ⊥) → HasClauses t → Counted s t → (move s t).turns
@@ -142,6 +186,9 @@ pub move-lighter : (s : Setup) (t : State) → (world_of t).steps ≤ s.budget �
 move-lighter s (Forward [] K σ w) below live has counted e = cc
 move-lighter s (Forward (Exit k g ∷ J) K σ w) below live has counted e = cc
 move-lighter s (Forward (Cut m ∷ J) K σ w) below live has counted e = omega (arith, first-live J (keep m K) σ w counted.3.0)
+move-lighter s (Forward (Try t k g ∷ J) K σ w) below live has counted e =
+    let a : Act = s.act (s.budget - w.steps) t g σ w in
+    acted-lighter (nat_le (w.steps + a.cost) s.budget) s a k g J K σ w refl below
 move-lighter s (Forward (Goal t m ∷ J) K σ w) below live has counted e =
     paid-lighter (nat_le (w.steps + 1) s.budget) s 1 w _ refl below
     (λ fits. chosen-onward (control t) s t m J K σ (record w { steps = w.steps + 1 }))
@@ -150,6 +197,8 @@ move-lighter s (Backward (Redo k g σ J ∷ K) w) below live has counted e = cc
 move-lighter s (Backward (Branch t m σ J ∷ K) w) below live has counted e =
     paid-lighter (nat_le (w.steps + 1) s.budget) s 1 w _ refl below (λ fits. record { count = omega arith; steps = omega arith })
 move-lighter s (Backward (Condition n t m σ J ∷ K) w) below live has counted e =
+    paid-lighter (nat_le (w.steps + 1) s.budget) s 1 w _ refl below (λ fits. record { count = omega arith; steps = omega arith })
+move-lighter s (Backward (Again t k g σ J ∷ K) w) below live has counted e =
     paid-lighter (nat_le (w.steps + 1) s.budget) s 1 w _ refl below (λ fits. record { count = omega arith; steps = omega arith })
 move-lighter s (Backward (Fail k g σ J ∷ K) w) below live has counted e = cc
 move-lighter s (Backward (More [] k g σ J ∷ K) w) below live has counted e = absurd has

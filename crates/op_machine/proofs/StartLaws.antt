@@ -5,24 +5,26 @@ use Rattle.op_logic.specs.Term.{Term, shift, atom}
 use Rattle.op_logic.specs.Bind.{Bindings}
 use Rattle.op_logic.specs.Laws.{rename_bindings}
 use Rattle.op_logic.specs.Names.{name_at, HasNames, HaveNames}
-use Rattle.op_logic.proofs.Shifting.{shift-none}
+use Rattle.op_logic.proofs.ShiftedTerms.{shift-none}
 use Rattle.op_term.specs.Places.{term_at}
 use Rattle.op_bind.specs.State as bind
 use Rattle.op_bind.specs.State.{resolved}
 use Rattle.op_bind.specs.Grown.{Grows}
 use Rattle.op_trace.specs.World as world
 use Rattle.op_trace.specs.declared.barrier.Barrier.TheVariants.{Call}
-use Rattle.op_trace.specs.World.{Text, World, Setup, loaded}
+use Rattle.op_trace.specs.Database.{Text}
+use Rattle.op_trace.specs.World.{World, loaded}
+use Rattle.op_trace.specs.Act.{Setup, setup_for}
 use Rattle.op_trace.specs.Run.{started}
 use Rattle.op_machine.specs.declared.core_state.Core.{Core}
 use Rattle.op_machine.specs.declared.core_state.Mode.{Mode}
 use Rattle.op_machine.specs.declared.core_state.Mode.TheVariants as mode
 use Rattle.op_machine.specs.declared.continuations.Item.{Item}
 use Rattle.op_machine.specs.declared.continuations.Item.TheVariants as item
-use Rattle.op_store.specs.declared.goal.Goal.{Goal}
+use Rattle.op_store.specs.declared.goals.goal.Goal.{Goal}
 use Rattle.op_store.specs.Queries.{IsSoundGoal}
-use Rattle.op_store.specs.Stored.{Stored}
-use Rattle.op_machine.specs.Program.{clauses, goal_named}
+use Rattle.op_store.specs.Stored.{Stored, database_of}
+use Rattle.op_machine.specs.Program.{goal_named}
 use Rattle.op_machine.specs.Meaning.{Level, level_in, setup_of, world_in, state_with, state_of, items_in, item_term, bindings_in}
 use Rattle.op_machine.specs.Meaning.{choice_points_of, Frame}
 use Rattle.op_machine.specs.inner.Invariant.{IsGood, IsGoal, AreContinuations, AreFrames, AreValues, IsFailure, IsMode, IsSound}
@@ -57,15 +59,15 @@ pub record IsFirst (c : Core) (q : Goal) (body : ℕ) : Type 0 where
   pub numbers : (c.calls ≡ 0) × (c.steps ≡ 0) × (c.events ≡ 0) × (c.solutions ≡ 0) × (c.conditions ≡ 0)
 
 abbrev begun : Stored → Goal → State
-begun t q = Forward (world.Goal (goal_named t q.body) (Call 0) ∷ []) [] [] (started q.vars (loaded (clauses t)))
+begun t q = Forward (world.Goal (goal_named t q.body) (Call 0) ∷ []) [] [] (started q.vars (loaded (database_of t)))
 
 abbrev numbered : Stored → ℕ → ℕ → ℕ → ℕ → ℕ → ℕ → World
 numbered t variables calls conditions steps events solutions =
-    record (loaded (clauses t))
+    record (loaded (database_of t))
     { variables = variables; calls = calls; conditions = conditions; steps = steps; events = events; solutions = solutions }
 
 first-world : (c : Core) (q : Goal) (body n : ℕ) → IsSoundGoal n q → IsFirst c q body → world_in c
-    ≡ started q.vars (loaded (clauses c.store))
+    ≡ started q.vars (loaded (database_of c.store))
 first-world c q body n query f =
     let v : c.bindings.count ≡ q.vars = f.count in
     let a = f.numbers.0 in
@@ -100,7 +102,7 @@ pub first-begun : (c : Core) (q : Goal) (body n budget wanted : ℕ) → IsSound
 first-begun c q body n budget wanted query f b w = record {
   state = first-state c q body n query f;
   names = f.names;
-  setup = ap (λ (x : ℕ). record { budget = x; wanted = c.wanted }) b ∙ ap (λ (x : ℕ). record { budget = budget; wanted = x }) w;
+  setup = ap (λ (x : ℕ). setup_for x c.wanted) b ∙ ap (λ (x : ℕ). setup_for budget x) w;
   steps = f.numbers.1;
   turns = omega (arith, f.numbers.2, f.numbers.3);
 }

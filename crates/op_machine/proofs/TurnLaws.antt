@@ -1,6 +1,8 @@
 -- Moves, one after another, up to a turn or the ending.
 use Rattle.std.proofs.Common.{◌≡◌, ℕ, suc, ◌+◌, ◌^◌, ◌<◌, ◌≤◌, List, [], ◌∷◌, length, reverse, refl, sym, ap, ◌∙◌, subst, arith}
-use Rattle.op_trace.specs.World.{World, Setup, Turn, Clause}
+use Rattle.op_trace.specs.Database.{Clause}
+use Rattle.op_trace.specs.World.{World, Turn}
+use Rattle.op_trace.specs.Act.{Setup, setup_for}
 use Rattle.op_trace.specs.Visit.{with_turns, More}
 use Rattle.op_machine.specs.declared.core_state.Core.{Core}
 use Rattle.op_machine.specs.declared.core_state.Ending.{Ending}
@@ -9,9 +11,8 @@ use Rattle.op_machine.specs.declared.core_state.Mode.TheVariants as mode
 use Rattle.op_machine.specs.declared.core_state.Step.{Step}
 use Rattle.op_machine.specs.declared.core_state.Step.TheVariants as step
 use Rattle.op_machine.specs.Meaning.{Frame}
-use Rattle.op_frames.specs.declared.choice.ChoiceKind.{ChoiceKind}
-use Rattle.op_frames.specs.declared.choice.ChoiceKind.TheVariants as kind
-use Rattle.op_store.specs.Snapshots.{snapshot_clauses}
+use Rattle.op_machine.specs.declared.choice_points.ChoiceKind.{ChoiceKind}
+use Rattle.op_machine.specs.declared.choice_points.ChoiceKind.TheVariants as kind
 use Rattle.op_store.specs.Stored.{Stored}
 use Rattle.op_machine.specs.Meaning.{Level, level_at, level_in, setup_of, world_in, state_of, state_with, items_in, term_in, bindings_in}
 use Rattle.op_machine.specs.Meaning.{choice_points_of, choice_point_by}
@@ -78,7 +79,7 @@ below-budget c s = (counted-numbers (setup_of c) (state_of c) s.limit s.counted)
 
 pub setup-same : (old new : Core) → new.budget ≡ old.budget → new.wanted ≡ old.wanted → setup_of old ≡ setup_of new
 setup-same old new b w =
-    ap (λ (x : ℕ). record { budget = x; wanted = old.wanted }) (sym b) ∙ ap (λ (x : ℕ). record { budget = new.budget; wanted = x }) (sym w)
+    ap (λ (x : ℕ). setup_for x old.wanted) (sym b) ∙ ap (λ (x : ℕ). setup_for new.budget x) (sym w)
 
 pub advance-sound : (old new : Core) (s : Step) → IsSound old → Advances old new (moved_from old) s → IsSound new
 advance-sound old new s h a = record {
@@ -156,22 +157,20 @@ walked-self c s = record {
 pub frames-clauses : (t : Stored) (floor : ℕ) (v : Level) (F : List Frame) (w : World) → AreFrames t floor v F
     → HasClauses (Backward (choice_points_of t v F) w)
 frames-clauses t floor v [] w a = tt
-frames-clauses t floor v (f ∷ F) w a = go f.kind a.2.kind
+frames-clauses t floor v (f ∷ F) w a = go f.kept.kind a.2.kind
   where
     u : Level
     u = level_at f v
 
-    go : (q : ChoiceKind) → IsKind (length t.names) q f.kept
-        → HasClauses (Backward (choice_point_by t u q f.kept f.rest ∷ choice_points_of t u F) w)
+    go : (q : ChoiceKind) → IsKind (length t.names) q
+        → HasClauses (Backward (choice_point_by t u q f.kept.goal f.rest ∷ choice_points_of t u F) w)
     go (kind.Redo c) k = tt
-    go (kind.Branch p) k = tt
-    go (kind.More c) k = subst (λ (cs : List Clause).
+    go (kind.Branch m) k = tt
+    go (kind.More c rs i) k = subst (λ (cs : List Clause).
         HasClauses (Backward (More cs c (term_in t u f.kept.goal) (bindings_in t u) (items_in t u f.rest) ∷ choice_points_of t u F) w))
-        (sym (clauses_from-some t (snapshot_clauses f.kept.snapshot) f.kept.next k.0).1.1) tt
+        (sym (clauses_from-some t rs i k.0).1.1) tt
     go (kind.Fail c) k = tt
-    go (kind.Condition p) k = tt
-    go (kind.Catch c) k = absurd k
-    go (kind.Findall c) k = absurd k
+    go (kind.Condition c m) k = tt
 
 pub has-clauses : (t : Stored) (floor : ℕ) (v : Level) (F : List Frame) (w : World) (q : Mode) → AreFrames t floor v (reverse F)
     → HasClauses (state_with t v F w q)

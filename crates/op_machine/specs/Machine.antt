@@ -1,6 +1,7 @@
 -- What callers see of a machine, and what its calls answer.
 use Rattle.std.specs.Prelude.{◌≡◌, ℕ, ◌+◌, ◌&&◌, not, Bool, true, false, List, [], ◌∷◌}
-use Rattle.op_trace.specs.World.{World, Setup, Event, Turn, Shown, Solved, loaded}
+use Rattle.op_trace.specs.World.{World, Event, Turn, Shown, Solved, loaded}
+use Rattle.op_trace.specs.Act.{Setup, setup_for}
 use Rattle.op_trace.specs.Run.{Run, ran}
 use Rattle.op_trace.specs.Ending as ending
 use Rattle.op_machine.specs.declared.continuations.Item.{Item}
@@ -15,8 +16,7 @@ use Rattle.op_machine.specs.declared.turn.Last.{Last}
 use Rattle.op_machine.specs.declared.turn.Last.TheVariants as last
 use Rattle.op_machine.specs.declared.turn.Turn as declared
 use Rattle.op_machine.specs.declared.turn.Turn.TheVariants as turn
-use Rattle.op_store.specs.Stored.{Stored}
-use Rattle.op_machine.specs.Program.{clauses}
+use Rattle.op_store.specs.Stored.{Stored, database_of}
 use Rattle.op_bind.specs.State as bind
 use Rattle.op_machine.specs.Meaning.{Level, level_of, bindings_in, state_with, event_seen}
 use Rattle.op_machine.specs.inner.Invariant.{IsSeen}
@@ -63,11 +63,11 @@ kept_of c l f = record {
 }
 
 abbrev pub setup : Kept → Setup
-setup k = record { budget = k.budget; wanted = k.wanted }
+setup k = setup_for k.budget k.wanted
 
 -- the run's world at this moment
 abbrev pub world_now : Kept → World
-world_now k = record (loaded (clauses k.tables)) {
+world_now k = record (loaded (database_of k.tables)) {
   variables = k.bindings.count;
   calls = k.calls;
   conditions = k.conditions;

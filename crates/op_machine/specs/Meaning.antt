@@ -8,15 +8,16 @@ use Rattle.op_term.specs.Places.{term_at}
 use Rattle.op_bind.specs.State.{resolved, oldest, value_of}
 use Rattle.op_bind.specs.State as bind
 use Rattle.op_trace.specs.World as world
-use Rattle.op_trace.specs.World.{Text, World, Setup, Event, loaded}
+use Rattle.op_trace.specs.Database.{Text}
+use Rattle.op_trace.specs.World.{World, Event, loaded}
+use Rattle.op_trace.specs.Act.{Setup, setup_for}
 use Rattle.op_trace.specs.Visit as visit
 use Rattle.op_trace.specs.Visit.{Verdict}
 use Rattle.op_machine.specs.declared.continuations.Item.{Item}
 use Rattle.op_machine.specs.declared.continuations.Item.TheVariants as item
 use Rattle.op_frames.specs.declared.choice.Choice.{Choice}
-use Rattle.op_frames.specs.declared.choice.ChoiceKind.{ChoiceKind}
-use Rattle.op_frames.specs.declared.choice.ChoiceKind.TheVariants as kind
-use Rattle.op_store.specs.Snapshots.{snapshot_clauses}
+use Rattle.op_machine.specs.declared.choice_points.ChoiceKind.{ChoiceKind}
+use Rattle.op_machine.specs.declared.choice_points.ChoiceKind.TheVariants as kind
 use Rattle.op_machine.specs.declared.choice_points.Held.{Held}
 use Rattle.op_machine.specs.declared.core_state.Core.{Core}
 use Rattle.op_machine.specs.declared.core_state.Mode.{Mode}
@@ -25,8 +26,8 @@ use Rattle.op_machine.specs.declared.core_state.Ending.{Ending}
 use Rattle.op_machine.specs.declared.core_state.Ending.TheVariants as ending
 use Rattle.op_machine.specs.declared.core_state.Seen.{Seen}
 use Rattle.op_machine.specs.inner.Continuations.{continuation_in}
-use Rattle.op_store.specs.Stored.{Stored}
-use Rattle.op_machine.specs.Program.{clauses, clauses_from, goal_named}
+use Rattle.op_store.specs.Stored.{Stored, database_of}
+use Rattle.op_machine.specs.Program.{clauses_from, goal_named}
 use Rattle.op_machine.specs.Resume.{State, Forward, Backward, Over}
 
 -- a choice point with what the machine keeps with it
@@ -50,23 +51,21 @@ abbrev pub item_term : Stored → Level → Item → world.Item
 item_term t v (item.Goal r m) = world.Goal (term_in t v r) m
 item_term t v (item.Cut m) = world.Cut m
 item_term t v (item.Exit k r) = world.Exit k (term_in t v r)
+item_term t v (item.Try k r) = world.Try world.First k (term_in t v r)
 
 abbrev pub items_in : Stored → Level → ℕ → List world.Item
 items_in t v n = map (item_term t v) (continuation_in v.continuations n)
 
--- no choice point of a catch or of a findall is made yet (`IsKind`): what stands for them has no meaning
-abbrev pub choice_point_by : Stored → Level → ChoiceKind → Held → ℕ → visit.Choice
-choice_point_by t v (kind.Redo k) h n = visit.Redo k (term_in t v h.goal) (bindings_in t v) (items_in t v n)
-choice_point_by t v (kind.Branch p) h n = visit.Branch (term_in t v h.goal) h.barrier (bindings_in t v) (items_in t v n)
-choice_point_by t v (kind.More k) h n = visit.More (clauses_from t (snapshot_clauses h.snapshot) h.next) k (term_in t v h.goal)
-    (bindings_in t v) (items_in t v n)
-choice_point_by t v (kind.Fail k) h n = visit.Fail k (term_in t v h.goal) (bindings_in t v) (items_in t v n)
-choice_point_by t v (kind.Condition p) h n = visit.Condition h.condition (term_in t v h.goal) h.barrier (bindings_in t v) (items_in t v n)
-choice_point_by t v (kind.Catch k) h n = visit.Fail k (term_in t v h.goal) (bindings_in t v) (items_in t v n)
-choice_point_by t v (kind.Findall k) h n = visit.Fail k (term_in t v h.goal) (bindings_in t v) (items_in t v n)
+-- what each kind means, with its goal, before a continuation
+abbrev pub choice_point_by : Stored → Level → ChoiceKind → ℕ → ℕ → visit.Choice
+choice_point_by t v (kind.Redo k) g n = visit.Redo k (term_in t v g) (bindings_in t v) (items_in t v n)
+choice_point_by t v (kind.Branch m) g n = visit.Branch (term_in t v g) m (bindings_in t v) (items_in t v n)
+choice_point_by t v (kind.More k rs i) g n = visit.More (clauses_from t rs i) k (term_in t v g) (bindings_in t v) (items_in t v n)
+choice_point_by t v (kind.Fail k) g n = visit.Fail k (term_in t v g) (bindings_in t v) (items_in t v n)
+choice_point_by t v (kind.Condition c m) g n = visit.Condition c (term_in t v g) m (bindings_in t v) (items_in t v n)
 
 abbrev pub choice_point_of : Stored → Level → Frame → visit.Choice
-choice_point_of t v f = choice_point_by t v f.kind f.kept f.rest
+choice_point_of t v f = choice_point_by t v f.kept.kind f.kept.goal f.rest
 
 -- the moment at which a choice point was made, which is the beginning of a later one
 abbrev pub level_at : Frame → Level → Level
@@ -83,10 +82,10 @@ choice_points_of t v [] = []
 choice_points_of t v (f ∷ F) = choice_point_of t (level_at f v) f ∷ choice_points_of t (level_at f v) F
 
 abbrev pub setup_of : Core → Setup
-setup_of c = record { budget = c.budget; wanted = c.wanted }
+setup_of c = setup_for c.budget c.wanted
 
 abbrev pub world_in : Core → World
-world_in c = record (loaded (clauses c.store)) {
+world_in c = record (loaded (database_of c.store)) {
   variables = c.bindings.count;
   calls = c.calls;
   conditions = c.conditions;

@@ -1,17 +1,13 @@
 -- A program as a machine sees it: the clauses of a store, over the numbers of its names and over the names.
-use Rattle.std.specs.Prelude.{ℕ, List, map, drop, All}
+use Rattle.std.specs.Prelude.{ℕ, List, map, drop, All, Option, Some, None}
 use Rattle.op_logic.specs.Term.{Term}
 use Rattle.op_logic.specs.Names.{named}
 use Rattle.op_bind.specs.declared.places.Clause.{Clause as NumberedClause}
-use Rattle.op_trace.specs.World.{Text, Clause}
-use Rattle.op_store.specs.declared.pi.Pi.{Pi}
-use Rattle.op_store.specs.World.{clauses_of_world}
-use Rattle.op_store.specs.Stored.{Stored, world_of}
+use Rattle.op_trace.specs.Database.{Text, Clause}
+use Rattle.op_trace.specs.Visit.{Inside, Clauses, Tried}
+use Rattle.op_store.specs.declared.procedures.pi.Pi.{Pi}
+use Rattle.op_store.specs.Stored.{Stored}
 use Rattle.op_store.specs.Rows.{clause_named, IsNumberedClause}
-
--- all clauses of a store
-abbrev pub clauses : Stored → List Clause
-clauses t = clauses_of_world (world_of t)
 
 abbrev pub goal_named : Stored → Term ℕ → Term Text
 goal_named t g = named t.names g
@@ -29,3 +25,8 @@ IsKnown n r = (k : Pi) × IsNumberedClause n k r
 
 abbrev pub AreKnown : ℕ → List NumberedClause → Type 0
 AreKnown n snapshot = All (λ r. IsKnown n r) snapshot
+
+-- what is in the box of a goal, by the clauses of its procedure
+abbrev pub inside_snapshot : Stored → Option (List NumberedClause) → Inside
+inside_snapshot t None = Tried
+inside_snapshot t (Some snapshot) = Clauses (clauses_from t snapshot 0)

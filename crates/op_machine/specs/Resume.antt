@@ -6,10 +6,12 @@ use Rattle.op_trace.specs.declared.port.Port.{Port}
 use Rattle.op_trace.specs.declared.port.Port.TheVariants as port
 use Rattle.op_trace.specs.declared.barrier.Barrier.{Barrier}
 use Rattle.op_trace.specs.declared.barrier.Barrier.TheVariants.{Call, InCondition, AtSuccess}
-use Rattle.op_trace.specs.World.{Text, text_eq, Clause, World, Setup, same_barrier, Item, Goal, Cut, Exit, Turn, Shown, Solved, procedure}
+use Rattle.op_trace.specs.Database.{Text, text_eq, Clause}
+use Rattle.op_trace.specs.World.{World, same_barrier, Tries, First, Item, Goal, Cut, Exit, Try, Turn, Shown, Solved}
+use Rattle.op_trace.specs.Act.{Yield, Fails, Gives, Gives_again, Act, Setup}
 use Rattle.op_trace.specs.Visit.{Verdict, Failed, CutTo, Stopped, Spent, Visited, gives, and_then, event_of, with_event, Control, TrueGoal}
-use Rattle.op_trace.specs.Visit.{FailGoal, CutGoal, Conjunction, Disjunction, IfThenElse, BoxedGoal, control, entered, Choice, Redo}
-use Rattle.op_trace.specs.Visit.{Branch, More, Fail, Condition, after, visit}
+use Rattle.op_trace.specs.Visit.{FailGoal, CutGoal, Conjunction, Disjunction, IfThenElse, BoxedGoal, control, Inside, Clauses, Tried, inside, entered, Choice, Redo}
+use Rattle.op_trace.specs.Visit.{Branch, More, Again, Fail, Condition, counted_as, after, visit}
 
 -- where no choice point is left, a cut leaves nothing more to fail
 abbrev pub at_top : Verdict → World → Visited
@@ -30,6 +32,7 @@ abbrev pub stays : Choice → Barrier → Bool
 stays (Redo k g σ J) m = false
 stays (Branch t b σ J) m = false
 stays (More cs k g σ J) m = false
+stays (Again t k g σ J) m = false
 stays (Fail k g σ J) m = same_barrier m (Call k)
 stays (Condition n t b σ J) m = same_barrier m (InCondition n)
 
@@ -38,6 +41,7 @@ abbrev pub goes : Choice → Barrier → Bool
 goes (Redo k g σ J) m = false
 goes (Branch t b σ J) m = false
 goes (More cs k g σ J) m = false
+goes (Again t k g σ J) m = false
 goes (Fail k g σ J) m = false
 goes (Condition n t b σ J) m = same_barrier m (AtSuccess n)
 
@@ -81,11 +85,29 @@ abbrev pub with_more : List Clause → ℕ → Term Text → Bindings Text → L
 with_more [] k g σ J K = K
 with_more (c ∷ cs) k g σ J K = More (c ∷ cs) k g σ J ∷ K
 
+-- a box was entered, over these choice points
+abbrev pub entered_state : Inside → ℕ → Term Text → List Item → List Choice → Bindings Text → World → State
+entered_state (Clauses cs) k g J K σ w = Backward (with_more cs k g σ J K) w
+entered_state Tried k g J K σ w = Forward (Try First k g ∷ J) K σ w
+
 abbrev pub invoked : Term Text → List Item → List Choice → Bindings Text → World → Moved
 invoked g J K σ w =
     let k : ℕ = w.calls + 1 in
     let u : World = record w { calls = k } in
-    showing port.Call k g σ J u (Backward (with_more (procedure w.clauses g) k g σ J (Fail k g σ J ∷ K)) (with_event u))
+    showing port.Call k g σ J u (entered_state (inside w.database g) k g J (Fail k g σ J ∷ K) σ (with_event u))
+
+abbrev pub acted : Bool → Setup → Act → World → (Yield → World → Moved) → Moved
+acted true s a w h = h a.yield (record (counted_as w a.after) { steps = w.steps + a.cost })
+acted false s a w h = silent (Over Spent (record (counted_as w a.interrupted) { steps = s.budget }))
+
+-- an act, and what its yield leads to
+abbrev pub performed : Setup → Act → World → (Yield → World → Moved) → Moved
+performed s a w h = acted (nat_le (w.steps + a.cost) s.budget) s a w h
+
+abbrev pub yielded : ℕ → Term Text → List Item → List Choice → Bindings Text → Yield → World → Moved
+yielded k g J K σ Fails w = silent (Backward K w)
+yielded k g J K σ (Gives τ) w = silent (Forward (Exit k g ∷ J) K τ w)
+yielded k g J K σ (Gives_again τ t) w = silent (Forward (Exit k g ∷ J) (Again t k g σ J ∷ K) τ w)
 
 -- a condition comes next, and the else branch is kept as a choice point
 abbrev pub if_then_else_chosen : Term Text → Term Text → Term Text → Barrier → List Item → List Choice → Bindings Text → World → Moved
@@ -123,16 +145,22 @@ at_solution s K σ w =
 abbrev pub branched : Setup → Term Text → Barrier → Bindings Text → List Item → List Choice → World → Moved
 branched s t m σ J K w = pay s 1 w (λ u. silent (Forward (Goal t m ∷ J) K σ u))
 
+-- a further try: one step, and the try
+abbrev pub tried_again : Setup → Tries → ℕ → Term Text → Bindings Text → List Item → List Choice → World → Moved
+tried_again s t k g σ J K w = pay s 1 w (λ u. silent (Forward (Try t k g ∷ J) K σ u))
+
 abbrev pub move : Setup → State → Moved
 move s (Forward [] K σ w) = at_solution s K σ w
 move s (Forward (Exit k g ∷ J) K σ w) = showing port.Exit k g σ J w (Forward J (Redo k g σ J ∷ K) σ (with_event w))
 move s (Forward (Cut m ∷ J) K σ w) = silent (Forward J (keep m K) σ w)
+move s (Forward (Try t k g ∷ J) K σ w) = performed s (s.act (s.budget - w.steps) t g σ w) w (yielded k g J K σ)
 move s (Forward (Goal t m ∷ J) K σ w) = pay s 1 w (chosen (control t) t m J K σ)
 move s (Backward [] w) = silent (Over Failed w)
 move s (Backward (Redo k g σ J ∷ K) w) = showing port.Redo k g σ J w (Backward K (with_event w))
 move s (Backward (Branch t m σ J ∷ K) w) = branched s t m σ J K w
 move s (Backward (Condition n t m σ J ∷ K) w) = branched s t m σ J K w
 move s (Backward (Fail k g σ J ∷ K) w) = showing port.Fail k g σ J w (Backward K (with_event w))
+move s (Backward (Again t k g σ J ∷ K) w) = tried_again s t k g σ J K w
 move s (Backward (More [] k g σ J ∷ K) w) = silent (Backward K w)
 move s (Backward (More (c ∷ cs) k g σ J ∷ K) w) = tried s c k g σ J (with_more cs k g σ J K) w
 move s (Over r w) = silent (Over r w)

@@ -8,12 +8,12 @@ ghost use Rattle.op_machine.specs.Resume.{Forward, move, Backward, at_solution};
 ghost use Rattle.op_machine.specs.inner.Turns.{Turned};
 ghost use Rattle.op_machine.specs.declared.core_state.Mode.TheVariants as mode;
 
-use crate::choice_points::Held;
+use crate::choice_points::{ChoiceKind, Held};
 use crate::continuations::Item;
 use crate::core_state::{Core, Ending, Mode, Step};
 use crate::turn::Turn;
 use op_base::Memory;
-use op_frames::{Choice, ChoiceKind};
+use op_frames::Choice;
 use op_trace::Port;
 
 impl Core {
@@ -83,6 +83,7 @@ impl Core {
                 Ok(Step::Silent)
             }
             Item::Exit { call, goal } => self.exit_box(call, goal, rest),
+            Item::Try { .. } => Ok(self.try_goal()),
         }
     }
 
@@ -115,30 +116,24 @@ impl Core {
         requires fits { Fits self.old }
         requires frame { IsFrame self.old.store (level_in self.old) choice.now }
         requires calls { choice.now.kept.calls ≤ self.old.calls }
-        requires tried { IsTried self.old.frames.boxes self.old.continuations choice.now.kind choice.now.kept choice.now.rest }
+        requires tried { IsTried self.old.frames.boxes choice.now.kept.calls self.old.continuations choice.now.kept.kind
+            choice.now.kept.goal choice.now.rest }
         ensures advances { IfOk result (Advances self.old self.new (move (setup_of self.old)
             (Backward (choice_point_of self.old.store (level_in self.old) choice.now ∷ choice_points_in self.old) (world_in self.old)))) }
         ensures keeps { Keeps self.old self.new }
     {
-        let kept = &choice.kept;
-        match choice.kind {
-            ChoiceKind::Redo(call) => Ok(self.show_and_go_back(
-                Port::Redo,
+        let goal = choice.kept.goal;
+        let rest = choice.rest;
+        match &choice.kept.kind {
+            ChoiceKind::Redo { call } => Ok(self.show_and_go_back(Port::Redo, *call, goal, rest)),
+            ChoiceKind::Branch { barrier } => self.try_branch(goal, *barrier, rest),
+            ChoiceKind::More {
                 call,
-                kept.goal,
-                choice.rest,
-            )),
-            ChoiceKind::Branch(_) => self.try_branch(kept.goal, kept.barrier, choice.rest),
-            ChoiceKind::More(call) => self.try_next_clause(kept, call, choice.rest),
-            ChoiceKind::Fail(call) => Ok(self.show_and_go_back(
-                Port::Fail,
-                call,
-                kept.goal,
-                choice.rest,
-            )),
-            ChoiceKind::Condition(_) => self.try_branch(kept.goal, kept.barrier, choice.rest),
-            ChoiceKind::Catch(_) => Ok(Step::Silent),
-            ChoiceKind::Findall(_) => Ok(Step::Silent),
+                snapshot,
+                next,
+            } => self.try_clauses(snapshot, *next, *call, goal, rest),
+            ChoiceKind::Fail { call } => Ok(self.show_and_go_back(Port::Fail, *call, goal, rest)),
+            ChoiceKind::Condition { barrier, .. } => self.try_branch(goal, *barrier, rest),
         }
     }
 

@@ -2,16 +2,17 @@ ghost use Rattle.std.specs.Prelude.{◌≡◌, ◌+◌, length, IfOk, OnOk};
 ghost use Rattle.op_machine.specs.Meaning.{world_in, items_now, goal_now, bindings_now, choice_points_in, event_seen};
 ghost use Rattle.op_machine.specs.inner.Invariant.{IsGood, HasItems, HasGoal, HasCalled, CanGrow};
 ghost use Rattle.op_machine.specs.inner.Moves.{Keeps, Advances, exit_moved, box_invoked};
-ghost use Rattle.op_machine.specs.Resume.{Backward, showing};
+ghost use Rattle.op_machine.specs.Resume.{Backward, showing, silent};
 ghost use Rattle.op_trace.specs.Visit.{event_of, with_event};
 
+use crate::choice_points::ChoiceKind;
 use crate::core_state::{Core, Mode, Seen, Step};
 use op_base::Memory;
 use op_bind::Ref;
 use op_trace::Port;
 
 impl Core {
-    // A goal with a box is invoked: its clauses are tried by going back to them.
+    // A goal with a box is invoked.
     pub(crate) fn invoke(&mut self, goal: Ref, rest: u64) -> Result<Step, Memory>
         requires good { IsGood self.old }
         requires there { HasItems self.old rest }
@@ -23,9 +24,8 @@ impl Core {
     {
         let call = self.call_box(goal, rest)?;
         self.show_event(Port::Call, call, goal, rest);
-        self.push_fail(call, goal, rest)?;
-        self.push_clauses(call, goal, rest)?;
-        self.mode = Mode::Backward;
+        self.push_choice_point(ChoiceKind::Fail { call }, goal, rest)?;
+        self.enter_box(call, goal, rest)?;
         Ok(Step::Event)
     }
 
@@ -49,6 +49,16 @@ impl Core {
         Ok(number)
     }
 
+    // The first try of a goal without a procedure, which fails.
+    pub(crate) fn try_goal(&mut self) -> Step
+        requires good { IsGood self.old }
+        ensures advances { Advances self.old self.new (silent (Backward (choice_points_in self.old) (world_in self.old))) result }
+        ensures keeps { Keeps self.old self.new }
+    {
+        self.mode = Mode::Backward;
+        Step::Silent
+    }
+
     // The exit of a box, which is redone when the machine comes back to it.
     pub(crate) fn exit_box(&mut self, call: u64, goal: Ref, rest: u64) -> Result<Step, Memory>
         requires good { IsGood self.old }
@@ -59,7 +69,7 @@ impl Core {
         ensures keeps { Keeps self.old self.new }
     {
         self.show_event(Port::Exit, call, goal, rest);
-        self.push_redo(call, goal, rest)?;
+        self.push_choice_point(ChoiceKind::Redo { call }, goal, rest)?;
         self.mode = Mode::Forward { items: rest };
         Ok(Step::Event)
     }

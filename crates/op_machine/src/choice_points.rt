@@ -1,20 +1,47 @@
-ghost use Rattle.std.specs.Prelude.{◌≡◌, ◌+◌, ◌<◌, ◌≤◌, ◌^◌, ◌∷◌, length, OnOk, [], take, reverse, IfNone, MatchOption, ℕ};
+ghost use Rattle.std.specs.Prelude.{◌≡◌, ◌+◌, ◌<◌, ◌≤◌, ◌∷◌, length, OnOk, [], take, reverse, IfNone, MatchOption, ℕ};
 ghost use Rattle.op_machine.specs.Meaning.{level_in, items_now, goal_now, bindings_now, choice_points_in, choice_point_by};
-ghost use Rattle.op_machine.specs.inner.Invariant.{IsGood, IsKind, IsEarlier, HasItems, HasGoal, HasCalled};
+ghost use Rattle.op_machine.specs.inner.Invariant.{IsGood, IsKind, IsEarlier, HasItems, HasGoal, HasCalled, CanGrow};
 ghost use Rattle.op_machine.specs.Program.{clauses_from, AreKnown};
 ghost use Rattle.op_machine.specs.Resume.{keep, with_more};
 ghost use Rattle.op_machine.specs.inner.Boxes.{IsTried, boxes_before};
 ghost use Rattle.op_machine.specs.inner.Cuts.{frame_stays, frame_goes, keep_frames};
 ghost use Rattle.op_bind.specs.State.{undone};
 ghost use Rattle.op_frames.specs.Frames.{open_from};
-ghost use Rattle.op_trace.specs.Visit as visit;
 
 use crate::core_state::Core;
 use op_base::Memory;
 use op_bind::Ref;
-use op_frames::{Choice, ChoiceKind};
+use op_frames::Choice;
 use op_store::Snapshot;
 use op_trace::Barrier;
+
+/// What is to be done on backtracking, with what it takes. A call is that of a box.
+#[derive(Drop)]
+pub enum ChoiceKind {
+    /// A box that has exited is entered again.
+    Redo {
+        call: u64,
+    },
+    /// The second branch of a disjunction is tried; a cut in it cuts to the barrier.
+    Branch {
+        barrier: Barrier,
+    },
+    /// Further clauses of a box are tried: those that its procedure had at the call, from `next` on.
+    More {
+        call: u64,
+        snapshot: Snapshot,
+        next: u64,
+    },
+    /// A box has no alternative left.
+    Fail {
+        call: u64,
+    },
+    /// The condition with this number has no solution, and the else branch is tried; a cut in it cuts to the barrier.
+    Condition {
+        number: u64,
+        barrier: Barrier,
+    },
+}
 
 /// What the machine keeps with a choice point.
 #[derive(Drop)]
@@ -25,27 +52,19 @@ pub struct Held {
     pub continuations: u64,
     /// How many boxes had been called.
     pub calls: u64,
-    /// Where a cut in a branch cuts to.
-    pub barrier: Barrier,
-    /// The number of a condition.
-    pub condition: u64,
-    /// The clauses that a box's procedure had at the call, and the one that is tried next.
-    pub snapshot: Option<Snapshot>,
-    pub next: u64,
+    pub kind: ChoiceKind,
 }
 
 // Whether a cut to a barrier comes to a choice point and keeps it.
 fn stays(choice: &Choice<Held>, barrier: Barrier) -> bool
     ensures { result ≡ frame_stays choice.now barrier }
 {
-    match choice.kind {
-        ChoiceKind::Redo(_) => false,
-        ChoiceKind::Branch(_) => false,
-        ChoiceKind::More(_) => false,
-        ChoiceKind::Fail(call) => barrier.is(Barrier::Call(call)),
-        ChoiceKind::Condition(_) => barrier.is(Barrier::InCondition(choice.kept.condition)),
-        ChoiceKind::Catch(call) => barrier.is(Barrier::Call(call)),
-        ChoiceKind::Findall(call) => barrier.is(Barrier::Call(call)),
+    match &choice.kept.kind {
+        ChoiceKind::Redo { .. } => false,
+        ChoiceKind::Branch { .. } => false,
+        ChoiceKind::More { .. } => false,
+        ChoiceKind::Fail { call } => barrier.is(Barrier::Call(*call)),
+        ChoiceKind::Condition { number, .. } => barrier.is(Barrier::InCondition(*number)),
     }
 }
 
@@ -53,8 +72,8 @@ fn stays(choice: &Choice<Held>, barrier: Barrier) -> bool
 fn goes(choice: &Choice<Held>, barrier: Barrier) -> bool
     ensures { result ≡ frame_goes choice.now barrier }
 {
-    match choice.kind {
-        ChoiceKind::Condition(_) => barrier.is(Barrier::AtSuccess(choice.kept.condition)),
+    match &choice.kept.kind {
+        ChoiceKind::Condition { number, .. } => barrier.is(Barrier::AtSuccess(*number)),
         _ => false,
     }
 }
@@ -82,86 +101,34 @@ impl Core {
     pub(crate) fn push_choice_point(
         &mut self,
         kind: ChoiceKind,
+        goal: Ref,
         rest: u64,
-        kept: Held,
     ) -> Result<(), Memory>
         requires good { IsGood self.old }
         requires there { HasItems self.old rest }
-        requires goal { HasGoal self.old kept.goal }
-        requires continuations { kept.continuations ≡ length self.old.continuations }
-        requires kind { IsKind (length self.old.store.names) kind kept }
-        requires calls { kept.calls ≡ self.old.calls }
-        requires tried { IsTried self.old.frames.boxes self.old.continuations kind kept rest }
+        requires goal { HasGoal self.old goal }
+        requires kind { IsKind (length self.old.store.names) kind }
+        requires tried { IsTried self.old.frames.boxes self.old.calls self.old.continuations kind goal rest }
         ensures choices { OnOk result (choice_points_in self.new
-            ≡ choice_point_by self.old.store (level_in self.old) kind kept rest ∷ choice_points_in self.old) }
+            ≡ choice_point_by self.old.store (level_in self.old) kind goal rest ∷ choice_points_in self.old) }
         ensures good { OnOk result (IsGood self.new) }
         ensures rest { self.new ≡ record self.old { frames = self.new.frames } }
         ensures boxes { self.new.frames.boxes ≡ self.old.frames.boxes }
     {
         let mark = self.bindings.mark();
+        let continuations = self.continuations.len();
+        let calls = self.calls;
         self.frames.push_choice(Choice {
             mark,
             rest,
-            kind,
-            kept,
+            kept: Held {
+                goal,
+                continuations,
+                calls,
+                kind,
+            },
         })?;
         Ok(())
-    }
-
-    // The exit of a box is redone.
-    pub(crate) fn push_redo(&mut self, call: u64, goal: Ref, rest: u64) -> Result<(), Memory>
-        requires good { IsGood self.old }
-        requires there { HasItems self.old rest }
-        requires goal { HasGoal self.old goal }
-        ensures choices { OnOk result (choice_points_in self.new
-            ≡ visit.Redo call (goal_now self.old goal) (bindings_now self.old) (items_now self.old rest) ∷ choice_points_in self.old) }
-        ensures good { OnOk result (IsGood self.new) }
-        ensures rest { self.new ≡ record self.old { frames = self.new.frames } }
-        ensures boxes { self.new.frames.boxes ≡ self.old.frames.boxes }
-    {
-        let continuations = self.continuations.len();
-        let calls = self.calls;
-        self.push_choice_point(
-            ChoiceKind::Redo(call),
-            rest,
-            Held {
-                goal,
-                continuations,
-                calls,
-                barrier: Barrier::Call(call),
-                condition: 0,
-                snapshot: None,
-                next: 0,
-            },
-        )
-    }
-
-    // A box has no further alternative.
-    pub(crate) fn push_fail(&mut self, call: u64, goal: Ref, rest: u64) -> Result<(), Memory>
-        requires good { IsGood self.old }
-        requires there { HasItems self.old rest }
-        requires goal { HasGoal self.old goal }
-        ensures choices { OnOk result (choice_points_in self.new
-            ≡ visit.Fail call (goal_now self.old goal) (bindings_now self.old) (items_now self.old rest) ∷ choice_points_in self.old) }
-        ensures good { OnOk result (IsGood self.new) }
-        ensures rest { self.new ≡ record self.old { frames = self.new.frames } }
-        ensures boxes { self.new.frames.boxes ≡ self.old.frames.boxes }
-    {
-        let continuations = self.continuations.len();
-        let calls = self.calls;
-        self.push_choice_point(
-            ChoiceKind::Fail(call),
-            rest,
-            Held {
-                goal,
-                continuations,
-                calls,
-                barrier: Barrier::Call(call),
-                condition: 0,
-                snapshot: None,
-                next: 0,
-            },
-        )
     }
 
     // Clauses from one on are tried, where there are any.
@@ -187,89 +154,17 @@ impl Core {
     {
         if next < snapshot.len() {
             let snapshot = snapshot.copy()?;
-            let continuations = self.continuations.len();
-            let calls = self.calls;
-            let kept = Held {
+            self.push_choice_point(
+                ChoiceKind::More {
+                    call,
+                    snapshot,
+                    next,
+                },
                 goal,
-                continuations,
-                calls,
-                barrier: Barrier::Call(call),
-                condition: 0,
-                snapshot: Some(snapshot),
-                next,
-            };
-            self.push_choice_point(ChoiceKind::More(call), rest, kept)?;
+                rest,
+            )?;
         }
         Ok(())
-    }
-
-    // A second branch is tried.
-    pub(crate) fn push_branch(
-        &mut self,
-        goal: Ref,
-        barrier: Barrier,
-        rest: u64,
-    ) -> Result<(), Memory>
-        requires good { IsGood self.old }
-        requires there { HasItems self.old rest }
-        requires goal { HasGoal self.old goal }
-        ensures choices { OnOk result (choice_points_in self.new
-            ≡ visit.Branch (goal_now self.old goal) barrier (bindings_now self.old) (items_now self.old rest)
-            ∷ choice_points_in self.old) }
-        ensures good { OnOk result (IsGood self.new) }
-        ensures rest { self.new ≡ record self.old { frames = self.new.frames } }
-        ensures boxes { self.new.frames.boxes ≡ self.old.frames.boxes }
-    {
-        let continuations = self.continuations.len();
-        let calls = self.calls;
-        self.push_choice_point(
-            ChoiceKind::Branch(rest),
-            rest,
-            Held {
-                goal,
-                continuations,
-                calls,
-                barrier,
-                condition: 0,
-                snapshot: None,
-                next: 0,
-            },
-        )
-    }
-
-    // A condition has no solution, and its else branch is tried.
-    pub(crate) fn push_condition(
-        &mut self,
-        condition: u64,
-        goal: Ref,
-        barrier: Barrier,
-        rest: u64,
-    ) -> Result<(), Memory>
-        requires good { IsGood self.old }
-        requires there { HasItems self.old rest }
-        requires goal { HasGoal self.old goal }
-        ensures choices { OnOk result (choice_points_in self.new
-            ≡ visit.Condition condition (goal_now self.old goal) barrier (bindings_now self.old) (items_now self.old rest)
-            ∷ choice_points_in self.old) }
-        ensures good { OnOk result (IsGood self.new) }
-        ensures rest { self.new ≡ record self.old { frames = self.new.frames } }
-        ensures boxes { self.new.frames.boxes ≡ self.old.frames.boxes }
-    {
-        let continuations = self.continuations.len();
-        let calls = self.calls;
-        self.push_choice_point(
-            ChoiceKind::Condition(rest),
-            rest,
-            Held {
-                goal,
-                continuations,
-                calls,
-                barrier,
-                condition,
-                snapshot: None,
-                next: 0,
-            },
-        )
     }
 
     // The last choice point, which is dropped.
@@ -287,7 +182,7 @@ impl Core {
     pub(crate) fn restore(&mut self, choice: &Choice<Held>)
         requires earlier { IsEarlier choice.now (level_in self.old) }
         requires some { 0 < choice.now.kept.continuations }
-        requires calls { choice.now.kept.calls < 2 ^ 63 }
+        requires calls { CanGrow choice.now.kept.calls }
         ensures back { self.new ≡ record self.old {
           bindings = undone self.old.bindings choice.now.mark;
           continuations = take choice.now.kept.continuations self.old.continuations;

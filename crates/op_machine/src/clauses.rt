@@ -1,18 +1,18 @@
-ghost use Rattle.std.specs.Prelude.{◌≡◌, ◌<◌, ◌≤◌, length, IfOk, OnOk};
-ghost use Rattle.op_machine.specs.Meaning.{items_now, goal_now, bindings_now, choice_points_in};
+ghost use Rattle.std.specs.Prelude.{◌≡◌, ◌<◌, ◌≤◌, ◌^◌, length, IfOk, OnOk};
+ghost use Rattle.op_machine.specs.Meaning.{items_now, goal_now, bindings_now, choice_points_in, state_of};
 ghost use Rattle.op_machine.specs.inner.Invariant.{IsGood, HasItems, HasGoal, HasCalled};
 ghost use Rattle.op_machine.specs.inner.Moves.{Keeps, Advances, clause_unified, clause_tried, clauses_tried, body_entered, body_before};
-ghost use Rattle.op_machine.specs.Program.{clauses_from, AreKnown, IsKnown, clauses};
-ghost use Rattle.op_machine.specs.Resume.{with_more};
+ghost use Rattle.op_machine.specs.inner.Moves.{box_entered};
+ghost use Rattle.op_machine.specs.Program.{inside_snapshot, AreKnown, IsKnown};
+ghost use Rattle.op_store.specs.Stored.{database_of};
+ghost use Rattle.op_trace.specs.Visit.{inside};
 ghost use Rattle.op_store.specs.Snapshots.{snapshot_clauses};
 ghost use Rattle.op_trace.specs.Visit.{is_true};
-ghost use Rattle.op_trace.specs.World.{procedure};
 ghost use Rattle.op_logic.specs.Term.{Term};
 ghost use Rattle.op_term.specs.Head.{head};
 ghost use Rattle.op_store.specs.Rows.{pi_of as the_pi};
 ghost use Rattle.op_machine.specs.declared.core_state.Step.TheVariants as step;
 
-use crate::choice_points::Held;
 use crate::continuations::Item;
 use crate::core_state::{Core, Mode, Step};
 use crate::goal_kind::{is_true_atom, names_law};
@@ -35,30 +35,47 @@ pub(crate) fn pi_of(node: Node) -> Option<Pi>
     }
 }
 
+// A law for proofs: the places of a snapshot's clauses can be counted.
+fn places_law(snapshot: &Snapshot)
+    ensures { length snapshot.now < 2 ^ 64 }
+{
+    let _ = snapshot.len();
+}
+
 impl Core {
-    // A choice point of the clauses of a goal's procedure, where it has any.
-    pub(crate) fn push_clauses(&mut self, call: u64, goal: Ref, rest: u64) -> Result<(), Memory>
+    // A box is entered: the clauses of its goal's procedure are tried by going back to them, and a goal without a procedure is tried.
+    pub(crate) fn enter_box(&mut self, call: u64, goal: Ref, rest: u64) -> Result<(), Memory>
         requires good { IsGood self.old }
         requires there { HasItems self.old rest }
         requires goal { HasGoal self.old goal }
         requires called { HasCalled self.old call goal rest }
-        ensures choices { OnOk result (choice_points_in self.new
-            ≡ with_more (procedure (clauses self.old.store) (goal_now self.old goal)) call (goal_now self.old goal)
-            (bindings_now self.old) (items_now self.old rest) (choice_points_in self.old)) }
+        ensures state { OnOk result (state_of self.new ≡ box_entered self.old call goal rest) }
         ensures good { OnOk result (IsGood self.new) }
-        ensures rest { self.new ≡ record self.old { frames = self.new.frames } }
+        ensures rest { OnOk result (self.new ≡ record self.old {
+          frames = self.new.frames;
+          continuations = self.new.continuations;
+          mode = self.new.mode;
+        }) }
+        ensures keeps { Keeps self.old self.new }
     {
         match self.clauses_of(goal)? {
-            Some(snapshot) => self.push_more(&snapshot, 0, call, goal, rest),
-            None => Ok(()),
+            Some(snapshot) => {
+                self.push_more(&snapshot, 0, call, goal, rest)?;
+                self.mode = Mode::Backward;
+            }
+            None => {
+                let items = self.add(Item::Try { call, goal }, rest)?;
+                self.mode = Mode::Forward { items };
+            }
         }
+        Ok(())
     }
 
     // The clauses of a goal's procedure at this moment, or None where there is no such procedure.
     fn clauses_of(&self, goal: Ref) -> Result<Option<Snapshot>, Memory>
-        requires { goal < length self.now.bindings.terms }
-        ensures clauses { IfOk result (λ o. procedure (clauses self.now.store) (goal_now self.now goal)
-            ≡ clauses_from self.now.store (snapshot_clauses o) 0) }
+        requires { HasGoal self.now goal }
+        ensures inside { IfOk result (λ o. inside (database_of self.now.store) (goal_now self.now goal)
+            ≡ inside_snapshot self.now.store o) }
         ensures known { IfOk result (λ o. AreKnown (length self.now.store.names) (snapshot_clauses o)) }
     {
         match pi_of(self.bindings.outline(&goal)) {
@@ -67,32 +84,8 @@ impl Core {
         }
     }
 
-    // The next of the clauses that a choice point keeps is tried.
-    pub(crate) fn try_next_clause(
-        &mut self,
-        kept: &Held,
-        call: u64,
-        rest: u64,
-    ) -> Result<Step, Memory>
-        requires good { IsGood self.old }
-        requires there { HasItems self.old rest }
-        requires goal { HasGoal self.old kept.now.goal }
-        requires here { kept.now.next < length (snapshot_clauses kept.now.snapshot) }
-        requires known { AreKnown (length self.old.store.names) (snapshot_clauses kept.now.snapshot) }
-        requires called { HasCalled self.old call kept.now.goal rest }
-        requires steps { self.old.steps ≤ self.old.budget }
-        ensures advances { IfOk result (Advances self.old self.new
-            (clauses_tried self.old (snapshot_clauses kept.now.snapshot) kept.now.next call kept.now.goal rest)) }
-        ensures keeps { Keeps self.old self.new }
-    {
-        match &kept.snapshot {
-            Some(snapshot) => self.try_clauses(snapshot, kept.next, call, kept.goal, rest),
-            None => Ok(Step::Silent),
-        }
-    }
-
     // One of some clauses is tried, and those behind it are kept as a choice point.
-    fn try_clauses(
+    pub(crate) fn try_clauses(
         &mut self,
         snapshot: &Snapshot,
         next: u64,
@@ -110,7 +103,7 @@ impl Core {
         ensures advances { IfOk result (Advances self.old self.new (clauses_tried self.old snapshot.now next call goal rest)) }
         ensures keeps { Keeps self.old self.new }
     {
-        let _count = snapshot.len();
+        places_law(snapshot);
         self.push_more(snapshot, next + 1, call, goal, rest)?;
         self.try_clause(snapshot.clause(next), call, goal, rest)
     }
@@ -197,7 +190,7 @@ impl Core {
         requires good { IsGood self.old }
         requires there { HasItems self.old rest }
         requires body { HasGoal self.old body }
-        ensures within { IfOk result (λ n. n < length self.new.continuations) }
+        ensures within { IfOk result (λ n. HasItems self.new n) }
         ensures items { IfOk result (λ n. items_now self.new n ≡ body_before self.old body call (items_now self.old rest)) }
         ensures choices { OnOk result (choice_points_in self.new ≡ choice_points_in self.old) }
         ensures good { OnOk result (IsGood self.new) }
@@ -217,7 +210,7 @@ impl Core {
 
     // Whether a body is the atom `true`.
     fn is_fact(&self, body: Ref) -> bool
-        requires { body < length self.now.bindings.terms }
+        requires { HasGoal self.now body }
         ensures { result ≡ is_true (goal_now self.now body) }
     {
         is_true_atom(&self.store, self.bindings.outline(&body))

@@ -1,6 +1,6 @@
-ghost use Rattle.std.specs.Prelude.{◌≡◌, ◌<◌, ◌≤◌, ◌^◌, ◌∷◌, length, IfOk, OnOk, [], take, IfNone, MatchOption, ◌++◌, OnErr, IfSome};
+ghost use Rattle.std.specs.Prelude.{◌≡◌, ◌<◌, ◌≤◌, ◌∷◌, length, IfOk, OnOk, [], take, IfNone, MatchOption, ◌++◌, OnErr, IfSome};
 ghost use Rattle.op_machine.specs.Meaning.{level_in, items_now, choice_points_in, item_term};
-ghost use Rattle.op_machine.specs.inner.Invariant.{IsGood, IsItem, HasItems};
+ghost use Rattle.op_machine.specs.inner.Invariant.{IsGood, IsItem, HasItems, CanGrow};
 ghost use Rattle.op_machine.specs.inner.Boxes.{IsEntered};
 ghost use Rattle.op_machine.specs.inner.Continuations.{continuation_in, continuations_of, only_empty, opened, AreLinked, Begins};
 ghost use Rattle.op_trace.specs.World.{head_number};
@@ -21,6 +21,8 @@ pub enum Item {
     Cut { barrier: Barrier },
     /// The exit of a box that was called with a goal.
     Exit { call: u64, goal: Ref },
+    /// The first try of the goal that a box was called with, which has no procedure.
+    Try { call: u64, goal: Ref },
 }
 
 /// An item before a continuation, with the innermost box that is open behind it and how many there are.
@@ -120,7 +122,7 @@ impl Continuations {
     pub fn depth(&self, n: u64) -> u64
         requires { n < length self.now }
         ensures count { result ≡ length (opened (continuation_in self.now n)) }
-        ensures small { result < 2 ^ 63 }
+        ensures small { CanGrow result }
     {
         opened_at(&self.cells, n).1
     }
@@ -145,7 +147,7 @@ fn opened_at(cells: &Vec<Cell>, n: u64) -> (u64, u64)
     ensures parent { result.0 ≡ head_number (opened (continuation_in (continuations_of cells.now.items) n)) }
     ensures depth { result.1 ≡ length (opened (continuation_in (continuations_of cells.now.items) n)) }
     ensures shallow { result.1 ≤ n }
-    ensures small { result.1 < 2 ^ 63 }
+    ensures small { CanGrow result.1 }
 {
     match cell_at(cells, n) {
         Some(cell) => (cell.parent, cell.depth),
@@ -164,6 +166,7 @@ fn opened_before(cells: &Vec<Cell>, item: &Item, rest: u64) -> (u64, u64)
         Item::Goal { .. } => (parent, depth),
         Item::Cut { .. } => (parent, depth),
         Item::Exit { call, .. } => (*call, depth + 1),
+        Item::Try { call, .. } => (*call, depth + 1),
     }
 }
 
@@ -174,7 +177,7 @@ impl Core {
         requires item { IsItem (length self.old.store.names) self.old.bindings.terms item }
         requires there { HasItems self.old rest }
         requires entered { IsEntered self.old.frames.boxes self.old.calls self.old.continuations item rest }
-        ensures within { IfOk result (λ n. n < length self.new.continuations) }
+        ensures within { IfOk result (λ n. HasItems self.new n) }
         ensures items { IfOk result (λ n. items_now self.new n
             ≡ item_term self.old.store (level_in self.old) item ∷ items_now self.old rest) }
         ensures choices { OnOk result (choice_points_in self.new ≡ choice_points_in self.old) }

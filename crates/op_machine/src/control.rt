@@ -1,4 +1,4 @@
-ghost use Rattle.std.specs.Prelude.{◌≡◌, ◌<◌, ◌≤◌, ◌∷◌, length, codes, IfOk, OnOk};
+ghost use Rattle.std.specs.Prelude.{◌≡◌, ◌<◌, ◌≤◌, ◌∷◌, codes, IfOk, OnOk};
 ghost use Rattle.op_logic.specs.Term.{args_of, arity, nth_arg, atom};
 ghost use Rattle.op_term.specs.Places.{term_at};
 ghost use Rattle.op_trace.specs.declared.barrier.Barrier.TheVariants.{InCondition, AtSuccess};
@@ -12,6 +12,7 @@ ghost use Rattle.op_machine.specs.inner.Moves.{Keeps, Advances, branch_tried, di
 ghost use Rattle.op_machine.specs.inner.Moves.{goal_moved, conjunction_before};
 ghost use Rattle.op_machine.specs.declared.core_state.Step.TheVariants as step;
 
+use crate::choice_points::ChoiceKind;
 use crate::continuations::Item;
 use crate::core_state::{Core, Mode, Step};
 use crate::goal_kind::{GoalKind, is_if_then, kind_of, names_law};
@@ -151,7 +152,7 @@ impl Core {
         ensures advances { OnOk result (Advances self.old self.new (disjunction_before self.old first second barrier rest) step.Silent) }
         ensures keeps { Keeps self.old self.new }
     {
-        self.push_branch(second, barrier, rest)?;
+        self.push_choice_point(ChoiceKind::Branch { barrier }, second, rest)?;
         let items = self.add(
             Item::Goal {
                 goal: first,
@@ -209,7 +210,7 @@ impl Core {
     {
         self.conditions += 1;
         let number = self.conditions;
-        self.push_condition(number, otherwise, barrier, rest)?;
+        self.push_choice_point(ChoiceKind::Condition { number, barrier }, otherwise, rest)?;
         let items = self.add_condition(number, condition, then, barrier, rest)?;
         self.mode = Mode::Forward { items };
         Ok(())
@@ -228,7 +229,7 @@ impl Core {
         requires there { HasItems self.old rest }
         requires condition { HasGoal self.old condition }
         requires then { HasGoal self.old then }
-        ensures within { IfOk result (λ n. n < length self.new.continuations) }
+        ensures within { IfOk result (λ n. HasItems self.new n) }
         ensures items { IfOk result (λ n. items_now self.new n
             ≡ Goal (goal_now self.old condition) (InCondition number) ∷ Cut (AtSuccess number) ∷ Goal (goal_now self.old then)
             barrier ∷ items_now self.old rest) }

@@ -5,13 +5,13 @@ ghost use Rattle.std.specs.Bool.{OnTrue, OnFalse};
 ghost use Rattle.op_logic.specs.Term.{Term, args_of, arity, nth_arg};
 ghost use Rattle.op_term.specs.Head.{head};
 ghost use Rattle.op_trace.specs.Visit.{control, is_true, control_of_disjunction, IfThenElse, Disjunction};
-ghost use Rattle.op_trace.specs.World.{Text};
+ghost use Rattle.op_trace.specs.Database.{Text};
 ghost use Rattle.op_machine.specs.Program.{goal_named};
 ghost use Rattle.op_machine.specs.inner.GoalKinds.{control_of_kind, IsPair};
 ghost use Rattle.op_machine.specs.declared.goal_kind.GoalKind.TheVariants as kinds;
 
 use op_store::Store;
-use op_store::control::{ARROW, COMMA, CUT, FAIL, FALSE, SEMICOLON, TRUE};
+use op_store::names::control::{ARROW, COMMA, CUT, FAIL, FALSE, SEMICOLON, TRUE};
 use op_term::{Node, Sym};
 
 /// What kind of goal a term is.

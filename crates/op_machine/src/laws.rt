@@ -2,7 +2,8 @@
 
 ghost use Rattle.std.specs.Prelude.{◌≡◌, List};
 ghost use Rattle.op_trace.specs.declared.barrier.Barrier.{Barrier};
-ghost use Rattle.op_trace.specs.World.{World, Setup};
+ghost use Rattle.op_trace.specs.World.{World};
+ghost use Rattle.op_trace.specs.Act.{Setup};
 ghost use Rattle.op_trace.specs.Visit.{CutTo, Failed, Choice};
 ghost use Rattle.op_machine.specs.Resume.{keep, resume};
 

@@ -1,9 +1,9 @@
 ghost use Rattle.std.specs.Prelude.{◌≡◌, ◌≢◌, ◌+◌, ◌-◌, ◌^◌, ◌<◌, ◌≤◌, ◌↔◌, true, false, length, IfOk, OnErr, IsErrOf, IfSome, is_some};
 ghost use Rattle.std.specs.Prelude.{OnOk};
 ghost use Rattle.op_store.specs.Queries.{IsSoundGoal};
-ghost use Rattle.op_store.specs.World.{clauses_of_world};
-ghost use Rattle.op_store.specs.Stored.{world_of};
+ghost use Rattle.op_store.specs.Stored.{database_of};
 ghost use Rattle.op_logic.specs.Names.{named};
+ghost use Rattle.op_trace.specs.Act.{setup_for};
 ghost use Rattle.op_trace.specs.Run.{run};
 ghost use Rattle.op_trace.specs.World.{loaded};
 ghost use Rattle.op_machine.specs.Machine.{last_after};
@@ -33,7 +33,7 @@ pub struct Machine {
 impl Model for Machine {
     ghost use Rattle.op_machine.specs.Machine.{Kept, kept_of};
     ghost use Rattle.std.specs.Coded.{codes};
-    ghost use Rattle.op_logic.specs.Code.{term_code};
+    ghost use Rattle.op_logic.specs.inner.Code.{term_code};
 
     ghost Value = { Kept };
 
@@ -65,8 +65,8 @@ impl Machine {
         requires some { 1 ≤ budget }
         requires limit { budget ≤ 1000000000 }
         ensures run { IfOk result (λ m. to_come m
-            ≡ run (record { budget = budget; wanted = wanted }) (named store.names goal.now.body) goal.now.vars
-            (loaded (clauses_of_world (world_of store)))) }
+            ≡ run (setup_for budget wanted) (named store.names goal.now.body) goal.now.vars
+            (loaded (database_of store))) }
         ensures names { IfOk result (λ m. m.names ≡ goal.now.names) }
         ensures steps { IfOk result (λ m. m.steps ≡ 0) }
         ensures answered { IfOk result (λ m. answered m ≡ 0) }

@@ -14,7 +14,7 @@ use op_base::Memory;
 use op_bind::{Bindings, Mark, Ref};
 use op_frames::Frames;
 use op_reader::Names;
-use op_store::control::FAIL;
+use op_store::names::control::FAIL;
 use op_store::{Goal, Store};
 use op_term::Builder;
 use op_trace::{Barrier, Port};

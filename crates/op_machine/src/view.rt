@@ -22,7 +22,7 @@ pub struct EventView<'m> {
 
 impl<'m> Model for EventView<'m> {
     ghost use Rattle.std.specs.Coded.{codes};
-    ghost use Rattle.op_logic.specs.Code.{term_code};
+    ghost use Rattle.op_logic.specs.inner.Code.{term_code};
     ghost use Rattle.op_machine.specs.View.{Showing, IsShowing};
 
     ghost Value = { Showing };
@@ -119,7 +119,7 @@ pub struct SolutionView<'m> {
 
 impl<'m> Model for SolutionView<'m> {
     ghost use Rattle.std.specs.Coded.{codes};
-    ghost use Rattle.op_logic.specs.Code.{term_code};
+    ghost use Rattle.op_logic.specs.inner.Code.{term_code};
     ghost use Rattle.op_machine.specs.View.{Solving, IsSolving};
 
     ghost Value = { Solving };

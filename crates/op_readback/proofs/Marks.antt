@@ -52,7 +52,8 @@ functional_marks f (a ∷ fs) = name f ∷ sign 40 ∷ (a (within argument) ++ f
 
 abbrev pub compound_marks : List ℕ → List MarkForm → Bound → Notation → List Mark
 compound_marks f (a ∷ b ∷ []) bound Listed = sign 91 ∷ (a (within argument) ++ b rest)
-compound_marks f (a ∷ b ∷ []) bound (Infix m) = in_brackets (not (fits bound m)) (a (within (left_of m)) ++ (infix_marks f ++ b (within (right_of m))))
+compound_marks f (a ∷ b ∷ []) bound (Infix m) =
+    in_brackets (not (fits bound m)) (a (within (left_of m)) ++ (infix_marks f ++ b (within (right_of m))))
 compound_marks f (a ∷ []) bound Braces = sign 123 ∷ (a (within (Whole 1200)) ++ sign 125 ∷ [])
 compound_marks f (a ∷ []) bound (Prefix m) = in_brackets (not (fits bound m)) (prefix_marks f ++ a (within (right_of m)))
 compound_marks f (a ∷ []) bound (Postfix m) = in_brackets (not (fits bound m)) (a (within (left_of m)) ++ (sign 32 ∷ name f ∷ []))

@@ -10,14 +10,15 @@ use Rattle.op_reader.specs.Row.{tree_of}
 use Rattle.op_reader.specs.Reading.{term, refused, reading_of}
 use Rattle.op_reader.specs.declared.fault.ReadFaultKind.TheVariants.{Token, NoEnd}
 use Rattle.op_token.specs.declared.token.TokenFaultKind.TheVariants.{NumberRange}
-use Rattle.op_reader.specs.declared.quotes.DoubleQuotes.TheVariants.{Codes}
+use Rattle.op_term.specs.declared.quotes.DoubleQuotes.TheVariants.{Codes}
 use Rattle.op_writer.specs.declared.style.Style.TheVariants.{Plain, Quoted, Canonical}
 use Rattle.op_writer.specs.Text.{text_of}
 use Rattle.op_readback.specs.ReadBack.{clause_text, IsReadBack}
 
 abbrev ops : Table
 ops =
-    with_op (with_op (with_op (with_op (with_op (with_op (with_op (with_op iso_table 700 Xfx (codes "===>")) 500 Xfy (codes "xor")) 400 Yfx (codes "my op")) 300 Yf (codes "done"))
+    with_op (with_op (with_op (with_op (with_op (with_op (with_op (with_op iso_table 700 Xfx (codes "===>")) 500 Xfy (codes "xor")) 400
+    Yfx (codes "my op")) 300 Yf (codes "done"))
     250 Xf (codes "##")) 300 Fy (codes "pp")) 300 Yf (codes "pp")) 900 Fx (codes "spy")
 
 abbrev IsQuoted : Term (List ℕ) → Type 0
@@ -76,7 +77,9 @@ pub quoted-11 : IsQuoted (node (codes "-") (two (atom (codes "a")) (node (codes 
 unfolding reading_of tree_of iso_table iso_rows digits chars encode
 quoted-11 = refl
 
-pub quoted-12 : IsQuoted (node (codes ":-") (two (atom (codes "a")) (node (codes ";") (two (node (codes ",") (two (atom (codes "b")) (atom (codes "c")))) (node (codes "->") (two (atom (codes "d")) (atom (codes "e"))))))))
+pub quoted-12 : IsQuoted (node (codes ":-")
+    (two (atom (codes "a")) (node (codes ";") (two (node (codes ",") (two (atom (codes "b")) (atom (codes "c"))))
+    (node (codes "->") (two (atom (codes "d")) (atom (codes "e"))))))))
 unfolding reading_of tree_of iso_table iso_rows digits chars encode
 quoted-12 = refl
 
@@ -136,7 +139,9 @@ pub canonical-1 : IsCanonical (node (codes "$VAR") (one (int (pos 0))))
 unfolding reading_of tree_of iso_table iso_rows digits chars encode
 canonical-1 = refl
 
-pub canonical-2 : IsCanonical (node (codes ":-") (two (atom (codes "a")) (node (codes ";") (two (node (codes ",") (two (atom (codes "b")) (atom (codes "c")))) (node (codes "->") (two (atom (codes "d")) (atom (codes "e"))))))))
+pub canonical-2 : IsCanonical (node (codes ":-")
+    (two (atom (codes "a")) (node (codes ";") (two (node (codes ",") (two (atom (codes "b")) (atom (codes "c"))))
+    (node (codes "->") (two (atom (codes "d")) (atom (codes "e"))))))))
 unfolding reading_of tree_of iso_table iso_rows digits chars encode
 canonical-2 = refl
 
@@ -145,7 +150,8 @@ unfolding reading_of tree_of iso_table iso_rows digits chars encode
 canonical-3 = refl
 
 -- What the law leaves out is false there. '$VAR'(1) is written as B, and a variable is read
-pub letter : reading_of ops Codes (clause_text ops Quoted (node (codes "$VAR") (one (int (pos 1)))) 1200) ≡ term (var 0) ((codes "B", 0) ∷ []) 3
+pub letter : reading_of ops Codes (clause_text ops Quoted (node (codes "$VAR") (one (int (pos 1)))) 1200)
+    ≡ term (var 0) ((codes "B", 0) ∷ []) 3
 unfolding reading_of tree_of iso_table iso_rows digits chars encode
 letter = refl
 

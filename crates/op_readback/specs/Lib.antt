@@ -1,3 +1,3 @@
-pub mod Rows
-pub mod ReadBack
 pub mod Examples
+pub mod ReadBack
+pub mod Rows

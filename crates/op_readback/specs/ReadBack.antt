@@ -1,17 +1,15 @@
 -- A term's text, a space and a full stop are read as that term (ISO/IEC 13211-1, 7.10.5 and 6.2).
-use Rattle.std.specs.Prelude.{◌≡◌, ◌<◌, ◌^◌, ℕ, ℤ, pos, negsuc, List, [], ◌++◌, length, codes}
+use Rattle.std.specs.Prelude.{◌≡◌, ◌≤◌, ℕ, pos, List, [], ◌++◌, length, codes}
 use Rattle.std.specs.Str.{IsUtf8}
 use Rattle.op_logic.specs.Term.{Term, var, int, node, Args, no_args, arg}
+use Rattle.op_logic.specs.Names.{named}
+pub use Rattle.op_term.specs.Integers.{IsSmall}
 use Rattle.op_term.specs.Ops.{Table}
-use Rattle.op_reader.specs.declared.quotes.DoubleQuotes.{DoubleQuotes}
+use Rattle.op_term.specs.declared.quotes.DoubleQuotes.{DoubleQuotes}
 use Rattle.op_reader.specs.Reading.{term, reading_of}
 use Rattle.op_writer.specs.declared.style.Style.{Style}
+use Rattle.op_writer.specs.declared.style.Style.TheVariants.{Plain, Quoted, Canonical}
 use Rattle.op_writer.specs.Text.{text_of}
-
--- an integer of 64 bits
-abbrev pub IsSmall : ℤ → Type 0
-IsSmall (pos n) = n < 2 ^ 63
-IsSmall (negsuc n) = n < 2 ^ 63
 
 -- no variables; names are texts in UTF-8, and integers have 64 bits
 abbrev mutual
@@ -50,3 +48,21 @@ clause_text ops style t priority = text_of ops style t priority ++ codes " ."
 abbrev pub IsReadBack : Table → DoubleQuotes → Style → Term (List ℕ) → ℕ → Type 0
 IsReadBack ops quotes style t priority =
     reading_of ops quotes (clause_text ops style t priority) ≡ term t [] (length (clause_text ops style t priority))
+
+-- a style writes the term so that it is read again: the plain one has no quotes, and the quoted one writes letters
+abbrev pub IsReadable : Style → Term (List ℕ) → Type 0
+IsReadable Plain t = ⊥
+IsReadable Quoted t = HasNoLetter t
+IsReadable Canonical t = Unit {0}
+
+-- in each such style, within each priority up to 1200
+abbrev pub AreReadBack : Table → Term (List ℕ) → Type 0
+AreReadBack ops t =
+    (style : Style) (quotes : DoubleQuotes) (priority : ℕ) → IsReadable style t → priority ≤ 1200 → IsReadBack ops quotes style t priority
+
+-- the texts of a term of the code, over the names of a table
+abbrev pub text_over : List (List ℕ) → Table → Style → Term ℕ → ℕ → List ℕ
+text_over names ops style t priority = text_of ops style (named names t) priority
+
+abbrev pub clause_over : List (List ℕ) → Table → Style → Term ℕ → ℕ → List ℕ
+clause_over names ops style t priority = clause_text ops style (named names t) priority

@@ -1,9 +1,9 @@
 -- The row that the text of a term spells: what stands in brackets, arguments, lists and braces are finished operands.
-use Rattle.std.specs.Prelude.{◌≡◌, ℕ, List, [], ◌∷◌, ◌++◌, Some, if◌then◌else◌}
+use Rattle.std.specs.Prelude.{ℕ, List, [], ◌∷◌, ◌++◌, if◌then◌else◌}
 use Rattle.op_logic.specs.Term.{Term, var, int, node, Args, no_args, arg, arity}
 use Rattle.op_term.specs.declared.ops.Meaning.{Meaning}
-use Rattle.op_term.specs.Ops.{Table, IsTable}
-use Rattle.op_reader.specs.Row.{Piece, operand, operator, Operator, tree}
+use Rattle.op_term.specs.Ops.{Table}
+use Rattle.op_reader.specs.Row.{Piece, operand, operator, Operator}
 use Rattle.op_writer.specs.declared.style.Style.{Style}
 use Rattle.op_writer.specs.declared.bound.Bound.{Bound}
 use Rattle.op_writer.specs.declared.bound.Bound.TheVariants.{Whole, Operand, Left, Right}
@@ -22,7 +22,8 @@ abbrev pub alone : Term (List ℕ) → List (Piece (List ℕ))
 alone t = operand t ∷ []
 
 abbrev pub notation_row : Term (List ℕ) → List ℕ → List RowForm → Bound → Notation → List (Piece (List ℕ))
-notation_row t f (a ∷ b ∷ []) bound (Infix m) = if fits bound m then a (left_of m) ++ operator (operator_of f m) ∷ b (right_of m) else alone t
+notation_row t f (a ∷ b ∷ []) bound (Infix m) =
+    if fits bound m then a (left_of m) ++ operator (operator_of f m) ∷ b (right_of m) else alone t
 notation_row t f (a ∷ []) bound (Prefix m) = if fits bound m then operator (operator_of f m) ∷ a (right_of m) else alone t
 notation_row t f (a ∷ []) bound (Postfix m) = if fits bound m then a (left_of m) ++ operator (operator_of f m) ∷ [] else alone t
 notation_row t f rows bound notation = alone t
@@ -43,7 +44,3 @@ limit (Whole p) = p
 limit (Operand p) = p
 limit (Left p) = p
 limit (Right p) = p
-
--- a term is the tree of its row
-abbrev pub RowsAreTerms : Type 0
-RowsAreTerms = (ops : Table) → IsTable ops → (style : Style) (t : Term (List ℕ)) (bound : Bound) → tree (limit bound) (row_of ops style t bound) ≡ Some t

@@ -1,10 +1,11 @@
 -- The tokens of a first clause, taken one by one.
-use Rattle.std.proofs.Common.{◌≡◌, ◌∙◌, sym, ap, true, false, Bool, List, [], ◌∷◌, ◌++◌, append_assoc, append-nil, if◌then◌else◌, refl, ℕ, ◌<◌, ◌≤◌, take, length, get_or, arith, All}
+use Rattle.std.proofs.Common.{◌≡◌, ◌∙◌, sym, ap, true, false, Bool, List, [], ◌∷◌, ◌++◌, append_assoc, append-nil, if◌then◌else◌, refl, ℕ}
+use Rattle.std.proofs.Common.{◌<◌, ◌≤◌, take, length, get_or, arith, All}
 use Rattle.std.specs.Prelude.{Contains}
 use Rattle.std.proofs.lemmas.List.{length-take, get_or-take, get_or_default}
 use Rattle.op_token.specs.Tokens.{scan_of}
 use Rattle.op_token.proofs.TokenTexts.{token_within, plain_text, quoted_text}
-use Rattle.op_reader.specs.Shown.{HasText}
+use Rattle.op_reader.specs.inner.Shown.{HasText}
 use Rattle.std.specs.Prelude.{Option, Some, None, option_map}
 use Rattle.op_token.specs.declared.token.Token.{Token}
 use Rattle.op_reader.specs.FirstClause.{Sentence, sentence_of, is_end, with_first}
@@ -33,9 +34,12 @@ begins_here ts us t whole e h =
     ∙ ap (λ vs. Some (record { tokens = vs; stop = t })) (append-nil ts)
 
 -- the tokens of a clause are the first ones of its text
-ended_front : (b : Bool) (t : Token) (ts : List Token) (o : Option Sentence) (c : Sentence) → (if b then Some (record { tokens = []; stop = t }) else option_map (with_first t) o) ≡ Some c →
+ended_front : (b : Bool) (t : Token) (ts : List Token) (o : Option Sentence) (c : Sentence)
+    → (if b then Some (record { tokens = []; stop = t }) else option_map (with_first t) o) ≡ Some c →
     ((d : Sentence) → o ≡ Some d → take (length d.tokens) ts ≡ d.tokens) → take (length c.tokens) (t ∷ ts) ≡ c.tokens
-ended_front true t ts o c h f = let e : record { tokens = []; stop = t } ≡ c = cc in ap (λ (d : Sentence). take (length d.tokens) (t ∷ ts)) (sym e) ∙ ap (λ (d : Sentence). d.tokens) e
+ended_front true t ts o c h f =
+    let e : record { tokens = []; stop = t } ≡ c = cc in
+    ap (λ (d : Sentence). take (length d.tokens) (t ∷ ts)) (sym e) ∙ ap (λ (d : Sentence). d.tokens) e
 ended_front false t ts None c h f = cc
 ended_front false t ts (Some d) c h f =
     let e : with_first t d ≡ c = cc in
@@ -57,5 +61,8 @@ has_text text t h =
     let inside = token_within text t h in
     record { some = inside.0; within = inside.1; plain = plain_text text t h; quoted = quoted_text text t h }
 
-pub have_texts : (text : List ℕ) (ts : List Token) (stop : Token) → sentence_of (scan_of text).tokens ≡ Some (record { tokens = ts; stop = stop }) → All (HasText text) ts
-have_texts text ts stop h = λ i d l. has_text text (get_or ts i d) (in_front (scan_of text).tokens ts i d (sentence_front (scan_of text).tokens (record { tokens = ts; stop = stop }) h) l)
+pub have_texts : (text : List ℕ) (ts : List Token) (stop : Token)
+    → sentence_of (scan_of text).tokens ≡ Some (record { tokens = ts; stop = stop }) → All (HasText text) ts
+have_texts text ts stop h =
+    λ i d l. has_text text (get_or ts i d) (in_front (scan_of text).tokens ts i d (sentence_front (scan_of text).tokens
+    (record { tokens = ts; stop = stop }) h) l)

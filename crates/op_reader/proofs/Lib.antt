@@ -1,29 +1,29 @@
+mod AddedOperators
+mod ClauseOutcomes
+mod ClosedSpines
 mod FirstClauses
-mod Marking
-mod Telling
-mod Outcomes
-mod Balance
-mod Popping
-mod Leveling
-mod RowShape
-mod Meeting
-mod Listing
-mod Showing
-mod Wording
-mod Table
-pub mod Splits
-mod Roots
-pub mod Spines
-mod Adds
-mod Roles
-mod Closing
-mod Standing
-mod RowNames
-mod Later
-mod Refused
-mod Numbering
-mod TreeVariables
-mod RowsVariables
-mod WordsVariables
-mod TokensVariables
+mod HeldPieces
+mod HeldRows
+mod JoinedMarks
+mod JoinedWords
+mod LevelNodes
+mod ListNodes
+mod MatchedBrackets
+mod OperatorSpines
+mod PendingLevels
 mod ReadVariables
+mod ReadingOutcomes
+mod RefusedRows
+mod RowNames
+mod RowRoots
+mod RowShape
+mod RowsVariables
+mod ShownNodes
+pub mod Spines
+pub mod Splits
+mod TokensVariables
+mod TreeVariables
+mod VariableNames
+mod VariableNumbers
+mod VariableTables
+mod WordsVariables

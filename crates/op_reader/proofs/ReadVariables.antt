@@ -8,7 +8,7 @@ use Rattle.op_token.specs.declared.token.Token.{Token}
 use Rattle.op_token.specs.declared.token.TokenFault.{TokenFault}
 use Rattle.op_token.specs.declared.token.TokenFaultKind.TheVariants.{NumberRange}
 use Rattle.op_token.specs.Tokens.{scan_of}
-use Rattle.op_reader.specs.declared.quotes.DoubleQuotes.{DoubleQuotes}
+use Rattle.op_term.specs.declared.quotes.DoubleQuotes.{DoubleQuotes}
 use Rattle.op_reader.specs.declared.fault.ReadFaultKind.TheVariants.{Token as BadToken, Unbalanced, NoOperand, Priority}
 use Rattle.op_reader.specs.declared.fault.ReadFault.{ReadFault}
 use Rattle.op_reader.specs.declared.term_reader.Reading.{Reading}
@@ -18,11 +18,12 @@ use Rattle.op_reader.specs.FirstClause.{Sentence, sentence_of, unmatched}
 use Rattle.op_reader.specs.Words.{Word, source, variables_of, named_from, words_of}
 use Rattle.op_reader.specs.Roles.{Rows, levels_of, clause_roles}
 use Rattle.op_reader.specs.Terms.{known, term_of, excess_in}
-use Rattle.op_reader.specs.Reading.{Outcome, term, end, refused, refused_or, first_place, rows_outcome, words_outcome, clause_outcome, sentence_outcome, unended, outcome_in, reading_of}
-use Rattle.op_reader.specs.Variables.{variables, HasVariables, HasCount, HasItsVariables, ReadTermsHaveVariables}
-use Rattle.op_reader.proofs.Balance.{none_outside}
-use Rattle.op_reader.proofs.Numbering.{has_variables, has_unnamed}
-use Rattle.op_reader.proofs.RowsVariables.{StandIn, rows_variables, term_variables}
+use Rattle.op_reader.specs.Reading.{Outcome, term, refused, refused_or, first_place, rows_outcome, words_outcome, clause_outcome}
+use Rattle.op_reader.specs.Reading.{sentence_outcome, unended, reading_of}
+use Rattle.op_reader.specs.Variables.{variables, HasVariables, HasCount, HasItsVariables}
+use Rattle.op_reader.proofs.MatchedBrackets.{none_outside}
+use Rattle.op_reader.proofs.VariableNumbers.{has_variables, has_unnamed}
+use Rattle.op_reader.proofs.RowsVariables.{term_variables}
 use Rattle.op_reader.proofs.WordsVariables.{words_variables, ArePlain, clause_variables}
 use Rattle.op_reader.proofs.TokensVariables.{clause_words}
 
@@ -99,7 +100,8 @@ by_sentence : {P : Type 0} (table : Table) (quotes : DoubleQuotes) (text : T) (o
 by_sentence table quotes text (Some c) q t names used h k n = k c h
 by_sentence table quotes text None q t names used h k n = n h
 
-pub read_terms : ReadTermsHaveVariables
+pub read_terms : (table : Table) (quotes : DoubleQuotes) (text : T) (t : Term T) (names : List (T × ℕ)) (used : ℕ)
+    → reading_of table quotes text ≡ term t names used → (count : ℕ) × HasVariables count t names
 unfolding reading_of
 read_terms table quotes text t names used h =
     let s = scan_of text in

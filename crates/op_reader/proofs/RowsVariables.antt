@@ -11,9 +11,10 @@ use Rattle.op_reader.specs.declared.within.Within.TheVariants.{Clause, Arguments
 use Rattle.op_reader.specs.Row.{Piece, operand as an_operand, operator as an_operator, tree}
 use Rattle.op_reader.specs.Words.{list_of}
 use Rattle.op_reader.specs.Roles.{Rows, done, separator, tail, operator, operand, too_great, compound, bracketed, inside}
-use Rattle.op_reader.specs.Terms.{Known, Read, with_piece, args_of, separated, tailed, compound_of, bracketed_of, as_operand, read_rows, term_of}
+use Rattle.op_reader.specs.Terms.{Known, Read, with_piece, args_of, separated, tailed, compound_of, bracketed_of, as_operand, read_rows}
+use Rattle.op_reader.specs.Terms.{term_of}
 use Rattle.op_reader.specs.Variables.{variables, args_variables}
-use Rattle.op_reader.proofs.Adds.{only_when, map_some}
+use Rattle.op_reader.proofs.AddedOperators.{only_when, map_some}
 use Rattle.op_reader.proofs.TreeVariables.{pieces_variables, tree_variables}
 
 -- where rows may stand behind the first, and where a list's tail may

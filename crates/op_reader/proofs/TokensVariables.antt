@@ -3,25 +3,30 @@ use Rattle.std.proofs.Common.{◌≡◌, ℕ, Bool, true, false, cond, List, [],
 use Rattle.std.specs.Prelude.{ℤ, pos, nat_lt, ◌-◌, drop, codes, slice_index, if◌then◌else◌}
 use Rattle.std.specs.Option.{option_and_then}
 use Rattle.std.specs.Str.{chars}
-use Rattle.op_logic.specs.Term.{Term, int, atom}
+use Rattle.op_logic.specs.Term.{int, atom}
 use Rattle.op_logic.proofs.Tests.{if_false}
 use Rattle.op_term.specs.Ops.{Table, prefix_in}
 use Rattle.op_term.specs.declared.ops.Meaning.{Meaning}
 use Rattle.op_token.specs.declared.token.Token.{Token}
 use Rattle.op_token.specs.declared.token.TokenKind.{TokenKind}
-use Rattle.op_token.specs.declared.token.TokenKind.TheVariants.{Name, QuotedName, Variable, Integer, Text, OpenRound, CloseRound, OpenSquare, CloseSquare, OpenCurly, CloseCurly, Comma, Bar, End}
+use Rattle.op_token.specs.declared.token.TokenKind.TheVariants.{Name, QuotedName, Variable, Integer, Text, OpenRound, OpenSquare, OpenCurly}
 use Rattle.op_token.specs.Tokens.{is_minus, unquoted}
 use Rattle.op_token.specs.Spelling.{least_magnitude}
-use Rattle.op_reader.specs.declared.quotes.DoubleQuotes.{DoubleQuotes}
-use Rattle.op_reader.specs.declared.quotes.DoubleQuotes.TheVariants.{Codes, Chars, Atom}
+use Rattle.op_term.specs.declared.quotes.DoubleQuotes.{DoubleQuotes}
+use Rattle.op_term.specs.declared.quotes.DoubleQuotes.TheVariants.{Codes, Chars, Atom}
 use Rattle.op_reader.specs.declared.bracket.Bracket.{Bracket}
 use Rattle.op_reader.specs.declared.bracket.Bracket.TheVariants.{Round, Square, Curly}
-use Rattle.op_reader.specs.Words.{AsOperand, functor, sign, prefix, plain, excess, AsOperator, joins, misplaced, Word, opened, closed, comma, bar, word, Source, spelling, is_variable, number_of, with_variable, met_behind, char_term, text_term, as_operator, operator_of, opens, magnitude, magnitude_behind, negated, negative, stands_alone, bare_name, signed_or_bare, name_as_operand, name_word, operand_word, integer_word, is_empty_pair, empty_name, empty_word, opening_word, word_by, word_of, words_from, words_of}
+use Rattle.op_reader.specs.Words.{AsOperand, functor, prefix, plain, excess, AsOperator, joins, misplaced, Word, opened}
+use Rattle.op_reader.specs.Words.{word, Source, spelling, is_variable, number_of, with_variable, met_behind, char_term}
+use Rattle.op_reader.specs.Words.{text_term, as_operator, operator_of, opens, magnitude, magnitude_behind, negated, negative, stands_alone}
+use Rattle.op_reader.specs.Words.{bare_name, signed_or_bare, name_as_operand, operand_word, integer_word, is_empty_pair}
+use Rattle.op_reader.specs.Words.{empty_name, empty_word, opening_word, word_by, words_from, words_of}
 use Rattle.op_reader.specs.Variables.{variables}
-use Rattle.op_reader.proofs.Numbering.{numbers}
+use Rattle.op_reader.proofs.VariableNumbers.{numbers}
 use Rattle.op_reader.proofs.RowsVariables.{terms_variables, list_variables}
-use Rattle.op_reader.proofs.Wording.{pair_step}
-use Rattle.op_reader.proofs.WordsVariables.{operand_variables, is_sign, word_variables, needs_number, OperatorIsPlain, IsPlainWord, words_variables, BeginsPlain, ArePlain}
+use Rattle.op_reader.proofs.JoinedWords.{pair_step}
+use Rattle.op_reader.proofs.WordsVariables.{operand_variables, is_sign, word_variables, needs_number, OperatorIsPlain, IsPlainWord}
+use Rattle.op_reader.proofs.WordsVariables.{words_variables, BeginsPlain, ArePlain}
 
 abbrev T : Type 0
 T = List ℕ

@@ -1,15 +1,15 @@
 -- The variables of a row's tree are those of its operands, from left to right.
-use Rattle.std.proofs.Common.{◌≡◌, ℕ, zero, suc, Bool, true, List, [], ◌∷◌, ◌++◌, Option, Some, None, length, refl, ap, sym, ◌∙◌, leb, append_assoc}
+use Rattle.std.proofs.Common.{◌≡◌, ℕ, zero, suc, true, List, [], ◌∷◌, ◌++◌, Some, None, length, refl, ap, sym, ◌∙◌, leb, append_assoc}
 use Rattle.std.proofs.lemmas.List.{append-nil}
 use Rattle.op_logic.specs.Term.{Term}
 use Rattle.op_logic.proofs.Tests.{by_test, if_true, if_false}
 use Rattle.op_term.specs.Ops.{is_prefix, is_postfix}
-use Rattle.op_reader.specs.Row.{Piece, operand, operator, Operator, top, root, left_bound, right_bound, is_empty, with_one, with_two, tree_of, tree}
+use Rattle.op_reader.specs.Row.{Piece, operand, operator, top, root, left_bound, right_bound, is_empty, tree_of, tree}
 use Rattle.op_reader.specs.Variables.{variables}
-use Rattle.op_reader.proofs.Roots.{root_splits}
+use Rattle.op_reader.proofs.RowRoots.{root_splits}
 use Rattle.op_reader.proofs.Spines.{single_or, tree_step, tree_at, tree_single}
-use Rattle.op_reader.proofs.Adds.{only_when}
-use Rattle.op_reader.proofs.Refused.{joined_when}
+use Rattle.op_reader.proofs.AddedOperators.{only_when}
+use Rattle.op_reader.proofs.RefusedRows.{joined_when}
 
 module _ {N : Type 0} where
   abbrev pub piece_variables : Piece N → List ℕ

@@ -2,16 +2,18 @@
 use Rattle.std.proofs.Common.{◌≡◌, ℕ, Bool, true, false, cond, List, [], ◌∷◌, ◌++◌, refl, ap, sym, ◌∙◌, subst, append_assoc}
 use Rattle.std.specs.Prelude.{Result, Ok, Err}
 use Rattle.std.proofs.lemmas.List.{append-nil}
-use Rattle.op_logic.specs.Term.{Term}
 use Rattle.op_term.specs.Ops.{is_infix}
 use Rattle.op_reader.specs.declared.bracket.Bracket.{Bracket}
 use Rattle.op_reader.specs.declared.within.Within.{Within}
 use Rattle.op_reader.specs.declared.within.Within.TheVariants.{Clause, Arguments, Elements, Last}
 use Rattle.op_reader.specs.Row.{Operator}
-use Rattle.op_reader.specs.Words.{AsOperand, functor, sign, prefix, plain, excess, AsOperator, joins, misplaced, Word, opened, closed, comma, bar, word}
-use Rattle.op_reader.specs.Roles.{Parts, none, single, enclosed, Level, Levels, level, levels_of, with_word, with_opening, Rows, done, separator, tail, operator, operand, too_great, compound, bracketed, inside, Expected, an_operand, an_operator, arguments_of, a_number, behind_operator, on_rows, on_both, roles, clause_roles}
+use Rattle.op_reader.specs.Words.{AsOperand, functor, sign, prefix, plain, excess, AsOperator, joins, misplaced, Word, opened, closed}
+use Rattle.op_reader.specs.Words.{comma, bar, word}
+use Rattle.op_reader.specs.Roles.{Parts, none, single, enclosed, Level, Levels, levels_of, with_word, with_opening, Rows, done}
+use Rattle.op_reader.specs.Roles.{separator, tail, operator, operand, too_great, compound, bracketed, inside, Expected, an_operand}
+use Rattle.op_reader.specs.Roles.{an_operator, arguments_of, a_number, behind_operator, on_rows, on_both, roles, clause_roles}
 use Rattle.op_reader.specs.Variables.{variables}
-use Rattle.op_reader.proofs.RowsVariables.{has_more, has_tail, StandIn, rows_variables}
+use Rattle.op_reader.proofs.RowsVariables.{StandIn, rows_variables}
 
 -- the result of two parts, and of one
 rows_when : {N P : Type 0} (f : Rows N → Rows N) (o : Result (Rows N) ℕ) (rs : Rows N) → on_rows f o ≡ Ok rs →

@@ -6,7 +6,7 @@ use Rattle.op_token.specs.declared.token.Token.{Token}
 use Rattle.op_token.specs.declared.token.TokenFault.{TokenFault}
 use Rattle.op_token.specs.declared.token.TokenFaultKind.TheVariants.{NumberRange}
 use Rattle.op_token.specs.Tokens.{Scan, scan_of}
-use Rattle.op_reader.specs.declared.quotes.DoubleQuotes.{DoubleQuotes}
+use Rattle.op_term.specs.declared.quotes.DoubleQuotes.{DoubleQuotes}
 use Rattle.op_reader.specs.declared.fault.ReadFaultKind.{ReadFaultKind}
 use Rattle.op_reader.specs.declared.fault.ReadFaultKind.TheVariants.{Token as BadToken, NoEnd, Unbalanced, NoOperand, Priority}
 use Rattle.op_reader.specs.FirstClause.{Sentence, sentence_of, unmatched}
@@ -44,7 +44,8 @@ rows_outcome place names used rows =
 
 -- the words of a clause whose end token stands at a place
 abbrev pub words_outcome : ℕ → List (List ℕ × ℕ) → ℕ → ℕ → List (Word (List ℕ)) → Outcome
-words_outcome place names stop used ws = elim (clause_roles stop ws) [ Err at ↦ refused at NoOperand | Ok rows ↦ rows_outcome place names used rows ]
+words_outcome place names stop used ws =
+    elim (clause_roles stop ws) [ Err at ↦ refused at NoOperand | Ok rows ↦ rows_outcome place names used rows ]
 
 -- a clause whose brackets match
 abbrev pub clause_outcome : Source → Sentence → Outcome

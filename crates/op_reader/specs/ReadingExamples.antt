@@ -7,7 +7,7 @@ use Rattle.op_logic.specs.Term.{Term, var, int, node, atom, no_args, arg}
 use Rattle.op_term.specs.Ops.{iso_table, iso_rows, set_in}
 use Rattle.op_term.specs.declared.ops.OpKind.{OpKind}
 use Rattle.op_term.specs.declared.ops.OpKind.TheVariants.{Fy, Xf}
-use Rattle.op_reader.specs.declared.quotes.DoubleQuotes.TheVariants.{Codes, Chars, Atom}
+use Rattle.op_term.specs.declared.quotes.DoubleQuotes.TheVariants.{Codes, Chars, Atom}
 use Rattle.op_reader.specs.declared.fault.ReadFaultKind.TheVariants.{Token as BadToken, NoEnd, Unbalanced, NoOperand, Priority}
 use Rattle.op_token.specs.declared.token.TokenFaultKind.TheVariants.{BadChar, NumberRange}
 use Rattle.op_reader.specs.Reading.{Outcome, term, end, refused, reading_of}
@@ -71,11 +71,14 @@ pub two_clauses : reads (codes " a :- b :- c .") ≡ refused 1 Priority
 unfolding reading_of iso_table iso_rows tree_of
 two_clauses = refl
 
-pub a_compound : reads (codes "f(a,B, b, B,_,C).") ≡ term (node (codes "f") (arg a (arg (var 0) (arg b (arg (var 0) (arg (var 1) (arg (var 2) no_args))))))) ((codes "B", 0) ∷ (codes "C", 2) ∷ []) 17
+pub a_compound : reads (codes "f(a,B, b, B,_,C).")
+    ≡ term (node (codes "f") (arg a (arg (var 0) (arg b (arg (var 0) (arg (var 1) (arg (var 2) no_args)))))))
+    ((codes "B", 0) ∷ (codes "C", 2) ∷ []) 17
 unfolding reading_of iso_table iso_rows tree_of
 a_compound = refl
 
-pub anonymous : reads (codes "f(_,_a,_,_a).") ≡ term (node (codes "f") (arg (var 0) (arg (var 1) (arg (var 2) (arg (var 1) no_args))))) ((codes "_a", 1) ∷ []) 13
+pub anonymous : reads (codes "f(_,_a,_,_a).")
+    ≡ term (node (codes "f") (arg (var 0) (arg (var 1) (arg (var 2) (arg (var 1) no_args))))) ((codes "_a", 1) ∷ []) 13
 unfolding reading_of iso_table iso_rows tree_of
 anonymous = refl
 
@@ -313,7 +316,8 @@ pub a_postfix_operator : reads_with 200 Xf (codes "!") (codes "a! = b.") ≡ ter
 unfolding reading_of iso_table iso_rows tree_of
 a_postfix_operator = refl
 
-pub a_prefix_operator_before_an_infix_only : reads_with 700 Fy (codes "p") (codes "p * x.") ≡ term (two (codes "*") (atom (codes "p")) x) [] 6
+pub a_prefix_operator_before_an_infix_only : reads_with 700 Fy (codes "p") (codes "p * x.")
+    ≡ term (two (codes "*") (atom (codes "p")) x) [] 6
 unfolding reading_of iso_table iso_rows tree_of
 a_prefix_operator_before_an_infix_only = refl
 
@@ -322,10 +326,12 @@ unfolding reading_of iso_table iso_rows tree_of
 a_prefix_operator_before_a_name = refl
 
 -- the - is no prefix operator here, and makes a negative number
-pub a_prefix_operator_before_a_negative_number : reads_with 0 Fy (codes "-") (codes "\\+ -1.") ≡ term (one (codes "\\+") (int (negsuc 0))) [] 6
+pub a_prefix_operator_before_a_negative_number : reads_with 0 Fy (codes "-") (codes "\\+ -1.")
+    ≡ term (one (codes "\\+") (int (negsuc 0))) [] 6
 unfolding reading_of iso_table iso_rows tree_of
 a_prefix_operator_before_a_negative_number = refl
 
-pub a_prefix_operator_before_an_infix_minus : reads_with 0 Fy (codes "-") (codes "\\+ - 1.") ≡ term (two (codes "-") (atom (codes "\\+")) (int (pos 1))) [] 7
+pub a_prefix_operator_before_an_infix_minus : reads_with 0 Fy (codes "-") (codes "\\+ - 1.")
+    ≡ term (two (codes "-") (atom (codes "\\+")) (int (pos 1))) [] 7
 unfolding reading_of iso_table iso_rows tree_of
 a_prefix_operator_before_an_infix_minus = refl

@@ -1,5 +1,6 @@
 -- The tree of a row: operands, with operators before, between and behind them (ISO/IEC 13211-1, 6.3.1 and 6.3.4).
-use Rattle.std.specs.Prelude.{ℕ, zero, suc, ◌-◌, ◌==◌, ◌&&◌, ◌||◌, not, nat_lt, nat_le, max, length, Bool, true, false, if◌then◌else◌, List, [], ◌∷◌, Option, Some, None, option_map, option_and_then}
+use Rattle.std.specs.Prelude.{◌≡◌, ℕ, zero, suc, ◌-◌, ◌==◌, ◌&&◌, ◌||◌, not, nat_lt, nat_le, max, length, Bool, true, false, if◌then◌else◌}
+use Rattle.std.specs.Prelude.{List, [], ◌∷◌, Option, Some, None, option_map, option_and_then}
 use Rattle.op_logic.specs.Term.{Term, node, no_args, arg}
 use Rattle.op_term.specs.Ops.{is_prefix, is_infix, is_postfix, is_y_left, is_y_right}
 use Rattle.op_term.specs.declared.ops.OpKind.{OpKind}
@@ -116,3 +117,7 @@ tree_of (suc n) bound ps =
 -- the tree of a row within a bound; None where the row is refused
 abbrev pub tree : {N : Type 0} → ℕ → List (Piece N) → Option (Term N)
 tree bound ps = tree_of (length ps) bound ps
+
+-- the row is refused within every bound
+abbrev pub HasNoTree : List (Piece ℕ) → Type 0
+HasNoTree ps = (bound : ℕ) → tree bound ps ≡ None

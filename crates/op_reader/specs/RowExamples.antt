@@ -91,7 +91,8 @@ unfolding tree_of
 to_the_left = refl
 
 -- a - b + c
-pub left_of_two_names : read (operand a ∷ minus ∷ operand b ∷ plus ∷ operand c ∷ []) ≡ Some (with_two (codes "+") (with_two (codes "-") a b) c)
+pub left_of_two_names : read (operand a ∷ minus ∷ operand b ∷ plus ∷ operand c ∷ [])
+    ≡ Some (with_two (codes "+") (with_two (codes "-") a b) c)
 unfolding tree_of
 left_of_two_names = refl
 
@@ -121,7 +122,8 @@ unfolding tree_of
 a_directive_of_a_clause = refl
 
 -- a + b * c = d
-pub three_levels : read (operand a ∷ plus ∷ operand b ∷ times ∷ operand c ∷ eq ∷ operand d ∷ []) ≡ Some (with_two (codes "=") (with_two (codes "+") a (with_two (codes "*") b c)) d)
+pub three_levels : read (operand a ∷ plus ∷ operand b ∷ times ∷ operand c ∷ eq ∷ operand d ∷ [])
+    ≡ Some (with_two (codes "=") (with_two (codes "+") a (with_two (codes "*") b c)) d)
 unfolding tree_of
 three_levels = refl
 
@@ -141,7 +143,8 @@ unfolding tree_of
 a_sign_over_a_power = refl
 
 -- - a ^ b ^ c
-pub a_sign_over_two_powers : read (neg ∷ operand a ∷ hat ∷ operand b ∷ hat ∷ operand c ∷ []) ≡ Some (with_one (codes "-") (with_two (codes "^") a (with_two (codes "^") b c)))
+pub a_sign_over_two_powers : read (neg ∷ operand a ∷ hat ∷ operand b ∷ hat ∷ operand c ∷ [])
+    ≡ Some (with_one (codes "-") (with_two (codes "^") a (with_two (codes "^") b c)))
 unfolding tree_of
 a_sign_over_two_powers = refl
 
@@ -151,7 +154,8 @@ unfolding tree_of
 a_sign_behind_a_power = refl
 
 -- - a ** b
-pub a_sign_over_a_power_without_y : read (neg ∷ operand a ∷ power ∷ operand b ∷ []) ≡ Some (with_one (codes "-") (with_two (codes "**") a b))
+pub a_sign_over_a_power_without_y : read (neg ∷ operand a ∷ power ∷ operand b ∷ [])
+    ≡ Some (with_one (codes "-") (with_two (codes "**") a b))
 unfolding tree_of
 a_sign_over_a_power_without_y = refl
 
@@ -161,7 +165,8 @@ unfolding tree_of
 a_sign_behind_a_power_without_y = refl
 
 -- a - - b - c
-pub a_sign_within_a_sum : read (operand a ∷ minus ∷ neg ∷ operand b ∷ minus ∷ operand c ∷ []) ≡ Some (with_two (codes "-") (with_two (codes "-") a (with_one (codes "-") b)) c)
+pub a_sign_within_a_sum : read (operand a ∷ minus ∷ neg ∷ operand b ∷ minus ∷ operand c ∷ [])
+    ≡ Some (with_two (codes "-") (with_two (codes "-") a (with_one (codes "-") b)) c)
 unfolding tree_of
 a_sign_within_a_sum = refl
 
@@ -171,17 +176,20 @@ unfolding tree_of
 a_negation_behind_a_lower_one = refl
 
 -- \+ a = b
-pub a_negation_over_an_equation : read (negation ∷ operand a ∷ eq ∷ operand b ∷ []) ≡ Some (with_one (codes "\\+") (with_two (codes "=") a b))
+pub a_negation_over_an_equation : read (negation ∷ operand a ∷ eq ∷ operand b ∷ [])
+    ≡ Some (with_one (codes "\\+") (with_two (codes "=") a b))
 unfolding tree_of
 a_negation_over_an_equation = refl
 
 -- a , \+ b , c
-pub a_negation_in_the_middle : read (operand a ∷ comma ∷ negation ∷ operand b ∷ comma ∷ operand c ∷ []) ≡ Some (with_two (codes ",") a (with_two (codes ",") (with_one (codes "\\+") b) c))
+pub a_negation_in_the_middle : read (operand a ∷ comma ∷ negation ∷ operand b ∷ comma ∷ operand c ∷ [])
+    ≡ Some (with_two (codes ",") a (with_two (codes ",") (with_one (codes "\\+") b) c))
 unfolding tree_of
 a_negation_in_the_middle = refl
 
 -- a r b - c
-pub right_then_left : read (operand a ∷ own_right ∷ operand b ∷ minus ∷ operand c ∷ []) ≡ Some (with_two (codes "r") a (with_two (codes "-") b c))
+pub right_then_left : read (operand a ∷ own_right ∷ operand b ∷ minus ∷ operand c ∷ [])
+    ≡ Some (with_two (codes "r") a (with_two (codes "-") b c))
 unfolding tree_of
 right_then_left = refl
 
@@ -196,7 +204,8 @@ unfolding tree_of
 left_right_left = refl
 
 -- a r b - c + d
-pub right_left_left : read (operand a ∷ own_right ∷ operand b ∷ minus ∷ operand c ∷ plus ∷ operand d ∷ []) ≡ Some (with_two (codes "r") a (with_two (codes "+") (with_two (codes "-") b c) d))
+pub right_left_left : read (operand a ∷ own_right ∷ operand b ∷ minus ∷ operand c ∷ plus ∷ operand d ∷ [])
+    ≡ Some (with_two (codes "r") a (with_two (codes "+") (with_two (codes "-") b c) d))
 unfolding tree_of
 right_left_left = refl
 
@@ -236,7 +245,8 @@ unfolding tree_of
 before_then_both = refl
 
 -- a n b - c
-pub both_then_left : read (operand a ∷ own_both ∷ operand b ∷ minus ∷ operand c ∷ []) ≡ Some (with_two (codes "-") (with_two (codes "n") a b) c)
+pub both_then_left : read (operand a ∷ own_both ∷ operand b ∷ minus ∷ operand c ∷ [])
+    ≡ Some (with_two (codes "-") (with_two (codes "n") a b) c)
 unfolding tree_of
 both_then_left = refl
 
@@ -246,7 +256,8 @@ unfolding tree_of
 both_then_right = refl
 
 -- a r b n c
-pub right_then_both : read (operand a ∷ own_right ∷ operand b ∷ own_both ∷ operand c ∷ []) ≡ Some (with_two (codes "r") a (with_two (codes "n") b c))
+pub right_then_both : read (operand a ∷ own_right ∷ operand b ∷ own_both ∷ operand c ∷ [])
+    ≡ Some (with_two (codes "r") a (with_two (codes "n") b c))
 unfolding tree_of
 right_then_both = refl
 
@@ -271,7 +282,8 @@ unfolding tree_of
 behind_x_a_sum = refl
 
 -- a r b s
-pub behind_to_the_right : read (operand a ∷ own_right ∷ operand b ∷ own_behind ∷ []) ≡ Some (with_two (codes "r") a (with_one (codes "s") b))
+pub behind_to_the_right : read (operand a ∷ own_right ∷ operand b ∷ own_behind ∷ [])
+    ≡ Some (with_two (codes "r") a (with_one (codes "s") b))
 unfolding tree_of
 behind_to_the_right = refl
 

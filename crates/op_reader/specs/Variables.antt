@@ -1,11 +1,9 @@
 -- The variables of a term that was read: they are numbered from 0 by first occurrence.
 use Rattle.std.specs.Prelude.{◌≡◌, ◌<◌, ◌≤◌, ℕ, suc, max, true, List, [], ◌∷◌, ◌++◌}
 use Rattle.op_logic.specs.Term.{Term, var, int, node, Args, no_args, arg, occurs, IsWithin}
-use Rattle.op_term.specs.Ops.{Table}
-use Rattle.op_reader.specs.declared.quotes.DoubleQuotes.{DoubleQuotes}
 use Rattle.op_reader.specs.declared.term_reader.Reading.{Reading}
 use Rattle.op_reader.specs.declared.term_reader.Reading.TheVariants.{Term as ATerm, End}
-use Rattle.op_reader.specs.Reading.{AreCounted, term, reading_of}
+use Rattle.op_reader.specs.Reading.{AreCounted}
 
 -- the variables of a term from left to right, each as often as it stands there
 abbrev mutual
@@ -38,9 +36,3 @@ HasCount n End = Unit {0}
 abbrev pub HasItsVariables : Reading → Type 0
 HasItsVariables (ATerm r) = HasVariables r.vars r.term r.names
 HasItsVariables End = Unit {0}
-
--- each term that is read has such variables
-abbrev pub ReadTermsHaveVariables : Type 0
-ReadTermsHaveVariables =
-    (table : Table) (quotes : DoubleQuotes) (text : List ℕ) (t : Term (List ℕ)) (names : List (List ℕ × ℕ)) (used : ℕ)
-    → reading_of table quotes text ≡ term t names used → (count : ℕ) × HasVariables count t names

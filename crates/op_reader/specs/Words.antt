@@ -1,7 +1,9 @@
 -- The words of a clause: each token with what it is where an operand is expected, and where an operator is. What a token is there
 -- depends on the two tokens behind it alone (ISO/IEC 13211-1, 6.3.1 and 6.3.4; where an operator's name is an operand is this
 -- project's own).
-use Rattle.std.specs.Prelude.{ℕ, suc, pos, neg_ℤ, ◌-◌, Bool, true, false, not, ◌&&◌, ◌||◌, ℤ, List, [], ◌∷◌, ◌++◌, map, drop, length, slice_index, slice_range, Option, Some, None, is_some, unwrap_or, codes, bytes_eq, encode_utf8, nat_lt, nat_le, option_and_then, if◌then◌else◌}
+use Rattle.std.specs.Prelude.{ℕ, suc, pos, neg_ℤ, ◌-◌, Bool, true, false, not, ◌&&◌, ◌||◌, ℤ, List, [], ◌∷◌, ◌++◌, map, drop, length}
+use Rattle.std.specs.Prelude.{slice_index, slice_range, Option, Some, None, is_some, unwrap_or, codes, bytes_eq, encode_utf8, nat_lt}
+use Rattle.std.specs.Prelude.{nat_le, option_and_then, if◌then◌else◌}
 use Rattle.std.specs.Option.{option_map_or}
 use Rattle.std.specs.Str.{chars}
 use Rattle.op_logic.specs.Term.{Term, var, int, node, atom, no_args, arg}
@@ -9,11 +11,12 @@ use Rattle.op_term.specs.Ops.{Table, prefix_in, infix_in, postfix_in}
 use Rattle.op_term.specs.declared.ops.Meaning.{Meaning}
 use Rattle.op_token.specs.declared.token.Token.{Token}
 use Rattle.op_token.specs.declared.token.TokenKind.{TokenKind}
-use Rattle.op_token.specs.declared.token.TokenKind.TheVariants.{Name, QuotedName, Variable, Integer, Text, OpenRound, CloseRound, OpenSquare, CloseSquare, OpenCurly, CloseCurly, Comma, Bar, End}
+use Rattle.op_token.specs.declared.token.TokenKind.TheVariants.{Name, QuotedName, Variable, Integer, Text, OpenRound, CloseRound}
+use Rattle.op_token.specs.declared.token.TokenKind.TheVariants.{OpenSquare, CloseSquare, OpenCurly, CloseCurly, Comma, Bar, End}
 use Rattle.op_token.specs.Spelling.{least_magnitude}
 use Rattle.op_token.specs.Tokens.{is_minus, unquoted}
-use Rattle.op_reader.specs.declared.quotes.DoubleQuotes.{DoubleQuotes}
-use Rattle.op_reader.specs.declared.quotes.DoubleQuotes.TheVariants.{Codes, Atom}
+use Rattle.op_term.specs.declared.quotes.DoubleQuotes.{DoubleQuotes}
+use Rattle.op_term.specs.declared.quotes.DoubleQuotes.TheVariants.{Codes, Atom}
 use Rattle.op_reader.specs.declared.bracket.Bracket.{Bracket}
 use Rattle.op_reader.specs.declared.bracket.Bracket.TheVariants.{Round, Square, Curly}
 use Rattle.op_reader.specs.Row.{Operator}

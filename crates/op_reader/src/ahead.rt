@@ -1,6 +1,8 @@
 ghost use Rattle.std.specs.Prelude.{◌≡◌, ◌<◌, ◌-◌, ◌≤◌, length, slice_index};
 ghost use Rattle.op_token.specs.Tokens.{is_minus as the_is_minus};
-ghost use Rattle.op_reader.specs.Words.{opens as the_opens, magnitude as the_magnitude, magnitude_behind as the_magnitude_behind, negated as the_negated, negative as the_negative, ends_operand as the_ends_operand, is_empty_pair as the_is_empty_pair};
+ghost use Rattle.op_reader.specs.Words.{opens as the_opens, magnitude as the_magnitude, magnitude_behind as the_magnitude_behind};
+ghost use Rattle.op_reader.specs.Words.{negated as the_negated, negative as the_negative, ends_operand as the_ends_operand};
+ghost use Rattle.op_reader.specs.Words.{is_empty_pair as the_is_empty_pair};
 
 use op_token::{Token, TokenKind};
 

@@ -1,11 +1,12 @@
-ghost use Rattle.std.specs.Prelude.{◌≡◌, ◌<◌, ℕ, List, [], ◌∷◌, All, length, take, map, reverse, Some, None, option_map, option_and_then, unwrap_or, IfOk, IfSome, OnOk};
+ghost use Rattle.std.specs.Prelude.{◌≡◌, ◌<◌, ℕ, List, [], ◌∷◌, All, length, take, map, reverse, Some, None, option_map, option_and_then};
+ghost use Rattle.std.specs.Prelude.{unwrap_or, IfOk, IfSome, OnOk};
 ghost use Rattle.op_logic.specs.Term.{node, atom, arg};
 ghost use Rattle.op_logic.specs.Names.{name_at};
 ghost use Rattle.op_reader.specs.Words.{list_of};
 ghost use Rattle.op_reader.specs.Row.{tree};
 ghost use Rattle.op_reader.specs.Terms.{args_of, compound_of as the_compound_of, bracketed_of as the_bracketed_of};
-ghost use Rattle.op_reader.specs.Marks.{View, node_in};
-ghost use Rattle.op_reader.specs.Level.{Extends, nodes_in, level_in, known_in, LevelBelow};
+ghost use Rattle.op_reader.specs.inner.Marks.{View, node_in};
+ghost use Rattle.op_reader.specs.inner.Level.{Extends, nodes_in, level_in, known_in, LevelBelow};
 
 use crate::bracket::Bracket;
 use crate::level::{Level, ListNames, tree_node};
@@ -18,7 +19,8 @@ use std::alloc::Global;
 fn compound_node(nodes: &mut Builder, name: Sym, first: u64, rest: Vec<u64>) -> Result<u64, Memory>
     requires first { first < length nodes.old }
     requires rest { All (λ n. n < length nodes.old) rest.items }
-    ensures term { IfOk result (λ n. (v : View) → Extends v nodes.new → node_in v n ≡ node (name_at v.names name.0) (arg (node_in v first) (args_of (nodes_in v rest.items)))) }
+    ensures term { IfOk result (λ n. (v : View) → Extends v nodes.new
+        → node_in v n ≡ node (name_at v.names name.0) (arg (node_in v first) (args_of (nodes_in v rest.items)))) }
     ensures there { IfOk result (λ n. n < length nodes.new) }
     ensures kept { take (length nodes.old) nodes.new ≡ nodes.old }
 {
@@ -41,7 +43,9 @@ fn whole_list(
     requires rest { All (λ n. n < length nodes.old) rest.items }
     requires tail { IfSome tail (λ n. n < length nodes.old) }
     ensures term { IfOk result (λ n. (v : View) → Extends v nodes.new →
-        node_in v n ≡ list_of (name_at v.names names.dot.0) (unwrap_or (option_map (node_in v) tail) (atom (name_at v.names names.nil.0))) (node_in v first ∷ nodes_in v rest.items)) }
+        node_in v n ≡ list_of (name_at v.names names.dot.0)
+        (unwrap_or (option_map (node_in v) tail) (atom (name_at v.names names.nil.0)))
+        (node_in v first ∷ nodes_in v rest.items)) }
     ensures there { IfOk result (λ n. n < length nodes.new) }
     ensures kept { take (length nodes.old) nodes.new ≡ nodes.old }
 {
@@ -55,7 +59,8 @@ fn whole_list(
 
 fn end_node(nodes: &mut Builder, names: ListNames, tail: Option<u64>) -> Result<u64, Memory>
     requires tail { IfSome tail (λ n. n < length nodes.old) }
-    ensures term { IfOk result (λ n. (v : View) → Extends v nodes.new → node_in v n ≡ unwrap_or (option_map (node_in v) tail) (atom (name_at v.names names.nil.0))) }
+    ensures term { IfOk result (λ n. (v : View) → Extends v nodes.new
+        → node_in v n ≡ unwrap_or (option_map (node_in v) tail) (atom (name_at v.names names.nil.0))) }
     ensures there { IfOk result (λ n. n < length nodes.new) }
     ensures kept { take (length nodes.old) nodes.new ≡ nodes.old }
 {
@@ -76,7 +81,8 @@ pub(crate) fn compound_of(
     level: Level,
 ) -> Result<Option<u64>, Memory>
     requires { LevelBelow (length nodes.old) level }
-    ensures term { IfOk result (λ found. (v : View) → Extends v nodes.new → option_and_then (the_compound_of (name_at v.names name.0)) (level_in v level) ≡ option_map (node_in v) found) }
+    ensures term { IfOk result (λ found. (v : View) → Extends v nodes.new
+        → option_and_then (the_compound_of (name_at v.names name.0)) (level_in v level) ≡ option_map (node_in v) found) }
     ensures there { IfOk result (λ found. IfSome found (λ n. n < length nodes.new)) }
     ensures kept { take (length nodes.old) nodes.new ≡ nodes.old }
 {
@@ -106,7 +112,8 @@ fn list_of_level(
     level: Level,
 ) -> Result<Option<u64>, Memory>
     requires { LevelBelow (length nodes.old) level }
-    ensures term { IfOk result (λ found. (v : View) → Extends v nodes.new → option_and_then (the_bracketed_of (known_in v names) Bracket.Square) (level_in v level) ≡ option_map (node_in v) found) }
+    ensures term { IfOk result (λ found. (v : View) → Extends v nodes.new
+        → option_and_then (the_bracketed_of (known_in v names) Bracket.Square) (level_in v level) ≡ option_map (node_in v) found) }
     ensures there { IfOk result (λ found. IfSome found (λ n. n < length nodes.new)) }
     ensures kept { take (length nodes.old) nodes.new ≡ nodes.old }
 {
@@ -135,7 +142,8 @@ pub(crate) fn term_of_level(
     level: Level,
 ) -> Result<Option<u64>, Memory>
     requires { LevelBelow (length nodes.old) level }
-    ensures term { IfOk result (λ found. (v : View) → Extends v nodes.new → option_and_then (λ r. tree 1200 r.row) (level_in v level) ≡ option_map (node_in v) found) }
+    ensures term { IfOk result (λ found. (v : View) → Extends v nodes.new
+        → option_and_then (λ r. tree 1200 r.row) (level_in v level) ≡ option_map (node_in v) found) }
     ensures there { IfOk result (λ found. IfSome found (λ n. n < length nodes.new)) }
     ensures kept { take (length nodes.old) nodes.new ≡ nodes.old }
 {
@@ -160,7 +168,8 @@ fn braces_of_level(
     level: Level,
 ) -> Result<Option<u64>, Memory>
     requires { LevelBelow (length nodes.old) level }
-    ensures term { IfOk result (λ found. (v : View) → Extends v nodes.new → option_and_then (the_bracketed_of (known_in v names) Bracket.Curly) (level_in v level) ≡ option_map (node_in v) found) }
+    ensures term { IfOk result (λ found. (v : View) → Extends v nodes.new
+        → option_and_then (the_bracketed_of (known_in v names) Bracket.Curly) (level_in v level) ≡ option_map (node_in v) found) }
     ensures there { IfOk result (λ found. IfSome found (λ n. n < length nodes.new)) }
     ensures kept { take (length nodes.old) nodes.new ≡ nodes.old }
 {
@@ -182,7 +191,8 @@ pub(crate) fn bracketed_of(
     level: Level,
 ) -> Result<Option<u64>, Memory>
     requires { LevelBelow (length nodes.old) level }
-    ensures term { IfOk result (λ found. (v : View) → Extends v nodes.new → option_and_then (the_bracketed_of (known_in v names) bracket) (level_in v level) ≡ option_map (node_in v) found) }
+    ensures term { IfOk result (λ found. (v : View) → Extends v nodes.new
+        → option_and_then (the_bracketed_of (known_in v names) bracket) (level_in v level) ≡ option_map (node_in v) found) }
     ensures there { IfOk result (λ found. IfSome found (λ n. n < length nodes.new)) }
     ensures kept { take (length nodes.old) nodes.new ≡ nodes.old }
 {

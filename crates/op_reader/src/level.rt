@@ -1,12 +1,14 @@
-ghost use Rattle.std.specs.Prelude.{◌≡◌, ◌<◌, ℕ, List, [], ◌∷◌, All, length, take, map, reverse, Some, None, option_map, option_and_then, unwrap_or, IfOk, IfSome, OnOk};
+ghost use Rattle.std.specs.Prelude.{◌≡◌, ◌<◌, ℕ, List, [], ◌∷◌, All, length, take, map, reverse, Some, None, option_map, option_and_then};
+ghost use Rattle.std.specs.Prelude.{unwrap_or, IfOk, IfSome, OnOk};
 ghost use Rattle.op_logic.specs.Term.{atom};
 ghost use Rattle.op_logic.specs.Names.{name_at};
 ghost use Rattle.op_reader.specs.Row.{tree};
 ghost use Rattle.op_reader.specs.Words.{list_of};
-ghost use Rattle.op_reader.specs.Terms.{separated as the_separated, tailed as the_tailed, compound_of as the_compound_of, bracketed_of as the_bracketed_of, as_operand as the_as_operand, with_piece};
-ghost use Rattle.op_reader.specs.Marks.{View, node_in};
-ghost use Rattle.op_reader.specs.Pieces.{PieceBelow};
-ghost use Rattle.op_reader.specs.Level.{Extends, row_in, nodes_in, level_in, known_in, LevelBelow, piece_in};
+ghost use Rattle.op_reader.specs.Terms.{separated as the_separated, tailed as the_tailed, compound_of as the_compound_of};
+ghost use Rattle.op_reader.specs.Terms.{bracketed_of as the_bracketed_of, as_operand as the_as_operand, with_piece};
+ghost use Rattle.op_reader.specs.inner.Marks.{View, node_in};
+ghost use Rattle.op_reader.specs.inner.Pieces.{PieceBelow};
+ghost use Rattle.op_reader.specs.inner.Level.{Extends, row_in, nodes_in, level_in, known_in, LevelBelow, piece_in};
 
 use crate::bracket::Bracket;
 use crate::list_node::list_node;
@@ -42,7 +44,8 @@ pub(crate) fn tree_node(
     bound: u32,
 ) -> Result<Option<u64>, Memory>
     requires { All (PieceBelow (length nodes.old)) row.items }
-    ensures term { IfOk result (λ found. (v : View) → Extends v nodes.new → tree bound (row_in v row.items) ≡ option_map (node_in v) found) }
+    ensures term { IfOk result (λ found. (v : View) → Extends v nodes.new
+        → tree bound (row_in v row.items) ≡ option_map (node_in v) found) }
     ensures there { IfOk result (λ found. IfSome found (λ at. at < length nodes.new)) }
     ensures kept { take (length nodes.old) nodes.new ≡ nodes.old }
 {
@@ -96,7 +99,8 @@ pub(crate) fn add_operand(level: &mut Level, found: Option<u64>) -> Result<(), M
 /// Finishes the row, and begins the one before it.
 pub(crate) fn separate(alloc: Global, nodes: &mut Builder, level: &mut Level) -> Result<(), Memory>
     requires { LevelBelow (length nodes.old) level.old }
-    ensures separated { OnOk result ((v : View) → Extends v nodes.new → level_in v level.new ≡ option_and_then the_separated (level_in v level.old)) }
+    ensures separated { OnOk result ((v : View) → Extends v nodes.new
+        → level_in v level.new ≡ option_and_then the_separated (level_in v level.old)) }
     ensures below { OnOk result (LevelBelow (length nodes.new) level.new) }
     ensures kept { take (length nodes.old) nodes.new ≡ nodes.old }
 {
@@ -116,7 +120,8 @@ pub(crate) fn separate(alloc: Global, nodes: &mut Builder, level: &mut Level) ->
 /// Finishes the row as a list's tail, and begins the one before it.
 pub(crate) fn make_tail(alloc: Global, nodes: &mut Builder, level: &mut Level) -> Result<(), Memory>
     requires { LevelBelow (length nodes.old) level.old }
-    ensures tailed { OnOk result ((v : View) → Extends v nodes.new → level_in v level.new ≡ option_and_then the_tailed (level_in v level.old)) }
+    ensures tailed { OnOk result ((v : View) → Extends v nodes.new
+        → level_in v level.new ≡ option_and_then the_tailed (level_in v level.old)) }
     ensures below { OnOk result (LevelBelow (length nodes.new) level.new) }
     ensures kept { take (length nodes.old) nodes.new ≡ nodes.old }
 {

@@ -12,7 +12,6 @@ mod mark;
 mod name_word;
 mod names;
 mod piece;
-mod quotes;
 pub mod reading_laws;
 mod role;
 mod row;
@@ -29,5 +28,5 @@ mod words;
 
 pub use fault::{ReadFault, ReadFaultKind};
 pub use names::Names;
-pub use quotes::DoubleQuotes;
+pub use op_term::DoubleQuotes;
 pub use term_reader::{Read, Reading, read_term};

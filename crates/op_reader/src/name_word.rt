@@ -1,8 +1,10 @@
 ghost use Rattle.std.specs.Prelude.{◌≡◌, ◌<◌, All, length, take, OnOk, IfOk};
 ghost use Rattle.op_logic.specs.Names.{name_at};
 ghost use Rattle.op_logic.specs.Term.{atom};
-ghost use Rattle.op_reader.specs.Words.{as_operator as the_as_operator, is_infix_alone, is_infix_name, is_infix_only as the_is_infix_only, stands_alone as the_stands_alone, bare_name as the_bare_name, name_as_operand as the_name_as_operand};
-ghost use Rattle.op_reader.specs.Shown.{HasText, ShowsOperator, ShowsOperand, ShowsTerm};
+ghost use Rattle.op_reader.specs.Words.{as_operator as the_as_operator, is_infix_alone, is_infix_name, is_infix_only as the_is_infix_only};
+ghost use Rattle.op_reader.specs.Words.{stands_alone as the_stands_alone, bare_name as the_bare_name};
+ghost use Rattle.op_reader.specs.Words.{name_as_operand as the_name_as_operand};
+ghost use Rattle.op_reader.specs.inner.Shown.{HasText, ShowsOperator, ShowsOperand, ShowsTerm};
 
 use crate::ahead::{ends_operand, negative, opens};
 use crate::token_text::{as_text, read_text};
@@ -148,7 +150,8 @@ pub(crate) fn as_operand(
     requires text { All (HasText bytes.now) rest.now }
     requires known { sym.0 < length symbols.now }
     requires named { name_at symbols.now sym.0 ≡ name.now }
-    ensures shown { IfOk result (λ a. ShowsOperand symbols.now nodes.new a (the_name_as_operand ops.now bytes.now token name.now rest.now)) }
+    ensures shown { IfOk result (λ a. ShowsOperand symbols.now nodes.new a
+        (the_name_as_operand ops.now bytes.now token name.now rest.now)) }
     ensures kept { take (length nodes.old) nodes.new ≡ nodes.old }
 {
     if opens(rest) {

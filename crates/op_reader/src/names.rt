@@ -1,8 +1,8 @@
 ghost use Rattle.std.specs.Prelude.{◌≡◌, ℕ, ◌<◌, List, [], ◌∷◌, ◌++◌, length, None, IfOk, OnOk, OnErr, slice_index_or};
-ghost use Rattle.op_reader.specs.Met.{number_of};
+ghost use Rattle.op_reader.specs.Names.{number_of};
 
-use indexmap::IndexMap;
 use op_base::Memory;
+use op_term::{Sym, Symbols};
 use std::alloc::Global;
 use std::marker::Model;
 
@@ -10,8 +10,8 @@ use std::marker::Model;
 /// their names with their numbers.
 #[derive(Drop)]
 pub struct Names {
-    alloc: Global,
-    numbers: IndexMap<String, u64>,
+    names: Symbols,
+    numbers: Vec<u64>,
 }
 
 impl Model for Names {
@@ -19,9 +19,13 @@ impl Model for Names {
 
     ghost Value = { List (List ℕ × ℕ) };
 
-    ghost use Rattle.op_reader.specs.Met.{seen};
+    ghost use Rattle.op_reader.specs.Names.{numbered};
 
-    ghost view = { λ n. seen n.numbers.entries };
+    ghost view = { λ n. numbered n.names n.numbers.items };
+
+    ghost use Rattle.std.specs.Prelude.{◌≡◌, length};
+
+    ghost invariant = { λ n. length n.names ≡ length n.numbers.items };
 }
 
 impl Names {
@@ -30,8 +34,8 @@ impl Names {
         ensures { result ≡ [] }
     {
         Names {
-            alloc,
-            numbers: IndexMap::new(alloc),
+            names: Symbols::new(alloc),
+            numbers: Vec::new(alloc),
         }
     }
 
@@ -47,7 +51,7 @@ impl Names {
         requires { i < length self.now }
         ensures { result.now ≡ (slice_index_or self.now i ([], 0)).0 }
     {
-        self.numbers.get_index(i as usize).unwrap().0.as_str()
+        self.names.name_of(Sym(i))
     }
 
     /// The number of the variable at a place.
@@ -55,14 +59,17 @@ impl Names {
         requires { i < length self.now }
         ensures { result ≡ (slice_index_or self.now i ([], 0)).1 }
     {
-        *self.numbers.get_index(i as usize).unwrap().1
+        self.numbers[i as usize]
     }
 
     /// The number of the variable with this name.
     pub fn find(&self, name: &str) -> Option<u64>
         ensures { result ≡ number_of name.now self.now }
     {
-        self.numbers.get(name).copied()
+        match self.names.find(name) {
+            Some(at) => Some(self.numbers[at.0 as usize]),
+            None => None,
+        }
     }
 
     /// Puts a name that isn't there behind the others.
@@ -71,9 +78,14 @@ impl Names {
         ensures ok { OnOk result (self.new ≡ self.old ++ (name.now, var) ∷ []) }
         ensures err { OnErr result (self.new ≡ self.old) }
     {
-        let owned = String::from_str(self.alloc, name)?;
-        self.numbers.insert(owned, var)?;
-        Ok(())
+        self.numbers.push(var)?;
+        match self.names.intern(name) {
+            Ok(_) => Ok(()),
+            Err(e) => {
+                self.numbers.pop();
+                Err(e)
+            }
+        }
     }
 
     /// The same names with the same numbers.
@@ -81,7 +93,7 @@ impl Names {
         ensures { IfOk result (λ n. n ≡ self.now) }
     {
         Ok(Names {
-            alloc: self.alloc,
+            names: self.names.copy()?,
             numbers: self.numbers.clone()?,
         })
     }

@@ -1,7 +1,8 @@
 ghost use Rattle.std.specs.Prelude.{◌≡◌, ℕ, All, IfOk, OnOk};
 ghost use Rattle.op_term.specs.Ops.{is_infix as the_is_infix};
 ghost use Rattle.op_reader.specs.Roles.{inside as the_inside, behind_operator};
-ghost use Rattle.op_reader.specs.Marks.{WordBelow, MarkBelow, StepBelow, RolesBelow, View, IsStep, IsLeft, Advances, IsEnded, HasRoles, first_excess, expected_in, operator_in};
+ghost use Rattle.op_reader.specs.inner.Marks.{WordBelow, MarkBelow, StepBelow, RolesBelow, View, IsStep, IsLeft, Advances, IsEnded};
+ghost use Rattle.op_reader.specs.inner.Marks.{HasRoles, first_excess, expected_in, operator_in};
 
 use crate::bracket::Bracket;
 use crate::mark::Mark;

@@ -1,11 +1,12 @@
-ghost use Rattle.std.specs.Prelude.{◌≡◌, ◌<◌, ◌≤◌, ◌-◌, ◌++◌, ◌∷◌, [], ℕ, List, length, take, true, false, if◌then◌else◌, OnOk, IfOk, IfSome};
+ghost use Rattle.std.specs.Prelude.{◌≡◌, ◌<◌, ◌≤◌, ◌-◌, ◌++◌, ◌∷◌, [], ℕ, List, length, take, true, false, if◌then◌else◌, OnOk, IfOk};
+ghost use Rattle.std.specs.Prelude.{IfSome};
 ghost use Rattle.op_logic.specs.Term.{Term as SpecTerm};
 ghost use Rattle.op_term.specs.Ops.{is_prefix, is_infix, is_postfix, is_y_left, is_y_right};
 ghost use Rattle.op_term.specs.Places.{term_at};
 ghost use Rattle.op_reader.specs.Row.{Piece, operand, operator};
-ghost use Rattle.op_reader.specs.Spine.{whole_priority};
-ghost use Rattle.op_reader.specs.Held.{BranchesBelow};
-ghost use Rattle.op_reader.specs.Adding.{last_is_below, whole_term, spine_at, IsSameTo, IsClosed};
+ghost use Rattle.op_reader.specs.inner.Spine.{whole_priority};
+ghost use Rattle.op_reader.specs.inner.Held.{BranchesBelow};
+ghost use Rattle.op_reader.specs.inner.Adding.{last_is_below, whole_term, spine_at, IsSameTo, IsClosed};
 
 use op_base::Memory;
 use op_term::{Builder, Meaning, Sym};
@@ -98,7 +99,8 @@ fn close_below(
     ensures branches_there { OnOk result (BranchesBelow (length nodes.new) branches.new.items) }
     ensures part_there { IfOk result (λ left. left.node < length nodes.new) }
     ensures stops { OnOk result (last_is_below priority branches.new.items ≡ false) }
-    ensures same { IfOk result (λ left. IsSameTo priority (spine_at nodes.old branches.old.items part) (spine_at nodes.new branches.new.items left)) }
+    ensures same { IfOk result (λ left. IsSameTo priority (spine_at nodes.old branches.old.items part)
+        (spine_at nodes.new branches.new.items left)) }
     ensures kept { take (length nodes.old) nodes.new ≡ nodes.old }
 {
     let mut right = part;
@@ -128,7 +130,7 @@ fn close_all(branches: &mut Vec<Branch>, nodes: &mut Builder, part: Part) -> Res
 }
 
 impl Model for Row {
-    ghost use Rattle.op_reader.specs.Held.{Held};
+    ghost use Rattle.op_reader.specs.inner.Held.{Held};
 
     ghost Value = { Held };
 
@@ -136,7 +138,7 @@ impl Model for Row {
 }
 
 impl Row {
-    ghost use Rattle.op_reader.specs.Held.{no_pieces, expects_operand, operator_of, Stands, AreBelow, IsTreeOf};
+    ghost use Rattle.op_reader.specs.inner.Held.{no_pieces, expects_operand, operator_of, Stands, AreBelow, IsTreeOf};
 
     /// No pieces.
     pub fn new(alloc: Global) -> Row

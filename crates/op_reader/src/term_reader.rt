@@ -2,8 +2,8 @@ ghost use Rattle.std.specs.Prelude.{◌≡◌, ◌<◌, ℕ, List, [], All, leng
 ghost use Rattle.op_reader.specs.FirstClause.{sentence};
 ghost use Rattle.op_reader.specs.Roles.{levels_of};
 ghost use Rattle.op_reader.specs.Reading.{first_place as the_first_place, rows_outcome, words_outcome, sentence_outcome, reading_of};
-ghost use Rattle.op_reader.specs.Marks.{view, with_marks, no_layers, rows_of, word_in, WordBelow, MarkBelow};
-ghost use Rattle.op_reader.specs.Shown.{HasText};
+ghost use Rattle.op_reader.specs.inner.Marks.{view, with_marks, no_layers, rows_of, word_in, WordBelow, MarkBelow};
+ghost use Rattle.op_reader.specs.inner.Shown.{HasText};
 ghost use Rattle.op_reader.specs.Passes.{Tells, AreListNames, HasKnownNames};
 ghost use Rattle.op_reader.specs.Variables.{HasCount, HasItsVariables};
 
@@ -13,13 +13,12 @@ use crate::first_clause::{Beginning, first_clause};
 use crate::level::ListNames;
 use crate::mark::Mark;
 use crate::names::Names;
-use crate::quotes::DoubleQuotes;
 use crate::role::{Roles, first_excess, roles_of};
 use crate::terms::term_node;
 use crate::word::Word;
 use crate::words::{Made, words_of};
 use op_base::Memory;
-use op_term::{Ops, Symbols, Term};
+use op_term::{DoubleQuotes, Ops, Symbols, Term};
 use op_token::{Token, TokenFaultKind};
 use std::alloc::Global;
 

@@ -1,7 +1,8 @@
-ghost use Rattle.std.specs.Prelude.{◌≡◌, ◌<◌, ◌≤◌, ℕ, List, [], ◌∷◌, All, length, take, drop, map, reverse, Some, None, option_map, option_and_then, IfOk, IfSome, OnOk};
+ghost use Rattle.std.specs.Prelude.{◌≡◌, ◌<◌, ◌≤◌, ℕ, List, [], ◌∷◌, All, length, take, drop, map, reverse, Some, None, option_map};
+ghost use Rattle.std.specs.Prelude.{option_and_then, IfOk, IfSome, OnOk};
 ghost use Rattle.op_reader.specs.Terms.{term_of as the_term_of, as_operand as the_as_operand};
-ghost use Rattle.op_reader.specs.Marks.{MarkBelow, View, Layers, node_in, with_mark, rows_of};
-ghost use Rattle.op_reader.specs.Level.{Extends, level_in, known_in, LevelBelow, Reads, PendingBelow, Popped};
+ghost use Rattle.op_reader.specs.inner.Marks.{MarkBelow, View, Layers, node_in, with_mark, rows_of};
+ghost use Rattle.op_reader.specs.inner.Level.{Extends, level_in, known_in, LevelBelow, Reads, PendingBelow, Popped};
 
 use crate::bracket::Bracket;
 use crate::enclosed::{bracketed_of, compound_of, term_of_level};
@@ -38,7 +39,8 @@ fn pop(alloc: Global, pending: &mut Pending) -> Level
 }
 
 fn push(alloc: Global, pending: &mut Pending) -> Result<(), Memory>
-    ensures reads { OnOk result ((v : View) (names : ListNames) (l : Layers) → Reads v names pending.old l → Reads v names pending.new (with_mark v Mark.Closed l)) }
+    ensures reads { OnOk result ((v : View) (names : ListNames) (l : Layers) → Reads v names pending.old l
+        → Reads v names pending.new (with_mark v Mark.Closed l)) }
     ensures below { OnOk result ((n : ℕ) → PendingBelow n pending.old → PendingBelow n pending.new) }
 {
     let level = mem::replace(&mut pending.inner, Level::new(alloc));
@@ -48,7 +50,8 @@ fn push(alloc: Global, pending: &mut Pending) -> Result<(), Memory>
 
 // An opening bracket: the innermost level is finished, and is an operand of the next.
 fn enclose(pending: &mut Pending, found: Option<u64>) -> Result<(), Memory>
-    ensures added { OnOk result ((v : View) → level_in v pending.new.inner ≡ the_as_operand (option_map (node_in v) found) (level_in v pending.old.inner)) }
+    ensures added { OnOk result ((v : View) → level_in v pending.new.inner
+        ≡ the_as_operand (option_map (node_in v) found) (level_in v pending.old.inner)) }
     ensures outer { pending.new.outer ≡ pending.old.outer }
     ensures below { OnOk result ((n : ℕ) → IfSome found (λ m. m < n) → PendingBelow n pending.old → PendingBelow n pending.new) }
 {
@@ -62,7 +65,8 @@ fn open_compound(
     name: Sym,
 ) -> Result<(), Memory>
     requires { PendingBelow (length nodes.old) pending.old }
-    ensures reads { OnOk result ((v : View) (names : ListNames) (l : Layers) → Extends v nodes.new → Reads v names pending.old l → Reads v names pending.new (with_mark v (Mark.Compound name) l)) }
+    ensures reads { OnOk result ((v : View) (names : ListNames) (l : Layers) → Extends v nodes.new → Reads v names pending.old l
+        → Reads v names pending.new (with_mark v (Mark.Compound name) l)) }
     ensures below { OnOk result (PendingBelow (length nodes.new) pending.new) }
     ensures kept { take (length nodes.old) nodes.new ≡ nodes.old }
 {
@@ -80,7 +84,8 @@ fn open_bracket(
     bracket: Bracket,
 ) -> Result<(), Memory>
     requires { PendingBelow (length nodes.old) pending.old }
-    ensures reads { OnOk result ((v : View) (l : Layers) → Extends v nodes.new → Reads v known pending.old l → Reads v known pending.new (with_mark v (Mark.Bracketed bracket) l)) }
+    ensures reads { OnOk result ((v : View) (l : Layers) → Extends v nodes.new → Reads v known pending.old l
+        → Reads v known pending.new (with_mark v (Mark.Bracketed bracket) l)) }
     ensures below { OnOk result (PendingBelow (length nodes.new) pending.new) }
     ensures kept { take (length nodes.old) nodes.new ≡ nodes.old }
 {
@@ -93,7 +98,8 @@ fn open_bracket(
 // An integer that is too great stands as 0.
 fn number_piece(nodes: &mut Builder, pending: &mut Pending, place: u64) -> Result<(), Memory>
     requires { PendingBelow (length nodes.old) pending.old }
-    ensures reads { OnOk result ((v : View) (names : ListNames) (l : Layers) → Extends v nodes.new → Reads v names pending.old l → Reads v names pending.new (with_mark v (Mark.Excess place) l)) }
+    ensures reads { OnOk result ((v : View) (names : ListNames) (l : Layers) → Extends v nodes.new → Reads v names pending.old l
+        → Reads v names pending.new (with_mark v (Mark.Excess place) l)) }
     ensures below { OnOk result (PendingBelow (length nodes.new) pending.new) }
     ensures kept { take (length nodes.old) nodes.new ≡ nodes.old }
 {
@@ -113,7 +119,8 @@ fn take_mark(
 ) -> Result<(), Memory>
     requires mark { MarkBelow (length nodes.old) mark }
     requires below { PendingBelow (length nodes.old) pending.old }
-    ensures reads { OnOk result ((v : View) (l : Layers) → Extends v nodes.new → Reads v known pending.old l → Reads v known pending.new (with_mark v mark l)) }
+    ensures reads { OnOk result ((v : View) (l : Layers) → Extends v nodes.new → Reads v known pending.old l
+        → Reads v known pending.new (with_mark v mark l)) }
     ensures below { OnOk result (PendingBelow (length nodes.new) pending.new) }
     ensures kept { take (length nodes.old) nodes.new ≡ nodes.old }
 {
@@ -137,7 +144,8 @@ pub(crate) fn term_node(
     marks: &[Mark],
 ) -> Result<Option<u64>, Memory>
     requires { All (MarkBelow (length nodes.old)) marks.now }
-    ensures term { IfOk result (λ found. (v : View) → Extends v nodes.new → the_term_of (known_in v known) (rows_of v marks.now) ≡ option_map (node_in v) found) }
+    ensures term { IfOk result (λ found. (v : View) → Extends v nodes.new
+        → the_term_of (known_in v known) (rows_of v marks.now) ≡ option_map (node_in v) found) }
     ensures there { IfOk result (λ found. IfSome found (λ n. n < length nodes.new)) }
     ensures kept { take (length nodes.old) nodes.new ≡ nodes.old }
 {

@@ -2,13 +2,12 @@ ghost use Rattle.std.specs.Prelude.{◌≡◌, length, take, map, codes, IfOk, O
 ghost use Rattle.std.specs.Str.{chars};
 ghost use Rattle.op_logic.specs.Term.{atom};
 ghost use Rattle.op_reader.specs.Words.{list_of, char_term, text_term};
-ghost use Rattle.op_reader.specs.Shown.{ShowsTerm, ShowsTerms};
+ghost use Rattle.op_reader.specs.inner.Shown.{ShowsTerm, ShowsTerms};
 
 use crate::list_node::list_node;
 use crate::name_word::atom_node;
-use crate::quotes::DoubleQuotes;
 use op_base::Memory;
-use op_term::{Builder, Symbols};
+use op_term::{Builder, DoubleQuotes, Symbols};
 use std::alloc::Global;
 
 /// The node of the atom with a name.
@@ -76,7 +75,8 @@ fn list_of_text(
     quotes: DoubleQuotes,
     text: &str,
 ) -> Result<u64, Memory>
-    ensures shown { IfOk result (λ n. ShowsTerm symbols.new nodes.new n (list_of (codes ".") (atom (codes "[]")) (map (char_term quotes) (chars text.now)))) }
+    ensures shown { IfOk result (λ n. ShowsTerm symbols.new nodes.new n
+        (list_of (codes ".") (atom (codes "[]")) (map (char_term quotes) (chars text.now)))) }
     ensures names_kept { take (length symbols.old) symbols.new ≡ symbols.old }
     ensures kept { take (length nodes.old) nodes.new ≡ nodes.old }
 {

@@ -1,6 +1,6 @@
 ghost use Rattle.std.specs.Prelude.{◌≡◌, OnOk};
 ghost use Rattle.std.specs.Str.{IsUtf8};
-ghost use Rattle.op_reader.specs.Shown.{HasText, text_in};
+ghost use Rattle.op_reader.specs.inner.Shown.{HasText, text_in};
 ghost use Rattle.op_reader.specs.Words.{spelling};
 
 use op_base::Memory;

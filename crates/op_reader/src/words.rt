@@ -2,22 +2,22 @@ ghost use Rattle.std.specs.Prelude.{◌≡◌, ◌<◌, ◌≤◌, ◌+◌, ◌^
 ghost use Rattle.std.specs.Str.{IsUtf8};
 ghost use Rattle.op_logic.specs.Term.{Term, var};
 ghost use Rattle.op_reader.specs.Words.{source, name_word as the_name_word, integer_word as the_integer_word, operand_word};
-ghost use Rattle.op_reader.specs.Words.{empty_name as the_empty_name, empty_word as the_empty_word, opening_word as the_opening_word, comma};
+ghost use Rattle.op_reader.specs.Words.{empty_name as the_empty_name, empty_word as the_empty_word, opening_word as the_opening_word};
+ghost use Rattle.op_reader.specs.Words.{comma};
 ghost use Rattle.op_reader.specs.Words.{word_of as the_word_of, words_of as the_words_of, as_operator as the_as_operator, text_term};
 ghost use Rattle.op_reader.specs.Words.{variables_of, named_from, met_behind, spelling, number_of};
-ghost use Rattle.op_reader.specs.Shown.{HasText, HasMet, ShowsWord, ShowsOperator, ShowsWords, Worded, text_in};
+ghost use Rattle.op_reader.specs.inner.Shown.{HasText, HasMet, ShowsWord, ShowsOperator, ShowsWords, Worded, text_in};
 
 use crate::ahead::{is_empty_pair, opens};
 use crate::bracket::Bracket;
 use crate::name_word::{as_operand, as_operator, atom_node};
 use crate::names::Names;
-use crate::quotes::DoubleQuotes;
 use crate::text_node::text_node;
 use crate::token_text::{as_text, read_text};
 use crate::variable::variable;
 use crate::word::{AsOperand, AsOperator, Word};
 use op_base::Memory;
-use op_term::{Builder, Ops, Symbols};
+use op_term::{Builder, DoubleQuotes, Ops, Symbols};
 use op_token::{Token, TokenKind};
 use std::alloc::Global;
 

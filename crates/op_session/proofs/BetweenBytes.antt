@@ -1,8 +1,12 @@
 -- A session between two bytes of its commands.
-use Rattle.std.proofs.Common.{◌≡◌, ℕ, suc, ◌-◌, ◌<◌, ◌≤◌, List, [], ◌∷◌, ◌++◌, length, take, get_or, Some, None, ◌⊎◌, inl, inr, refl, sym, ap, ◌∙◌, subst, arith, append_assoc, length-append}
+use Rattle.std.proofs.Common.{◌≡◌, ℕ, suc, ◌+◌, ◌-◌, ◌<◌, ◌≤◌, List, [], ◌∷◌, ◌++◌, length, take, get_or, Some, None, refl, sym, ap, ◌∙◌, subst, arith, append_assoc, length-append}
 use Rattle.std.proofs.lemmas.List.{append-nil, get_or_default}
 use Rattle.std.specs.Io.KnownBytes.{Appends, Consumes}
+use Rattle.op_desk.specs.declared.chan.Chan.TheVariants.{Commands, Talk}
 use Rattle.op_desk.specs.Contents.{Known}
+use Rattle.op_desk.proofs.FrameLaws.{Same-refl, SameBut-from_Same, SameBut-then}
+use Rattle.op_trace.specs.Run.{Run, steps_at}
+use Rattle.op_machine.specs.Machine.{to_come}
 use Rattle.op_session.specs.Traced.{Traced}
 use Rattle.op_token.specs.Cut.{cut_of, text_in, rest_in, IsOpen, IsFollowed}
 use Rattle.op_token.proofs.Cutting as cutting
@@ -10,16 +14,16 @@ use Rattle.op_session.specs.declared.feed.Feed.{Feed}
 use Rattle.op_session.specs.declared.status.Status.{Status}
 use Rattle.op_session.specs.declared.status.Status.TheVariants as status
 use Rattle.op_session.specs.Call.{channel_limit}
-use Rattle.op_session.specs.Moves.{at_start}
+use Rattle.op_session.specs.Moves.{Stand, at_start, most_steps}
 use Rattle.op_session.specs.Session.{answer_to, said_to, session_text}
-use Rattle.op_session.specs.Promise.{WhenTold, IsPrefix, taken_whole, all_but_last, Met, InTaking, InAnswering, IsMet, IsCount, Answered, line_met, BrokenOff, CountsAs}
+use Rattle.op_session.specs.Promise.{WhenTold, IsPrefix, CostsAtMost, taken_whole, all_but_last, Met, InTaking, InKeeping, InAnswering, IsMet, IsCount, IsTaken, Answered, Paid, PaidFor, line_met, BrokenOff, CountsAs}
 use Rattle.op_session.specs.Sight.{Sight}
-use Rattle.op_session.specs.inner.Steps.{Quiet, Calm, Fault, TakesByte, TakesNothing, SaysFront}
-use Rattle.op_session.specs.inner.Feeding.{Feeds}
-use Rattle.op_session.specs.inner.Giving.{GivesAll}
+use Rattle.op_session.specs.inner.Steps.{Quiet, Calm, Fault, TakesByte, TakesNothing}
+use Rattle.op_session.specs.inner.Feeding.{Feeds, most_of}
+use Rattle.op_session.specs.inner.Giving.{Pays, GivesAll, GivesFront}
 use Rattle.op_session.specs.inner.Progress.{Holds, BreaksOff}
-use Rattle.op_session.proofs.CommandTexts.{one_more, followed_length, cuts_start, cuts_byte, cuts_text}
-use Rattle.op_session.proofs.SaidToCommands.{stand_at, said_one, stand_more, whole_open, enough_open, enough_followed, front_so_far, front_of_answer, prefix_longer}
+use Rattle.op_session.proofs.CommandTexts.{followed_length, cuts_start, cuts_byte, cuts_text}
+use Rattle.op_session.proofs.SaidToCommands.{stand_at, said_one, stand_more, between, whole_open, whole_kept, whole_followed, front_so_far, front_of_answer}
 
 pub consumes_more : (a b c : Known) (xs ys : List ℕ) → Consumes a b xs → Consumes b c ys → Consumes a c (xs ++ ys)
 consumes_more None b c xs ys p q = tt
@@ -43,9 +47,8 @@ consumes_none (Some s) = refl
 
 pub quiet_more : (a b c : Sight) → Quiet a b → Quiet b c → Quiet a c
 quiet_more a b c p q = record {
-  input = q.input ∙ p.input;
-  output = q.output ∙ p.output;
-  note = q.note ∙ p.note;
+  left = SameBut-then Commands a.left b.left c.left p.left q.left;
+  written = SameBut-then Talk a.written b.written c.written p.written q.written;
   shelf = q.shelf ∙ p.shelf;
   steady = λ s. q.steady (p.steady s);
 }
@@ -53,51 +56,67 @@ quiet_more a b c p q = record {
 pub calm_more : (a b c : Sight) → Calm a b → Calm b c → Calm a c
 calm_more a b c p q = record { quiet = quiet_more a b c p.quiet q.quiet; reads = q.reads ∙ p.reads; writes = q.writes ∙ p.writes }
 
+quiet_start : (a : Sight) → Quiet a a
+quiet_start a = record {
+  left = SameBut-from_Same Commands a.left a.left (Same-refl a.left);
+  written = SameBut-from_Same Talk a.written a.written (Same-refl a.written);
+  shelf = refl;
+  steady = λ s. s;
+}
+
 pub calm_start : (a : Sight) → Calm a a
-calm_start a = record { quiet = record { input = refl; output = refl; note = refl; shelf = refl; steady = λ s. s }; reads = refl; writes = refl }
+calm_start a = record { quiet = quiet_start a; reads = refl; writes = refl }
 
 pub fault_more : (s : Status) (a b c : Sight) → Calm a b → Fault s b c → Fault s a c
 fault_more s a b c p q = record {
   broken = q.broken;
   quiet = quiet_more a b c p.quiet q.quiet;
-  counts = subst (λ n. CountsAs s n c.reads a.writes c.writes) p.reads (subst (λ n. CountsAs s b.reads c.reads n c.writes) p.writes q.counts);
+  counts =
+      subst (λ n. CountsAs s n c.reads a.writes c.writes) p.reads (subst (λ n. CountsAs s b.reads c.reads n c.writes) p.writes q.counts);
   faultless = λ t. q.faultless (p.quiet.steady t);
 }
 
 pub memory_fault : (a : Sight) → Fault status.Memory a a
 memory_fault a = record { broken = tt; quiet = (calm_start a).quiet; counts = (refl, refl); faultless = λ t. tt }
 
-pub holds_start : (traced : Traced) (a : Sight) (before : ℕ) (feed : Feed) → Feeds traced at_start feed → feed.machine.steps ≡ 0 → Holds traced a a 0 before before [] feed
-holds_start traced a before feed f none = record {
+pub holds_start : (traced : Traced) (a : Sight) (before : ℕ) (feed : Feed) → Feeds traced at_start feed → feed.machine.steps ≡ 0
+    → to_come feed.machine ≡ traced.run → Holds traced a a 0 before before [] feed
+holds_start traced a before feed f none same = record {
   taken = [];
   passed = [];
   count = refl;
   cuts = cuts_start;
   unended = tt;
-  commands = consumes_none a.commands;
-  talk = appends_none a.talk;
+  commands = consumes_none (a.left Commands);
+  talk = appends_none (a.written Talk);
   feeds = f;
   cost = omega arith;
+  most = subst (λ (r : Run). most_of feed.machine ≤ most_steps r) same (omega arith);
   calm = calm_start a;
 }
 
 -- a byte that ended no text
-pub holds_byte : (traced : Traced) (a b c : Sight) (n before after byte : ℕ) (p : List ℕ) (feed : Feed) → Holds traced a b n before after p feed → TakesByte b c byte → IsOpen (p ++ byte ∷ []) → Holds traced a c (suc n) before after (p ++ byte ∷ []) feed
+pub holds_byte : (traced : Traced) (a b c : Sight) (n before after byte : ℕ) (p : List ℕ) (feed : Feed)
+    → Holds traced a b n before after p feed → TakesByte b c byte → IsOpen (p ++ byte ∷ [])
+    → Holds traced a c (suc n) before after (p ++ byte ∷ []) feed
 holds_byte traced a b c n before after byte p feed h t o = record {
   taken = h.taken ++ byte ∷ [];
   passed = h.passed;
   count = let count = h.count in omega (arith, length-append h.taken (byte ∷ []));
   cuts = cuts_byte h.passed h.taken p byte h.cuts;
   unended = o;
-  commands = consumes_more a.commands b.commands c.commands h.taken (byte ∷ []) h.commands t.front;
-  talk = subst (λ k. Appends a.talk k (said_to traced h.passed)) (sym t.talk) h.talk;
+  commands = consumes_more (a.left Commands) (b.left Commands) (c.left Commands) h.taken (byte ∷ []) h.commands t.front;
+  talk = subst (λ k. Appends (a.written Talk) k (said_to traced h.passed)) (sym t.talk) h.talk;
   feeds = h.feeds;
   cost = h.cost;
+  most = h.most;
   calm = calm_more a b c h.calm t.calm;
 }
 
 -- a byte that ended a text, and the answer to it
-pub holds_text : (traced : Traced) (a b c d : Sight) (n before after paid byte : ℕ) (p : List ℕ) (feed new : Feed) (h : Holds traced a b n before after p feed) → TakesByte b c byte → IsFollowed (p ++ byte ∷ []) → IsOpen (rest_in (cut_of (p ++ byte ∷ [])) (p ++ byte ∷ []))
+pub holds_text : (traced : Traced) (a b c d : Sight) (n before after paid byte : ℕ) (p : List ℕ) (feed new : Feed)
+    → (h : Holds traced a b n before after p feed) → TakesByte b c byte → IsFollowed (p ++ byte ∷ []) → IsOpen
+    (rest_in (cut_of (p ++ byte ∷ [])) (p ++ byte ∷ []))
     → GivesAll traced (stand_at traced h.passed) (text_in (cut_of (p ++ byte ∷ [])) (p ++ byte ∷ [])) feed new after paid c d
     → Holds traced a d (suc n) before paid (rest_in (cut_of (p ++ byte ∷ [])) (p ++ byte ∷ [])) new
 holds_text traced a b c d n before after paid byte p feed new h t f o g =
@@ -109,23 +128,65 @@ holds_text traced a b c d n before after paid byte p feed new h t f o g =
       count = let count = h.count in omega (arith, length-append h.taken (byte ∷ []));
       cuts = cuts_text h.passed (h.taken ++ byte ∷ []) q (cuts_byte h.passed h.taken p byte h.cuts) f;
       unended = o;
-      commands = subst (λ k. Consumes a.commands k (h.taken ++ byte ∷ [])) (sym g.says.commands) (consumes_more a.commands b.commands c.commands h.taken (byte ∷ []) h.commands t.front);
-      talk = subst (Appends a.talk d.talk) (sym (said_one traced h.passed text))
-          (appends_more a.talk c.talk d.talk (said_to traced h.passed) (answer_to traced (stand_at traced h.passed) text).text (subst (λ k. Appends a.talk k (said_to traced h.passed)) (sym t.talk) h.talk) g.says.talk);
+      commands = subst (λ k. Consumes (a.left Commands) k (h.taken ++ byte ∷ [])) (sym g.says.commands)
+          (consumes_more (a.left Commands) (b.left Commands) (c.left Commands) h.taken (byte ∷ []) h.commands t.front);
+      talk = subst (Appends (a.written Talk) (d.written Talk)) (sym (said_one traced h.passed text))
+          (appends_more (a.written Talk) (c.written Talk) (d.written Talk) (said_to traced h.passed)
+          (answer_to traced (stand_at traced h.passed) text).text
+          (subst (λ k. Appends (a.written Talk) k (said_to traced h.passed)) (sym t.talk) h.talk) g.says.talk);
       feeds = subst (λ s. Feeds traced s new) (sym (stand_more traced at_start h.passed (text ∷ []))) g.feeds;
       cost = let cost = h.cost in let pays = g.pays.cost in let later = g.pays.later in omega arith;
+      most = let most = h.most in let rises = g.rises in omega arith;
       calm = calm_more a c d (calm_more a b c h.calm t.calm) g.says.calm;
     }
 
+-- the steps are no more than those of the furthest place
+pub paid_by : (traced : Traced) (s : Stand) (feed : Feed) (before after : ℕ) → Feeds traced s feed → after ≡ before + feed.machine.steps
+    → after ≤ before + steps_at traced.run s.furthest
+paid_by traced s feed before after f e = subst (λ n. after ≤ before + n) f.steps (omega (arith, e))
+
+pub paid_so_far : (traced : Traced) (a b : Sight) (n before after : ℕ) (p : List ℕ) (feed : Feed) (commands : List (List ℕ))
+    → (h : Holds traced a b n before after p feed)
+    → commands ≡ h.passed → CostsAtMost traced commands before after
+paid_so_far traced a b n before after p feed commands h e =
+    subst (λ cs. CostsAtMost traced cs before after) (sym e) (paid_by traced (stand_at traced h.passed) feed before after h.feeds h.cost)
+
+-- and of one command more
+pub paid_one : (traced : Traced) (a b : Sight) (n before after paid : ℕ) (p text : List ℕ) (feed new : Feed) (commands : List (List ℕ))
+    → (h : Holds traced a b n before after p feed)
+    → commands ≡ h.passed ++ text ∷ [] → Feeds traced (answer_to traced (stand_at traced h.passed) text).stand new
+    → Pays feed new after paid → CostsAtMost traced commands before paid
+paid_one traced a b n before after paid p text feed new commands h e f k =
+    let feeds : Feeds traced (stand_at traced (h.passed ++ text ∷ [])) new =
+    subst (λ s. Feeds traced s new) (sym (stand_more traced at_start h.passed (text ∷ []))) f in
+    let made : paid ≡ before + new.machine.steps = let cost = h.cost in let pays = k.cost in let later = k.later in omega arith in
+    subst (λ cs. CostsAtMost traced cs before paid) (sym e)
+    (paid_by traced (stand_at traced (h.passed ++ text ∷ [])) new before paid feeds made)
+
+-- and where that one was not answered whole
+pub paid_for : (traced : Traced) (s : Status) (a b : Sight) (n before after paid : ℕ) (p text : List ℕ) (feed new : Feed)
+    → (commands : List (List ℕ)) (h : Holds traced a b n before after p feed) → commands ≡ h.passed ++ text ∷ []
+    → (s ≡ status.Write → Feeds traced (answer_to traced (stand_at traced h.passed) text).stand new) → Pays feed new after paid
+    → PaidFor s traced commands before paid
+paid_for traced s a b n before after paid p text feed new commands h e f k =
+    (λ w. paid_one traced a b n before after paid p text feed new commands h e (f w) k, most h.cost h.most k.cost k.later k.within)
+  where
+    most : after ≡ before + feed.machine.steps → most_of feed.machine ≤ most_steps traced.run
+        → paid ≡ after + (new.machine.steps - feed.machine.steps) → feed.machine.steps ≤ new.machine.steps
+        → new.machine.steps ≤ most_of feed.machine → paid ≤ before + most_steps traced.run
+    most c m d l w = omega arith
+
 -- what a session that was broken off leaves, where the commands are told
-pub left_broken : (traced : Traced) (s : Status) (m : Met) (commands left talk said : Known) (taken answers line : List ℕ) → IsMet m s → IsCount m (length taken)
+pub left_broken : (traced : Traced) (s : Status) (m : Met) (commands left talk said : Known) (taken answers line : List ℕ)
+    → (before after : ℕ)
+    → IsMet m s → IsCount m (length taken) → ((rest : List ℕ) → left ≡ Some rest → IsTaken m taken rest)
     → Consumes commands left taken → Appends talk said (answers ++ line)
     → ((rest : List ℕ) → left ≡ Some rest → IsPrefix answers (session_text traced (taken ++ rest)))
-    → Answered m traced (taken_whole taken) answers → IsPrefix line (line_met m)
-    → WhenTold commands (λ bytes. BrokenOff traced s bytes talk said left)
-left_broken traced s m None left talk said taken answers line i n c w front enough l = tt
-left_broken traced s m (Some bytes) None talk said taken answers line i n c w front enough l = absurd c
-left_broken traced s m (Some bytes) (Some rest) talk said taken answers line i n c w front enough l = record {
+    → Answered m traced taken answers → IsPrefix line (line_met m) → Paid m s traced taken before after
+    → WhenTold commands (λ bytes. BrokenOff traced s bytes talk said left before after)
+left_broken traced s m None left talk said taken answers line before after i n k c w front enough l paid = tt
+left_broken traced s m (Some bytes) None talk said taken answers line before after i n k c w front enough l paid = absurd c
+left_broken traced s m (Some bytes) (Some rest) talk said taken answers line before after i n k c w front enough l paid = record {
   met = m;
   taken = taken;
   rest = rest;
@@ -135,10 +196,12 @@ left_broken traced s m (Some bytes) (Some rest) talk said taken answers line i n
   bytes_are = c;
   left = refl;
   count = n;
+  is_taken = k rest refl;
   front = subst (λ bytes. IsPrefix answers (session_text traced bytes)) (sym c) (front rest refl);
   answered = enough;
   line_front = l;
   written = w;
+  paid = paid;
 }
 
 -- nothing stands behind the answers
@@ -147,18 +210,22 @@ no_line talk said answers = subst (Appends talk said) (sym (append-nil answers))
 
 -- a byte could not be taken
 pub breaks_take : (traced : Traced) (s : Status) (a b c : Sight) (n before after : ℕ) (p : List ℕ) (feed : Feed) → n < channel_limit
-    → Holds traced a b n before after p feed → TakesNothing s b c → BreaksOff traced s a c
+    → Holds traced a b n before after p feed → TakesNothing s b c → BreaksOff traced s a c before after
 breaks_take traced s a b c n before after p feed short h t =
     let answers = said_to traced h.passed in
+    let whole : taken_whole h.taken ≡ h.passed = whole_open h.passed h.taken p h.cuts h.unended in
     record {
       fault = fault_more s a b c h.calm t.fault;
-      left = left_broken traced s InTaking a.commands c.commands a.talk c.talk h.taken answers [] t.unread
+      left = left_broken traced s InTaking (a.left Commands) (c.left Commands) (a.written Talk)
+          (c.written Talk) h.taken answers [] before after t.unread
           (subst (λ n. n < channel_limit) (sym h.count) short)
-          (subst (λ k. Consumes a.commands k h.taken) (sym t.commands) h.commands)
-          (no_line a.talk c.talk answers (subst (λ k. Appends a.talk k answers) (sym t.talk) h.talk))
+          (λ rest e. tt)
+          (subst (λ k. Consumes (a.left Commands) k h.taken) (sym t.commands) h.commands)
+          (no_line (a.written Talk) (c.written Talk) answers (subst (λ k. Appends (a.written Talk) k answers) (sym t.talk) h.talk))
           (λ rest e. front_so_far traced h.passed h.taken p rest h.cuts)
-          (ap (said_to traced) (sym (whole_open h.passed h.taken p h.cuts h.unended)))
-          ([], refl);
+          (ap (said_to traced) (sym whole))
+          ([], refl)
+          (paid_so_far traced a b n before after p feed (taken_whole h.taken) h whole);
     }
 
 -- behind a text that ended no other has
@@ -179,61 +246,69 @@ count_byte n taken byte e h = omega (arith, length-append taken (byte ∷ []))
 
 -- a byte could not be kept
 pub breaks_push : (traced : Traced) (a b c : Sight) (n before after byte : ℕ) (p : List ℕ) (feed : Feed) → n < channel_limit
-    → Holds traced a b n before after p feed → TakesByte b c byte → BreaksOff traced status.Memory a c
+    → Holds traced a b n before after p feed → TakesByte b c byte → BreaksOff traced status.Memory a c before after
 breaks_push traced a b c n before after byte p feed short h t =
-    let q = p ++ byte ∷ [] in
     let taken = h.taken ++ byte ∷ [] in
     let answers = said_to traced h.passed in
     let cuts = cuts_byte h.passed h.taken p byte h.cuts in
-    let ended : IsFollowed q → IsPrefix (said_to traced (all_but_last (taken_whole taken))) answers =
-    λ f. enough_followed traced h.passed taken q cuts f (rest_open q f) (followed_length q f) in
+    let kept : taken_whole (all_but_last taken) ≡ h.passed = whole_kept h.passed h.taken p byte h.cuts h.unended in
     record {
       fault = fault_more status.Memory a c c (calm_more a b c h.calm t.calm) (memory_fault c);
-      left = left_broken traced status.Memory InAnswering a.commands c.commands a.talk c.talk taken answers [] tt
+      left = left_broken traced status.Memory InKeeping (a.left Commands) (c.left Commands) (a.written Talk)
+          (c.written Talk) taken answers [] before after refl
           (count_byte n h.taken byte h.count short)
-          (consumes_more a.commands b.commands c.commands h.taken (byte ∷ []) h.commands t.front)
-          (no_line a.talk c.talk answers (subst (λ k. Appends a.talk k answers) (sym t.talk) h.talk))
-          (λ rest e. front_so_far traced h.passed taken q rest cuts)
-          (either (one_more p byte h.unended) (λ o. enough_open traced h.passed taken q cuts o) ended)
-          ([], refl);
+          (λ rest e. tt)
+          (consumes_more (a.left Commands) (b.left Commands) (c.left Commands) h.taken (byte ∷ []) h.commands t.front)
+          (no_line (a.written Talk) (c.written Talk) answers (subst (λ k. Appends (a.written Talk) k answers) (sym t.talk) h.talk))
+          (λ rest e. front_so_far traced h.passed taken (p ++ byte ∷ []) rest cuts)
+          (ap (said_to traced) (sym kept))
+          ([], refl)
+          (paid_so_far traced a b n before after p feed (taken_whole (all_but_last taken)) h kept);
     }
-  where
-    either : {A B C : Type 0} → A ⊎ B → (A → C) → (B → C) → C
-    either (inl a) f g = f a
-    either (inr b) f g = g b
 
--- an answer could not be written
-pub breaks_say : (traced : Traced) (s : Status) (a b c d : Sight) (n before after byte : ℕ) (p : List ℕ) (feed : Feed) → n < channel_limit
+-- an answer could not be given
+pub breaks_say : (traced : Traced) (s : Status) (a b c d : Sight) (n before after paid byte : ℕ) (p : List ℕ) (feed new : Feed)
+    → n < channel_limit
     → (h : Holds traced a b n before after p feed) → TakesByte b c byte → IsFollowed (p ++ byte ∷ [])
-    → SaysFront s c d (answer_to traced (stand_at traced h.passed) (text_in (cut_of (p ++ byte ∷ [])) (p ++ byte ∷ []))).text
-    → BreaksOff traced s a d
-breaks_say traced s a b c d n before after byte p feed short h t f g =
+    → GivesFront traced (stand_at traced h.passed) (text_in (cut_of (p ++ byte ∷ [])) (p ++ byte ∷ [])) feed new s after paid c d
+    → BreaksOff traced s a d before paid
+breaks_say traced s a b c d n before after paid byte p feed new short h t f g =
     let q = p ++ byte ∷ [] in
     let taken = h.taken ++ byte ∷ [] in
     let cuts = cuts_byte h.passed h.taken p byte h.cuts in
-    let text = (answer_to traced (stand_at traced h.passed) (text_in (cut_of q) q)).text in
+    let text = text_in (cut_of q) q in
+    let answer = (answer_to traced (stand_at traced h.passed) text).text in
     let said = said_to traced h.passed in
-    let front = take g.talk.count text in
+    let front = take g.says.talk.count answer in
+    let kept : taken_whole (all_but_last taken) ≡ h.passed = whole_kept h.passed h.taken p byte h.cuts h.unended in
+    let whole : taken_whole taken ≡ h.passed ++ text ∷ [] = whole_followed h.passed taken q cuts f (rest_open q f) (followed_length q f) in
     record {
-      fault = fault_more s a c d (calm_more a b c h.calm t.calm) g.fault;
-      left = left_broken traced s InAnswering a.commands d.commands a.talk d.talk taken (said ++ front) [] g.unwritten
+      fault = fault_more s a c d (calm_more a b c h.calm t.calm) g.says.fault;
+      left = left_broken traced s InAnswering (a.left Commands) (d.left Commands) (a.written Talk) (d.written Talk) taken
+          (said ++ front) [] before paid g.says.unwritten
           (count_byte n h.taken byte h.count short)
-          (subst (λ k. Consumes a.commands k taken) (sym g.commands)
-          (consumes_more a.commands b.commands c.commands h.taken (byte ∷ []) h.commands t.front))
-          (no_line a.talk d.talk (said ++ front)
-          (appends_more a.talk c.talk d.talk said front (subst (λ k. Appends a.talk k said) (sym t.talk) h.talk) g.talk.front))
-          (λ rest e. front_of_answer traced h.passed taken q rest g.talk.count cuts f (followed_length q f))
-          (prefix_longer (said_to traced (all_but_last (taken_whole taken))) said front
-          (enough_followed traced h.passed taken q cuts f (rest_open q f) (followed_length q f)))
-          ([], refl);
+          (λ rest e. (text, whole ∙ ap (λ cs. cs ++ text ∷ []) (sym kept)))
+          (subst (λ k. Consumes (a.left Commands) k taken) (sym g.says.commands)
+          (consumes_more (a.left Commands) (b.left Commands) (c.left Commands) h.taken (byte ∷ []) h.commands t.front))
+          (no_line (a.written Talk) (d.written Talk) (said ++ front)
+          (appends_more (a.written Talk) (c.written Talk) (d.written Talk) said front
+          (subst (λ k. Appends (a.written Talk) k said) (sym t.talk) h.talk) g.says.talk.front))
+          (λ rest e. front_of_answer traced h.passed taken q rest g.says.talk.count cuts f (followed_length q f))
+          (between traced h.passed (taken_whole (all_but_last taken)) (taken_whole taken) text g.says.talk.count kept whole)
+          ([], refl)
+          (paid_for traced s a b n before after paid p text feed new (taken_whole taken) h whole g.feeds g.pays);
     }
 
 -- the same, as a session meets it
-pub goes_open : (traced : Traced) (a b c : Sight) (n before after byte : ℕ) (p q : List ℕ) (feed : Feed) → Holds traced a b n before after p feed → TakesByte b c byte → q ≡ p ++ byte ∷ [] → IsOpen q → Holds traced a c (suc n) before after q feed
+pub goes_open : (traced : Traced) (a b c : Sight) (n before after byte : ℕ) (p q : List ℕ) (feed : Feed)
+    → Holds traced a b n before after p feed → TakesByte b c byte → q ≡ p ++ byte ∷ [] → IsOpen q
+    → Holds traced a c (suc n) before after q feed
 goes_open traced a b c n before after byte p q feed h t e o =
-    subst (λ q. Holds traced a c (suc n) before after q feed) (sym e) (holds_byte traced a b c n before after byte p feed h t (subst IsOpen e o))
+    subst (λ q. Holds traced a c (suc n) before after q feed) (sym e)
+    (holds_byte traced a b c n before after byte p feed h t (subst IsOpen e o))
 
-pub goes_text : (traced : Traced) (a b c d : Sight) (n before after paid byte : ℕ) (p q text rest : List ℕ) (feed new : Feed) (h : Holds traced a b n before after p feed) → TakesByte b c byte
+pub goes_text : (traced : Traced) (a b c d : Sight) (n before after paid byte : ℕ) (p q text rest : List ℕ) (feed new : Feed)
+    → (h : Holds traced a b n before after p feed) → TakesByte b c byte
     → q ≡ p ++ byte ∷ [] → IsFollowed q → text ≡ text_in (cut_of q) q → rest ≡ rest_in (cut_of q) q → IsOpen rest
     → GivesAll traced (stand_at traced h.passed) text feed new after paid c d
     → Holds traced a d (suc n) before paid rest new
@@ -243,11 +318,12 @@ goes_text traced a b c d n before after paid byte p q text rest feed new h t e f
     (holds_text traced a b c d n before after paid byte p feed new h t (subst IsFollowed e f) (subst IsOpen z o)
     (subst (λ t. GivesAll traced (stand_at traced h.passed) t feed new after paid c d) (et ∙ ap (λ q. text_in (cut_of q) q) e) g))
 
-pub stops_text : (traced : Traced) (s : Status) (a b c d : Sight) (n before after byte : ℕ) (p q text : List ℕ) (feed : Feed) → n < channel_limit
+pub stops_text : (traced : Traced) (s : Status) (a b c d : Sight) (n before after paid byte : ℕ) (p q text : List ℕ) (feed new : Feed)
+    → n < channel_limit
     → (h : Holds traced a b n before after p feed) → TakesByte b c byte
     → q ≡ p ++ byte ∷ [] → IsFollowed q → text ≡ text_in (cut_of q) q
-    → SaysFront s c d (answer_to traced (stand_at traced h.passed) text).text
-    → BreaksOff traced s a d
-stops_text traced s a b c d n before after byte p q text feed short h t e f et g =
-    breaks_say traced s a b c d n before after byte p feed short h t (subst IsFollowed e f)
-    (subst (λ t. SaysFront s c d (answer_to traced (stand_at traced h.passed) t).text) (et ∙ ap (λ q. text_in (cut_of q) q) e) g)
+    → GivesFront traced (stand_at traced h.passed) text feed new s after paid c d
+    → BreaksOff traced s a d before paid
+stops_text traced s a b c d n before after paid byte p q text feed new short h t e f et g =
+    breaks_say traced s a b c d n before after paid byte p feed new short h t (subst IsFollowed e f)
+    (subst (λ t. GivesFront traced (stand_at traced h.passed) t feed new s after paid c d) (et ∙ ap (λ q. text_in (cut_of q) q) e) g)

@@ -1,25 +1,16 @@
 -- The texts of the commands, as they come byte by byte.
-use Rattle.std.proofs.Common.{◌≡◌, ℕ, zero, suc, ◌+◌, ◌-◌, ◌<◌, ◌≤◌, Bool, true, false, cond, List, [], ◌∷◌, ◌++◌, length, drop, ◌⊎◌, inl, inr, refl, sym, ap, ◌∙◌, subst, arith, zero-add, append_assoc, length-append}
+use Rattle.std.proofs.Common.{◌≡◌, ℕ, zero, suc, ◌+◌, ◌-◌, ◌<◌, ◌≤◌, true, false, cond, List, [], ◌∷◌, ◌++◌, length, drop, refl, sym, ap, ◌∙◌, subst, arith, zero-add, append_assoc, length-append}
 use Rattle.std.specs.Prelude.{nat_lt}
 use Rattle.std.proofs.lemmas.Bool.Decides.{nat_tests}
 use Rattle.op_base.specs.Characters.{is_layout}
 use Rattle.op_token.specs.declared.piece.Piece.{Piece}
 use Rattle.op_token.specs.declared.piece.Piece.TheVariants.{Text, NoEnd, Empty}
 use Rattle.op_token.specs.Cut.{cut_of, text_in, behind_layout, rest_in, is_text, texts, behind_texts, IsOpen, IsFollowed, IsUnended}
-use Rattle.op_token.specs.Walk.{walked, has_ended}
 use Rattle.op_token.proofs.Cutting as cutting
 use Rattle.op_session.specs.Session.{commands_in, last_text}
 use Rattle.op_session.specs.inner.Behind.{commands_from, rest_texts}
 use Rattle.op_session.specs.Promise.{followed_texts, has_behind}
 use Rattle.op_session.specs.inner.Progress.{Cuts}
-
--- a byte more either ends a text or doesn't
-pub one_more : (p : List ℕ) (b : ℕ) → IsOpen p → IsOpen (p ++ b ∷ []) ⊎ IsFollowed (p ++ b ∷ [])
-one_more p b o = by (has_ended (walked (p ++ b ∷ [])).mode) refl
-  where
-    by : (r : Bool) → r ≡ has_ended (walked (p ++ b ∷ [])).mode → IsOpen (p ++ b ∷ []) ⊎ IsFollowed (p ++ b ∷ [])
-    by true e = inr ((cutting.push_says p b true o e).0.0 refl)
-    by false e = inl (cutting.push_says p b false o e).1
 
 -- a followed text has a byte at least, and one behind it
 pub followed_length : (p : List ℕ) → IsFollowed p → 2 ≤ length p
@@ -67,9 +58,11 @@ has_byte p r f =
     lt_true : (m n : ℕ) → m < n → nat_lt m n ≡ true
     lt_true m n h = grind (arith, nat_tests)
 
-pub followed_one : (n : ℕ) (p r : List ℕ) → IsFollowed p → followed_texts (suc n) (p ++ r) ≡ text_in (cut_of p) p ∷ followed_texts n (rest_in (cut_of p) p ++ r)
+pub followed_one : (n : ℕ) (p r : List ℕ) → IsFollowed p
+    → followed_texts (suc n) (p ++ r) ≡ text_in (cut_of p) p ∷ followed_texts n (rest_in (cut_of p) p ++ r)
 followed_one n p r f =
-    subst (λ x. cond (has_behind x (length (p ++ r))) (text_in x (p ++ r) ∷ followed_texts n (rest_in x (p ++ r))) [] ≡ text_in (cut_of p) p ∷ followed_texts n (rest_in (cut_of p) p ++ r))
+    subst (λ x. cond (has_behind x (length (p ++ r))) (text_in x (p ++ r) ∷ followed_texts n (rest_in x (p ++ r))) []
+    ≡ text_in (cut_of p) p ∷ followed_texts n (rest_in (cut_of p) p ++ r))
     (sym (cutting.cut_more p r f))
     (ap (λ b. cond b (text_in (cut_of p) (p ++ r) ∷ followed_texts n (rest_in (cut_of p) (p ++ r))) []) (has_byte p r f)
     ∙ ap (λ t. t ∷ followed_texts n (rest_in (cut_of p) (p ++ r))) (cutting.text_more p r f)
@@ -96,7 +89,8 @@ cuts_byte passed taken p b c =
     }
 
 -- a text more
-pub cuts_text : (passed : List (List ℕ)) (taken p : List ℕ) → Cuts passed taken p → IsFollowed p → Cuts (passed ++ text_in (cut_of p) p ∷ []) taken (rest_in (cut_of p) p)
+pub cuts_text : (passed : List (List ℕ)) (taken p : List ℕ) → Cuts passed taken p → IsFollowed p
+    → Cuts (passed ++ text_in (cut_of p) p ∷ []) taken (rest_in (cut_of p) p)
 cuts_text passed taken p c f =
     let t = text_in (cut_of p) p in
     let l : length (passed ++ t ∷ []) ≡ suc (length passed) = omega (arith, length-append passed (t ∷ [])) in
@@ -110,14 +104,16 @@ cuts_text passed taken p c f =
     }
 
 -- all commands are those that were passed and those in what is left
-pub commands_more : (passed : List (List ℕ)) (taken p r : List ℕ) (m : ℕ) → Cuts passed taken p → commands_from (length passed + m) (taken ++ r) ≡ passed ++ commands_from m (p ++ r)
+pub commands_more : (passed : List (List ℕ)) (taken p r : List ℕ) (m : ℕ) → Cuts passed taken p
+    → commands_from (length passed + m) (taken ++ r) ≡ passed ++ commands_from m (p ++ r)
 commands_more passed taken p r m c =
     let last : List ℕ → List (List ℕ) = λ s. last_text (cut_of s) s in
     ap (λ ts. ts ++ last (behind_texts (length passed + m) (taken ++ r))) (c.texts m r)
     ∙ ap (λ s. (passed ++ texts m (p ++ r)) ++ last s) (c.behind m r)
     ∙ append_assoc passed (texts m (p ++ r)) (last (behind_texts m (p ++ r)))
 
-pub commands_text : (m : ℕ) (p r : List ℕ) → IsFollowed p → commands_from (suc m) (p ++ r) ≡ text_in (cut_of p) p ∷ commands_from m (rest_in (cut_of p) p ++ r)
+pub commands_text : (m : ℕ) (p r : List ℕ) → IsFollowed p
+    → commands_from (suc m) (p ++ r) ≡ text_in (cut_of p) p ∷ commands_from m (rest_in (cut_of p) p ++ r)
 commands_text m p r f =
     let last : List ℕ → List (List ℕ) = λ s. last_text (cut_of s) s in
     ap (λ ts. ts ++ last (behind_texts (suc m) (p ++ r))) (cutting.texts_more m p r f)
@@ -188,7 +184,9 @@ commands_rest m p o h = by (cut_of p) refl
         (ap (λ s. behind_texts m s) (left p t l) ∙ nothing_behind m)
 
     one : (m f t : ℕ) → cut_of p ≡ Text f t → length p ≤ t → commands_from (suc m) p ≡ text_in (Text f t) p ∷ []
-    one m f t e l = ap (λ ts. ts ++ last (behind_texts (suc m) p)) (texts_one m f t e l) ∙ ap (λ s. text_in (Text f t) p ∷ last s) (behind_one m f t e l)
+    one m f t e l =
+        ap (λ ts. ts ++ last (behind_texts (suc m) p)) (texts_one m f t e l)
+        ∙ ap (λ s. text_in (Text f t) p ∷ last s) (behind_one m f t e l)
 
     some_more : (m : ℕ) → 0 < m → (k : ℕ) × (m ≡ suc k)
     some_more zero h = absurd (omega arith)
@@ -200,7 +198,8 @@ commands_rest m p o h = by (cut_of p) refl
         let u : t ≡ length p = unended (Text f t) e in
         let within = w.0 in
         let k = some_more m (omega arith) in
-        subst (λ x. commands_from m p ≡ rest_texts x p) (sym e) (subst (λ m. commands_from m p ≡ text_in (Text f t) p ∷ []) (sym k.1) (one k.0 f t e (omega arith)))
+        subst (λ x. commands_from m p ≡ rest_texts x p) (sym e)
+        (subst (λ m. commands_from m p ≡ text_in (Text f t) p ∷ []) (sym k.1) (one k.0 f t e (omega arith)))
     by NoEnd e = subst (λ x. commands_from m p ≡ rest_texts x p) (sym e) (none m (ap is_text e) ∙ ap (λ x. last_text x p) e)
     by Empty e = subst (λ x. commands_from m p ≡ rest_texts x p) (sym e) (none m (ap is_text e) ∙ ap (λ x. last_text x p) e)
 

@@ -6,7 +6,7 @@ use Rattle.op_term.specs.Ops.{Table}
 use Rattle.op_store.specs.Stored.{Stored}
 use Rattle.op_session.specs.Traced.{Traced}
 use Rattle.op_session.specs.inner.Reader.{IsReader}
-use Rattle.op_trace.specs.World.{World, Event, loaded}
+use Rattle.op_trace.specs.World.{World, Event}
 use Rattle.op_trace.specs.Run.{Run, events_of, worlds_of, steps_at}
 use Rattle.op_trace.specs.Ending as ending
 use Rattle.op_machine.specs.declared.core_state.Ending.{Ending}
@@ -53,22 +53,22 @@ le_true m n h = grind (arith, nat_tests)
 pub le_false : (m n : ℕ) → n < m → nat_le m n ≡ false
 le_false m n h = grind (arith, nat_tests)
 
-steps_by : (b : Bool) (u x v : World) → b ≡ false → v ≡ x → (cond b u v).steps ≡ x.steps
-steps_by true u x v h e = absurd cc
-steps_by false u x v h e = ap (λ (w : World). w.steps) e
+steps_by : (b : Bool) (x v : World) → b ≡ false → v ≡ x → cond b 0 v.steps ≡ x.steps
+steps_by true x v h e = absurd cc
+steps_by false x v h e = ap (λ (w : World). w.steps) e
 
 -- the steps at an event
-pub steps_here : (run : Run) (p : ℕ) (w : World) (ws : List World) → drop p (worlds_of run.turns) ≡ w ∷ ws → steps_at (loaded []) run (p + 1) ≡ w.steps
+pub steps_here : (run : Run) (p : ℕ) (w : World) (ws : List World) → drop p (worlds_of run.turns) ≡ w ∷ ws → steps_at run (p + 1) ≡ w.steps
 steps_here run p w ws h =
     let g = goes_on (worlds_of run.turns) p w ws h in
     let i : p ≡ p + 1 - 1 = omega arith in
-    steps_by (nat_le (p + 1) 0) (loaded []) w (slice_index_or (worlds_of run.turns) (p + 1 - 1) run.world) (le_false (p + 1) 0 (omega arith)) (subst (λ i. get_or (worlds_of run.turns) i run.world ≡ w) i (g.here run.world))
+    steps_by (nat_le (p + 1) 0) w (slice_index_or (worlds_of run.turns) (p + 1 - 1) run.world) (le_false (p + 1) 0 (omega arith)) (subst (λ i. get_or (worlds_of run.turns) i run.world ≡ w) i (g.here run.world))
 
 -- the steps at the end
-pub steps_past : (run : Run) (p : ℕ) → length (worlds_of run.turns) ≤ p → steps_at (loaded []) run (p + 1) ≡ run.world.steps
+pub steps_past : (run : Run) (p : ℕ) → length (worlds_of run.turns) ≤ p → steps_at run (p + 1) ≡ run.world.steps
 steps_past run p h =
     let i : p ≡ p + 1 - 1 = omega arith in
-    steps_by (nat_le (p + 1) 0) (loaded []) run.world (slice_index_or (worlds_of run.turns) (p + 1 - 1) run.world) (le_false (p + 1) 0 (omega arith)) (subst (λ i. get_or (worlds_of run.turns) i run.world ≡ run.world) i (past_end (worlds_of run.turns) p run.world h))
+    steps_by (nat_le (p + 1) 0) run.world (slice_index_or (worlds_of run.turns) (p + 1 - 1) run.world) (le_false (p + 1) 0 (omega arith)) (subst (λ i. get_or (worlds_of run.turns) i run.world ≡ run.world) i (past_end (worlds_of run.turns) p run.world h))
 
 pub moved_end : (run : Run) (s : Stand) (x : ending.Ending) → moved run s (end_found x) ≡ record { place = s.place; furthest = event_count run + 1 }
 moved_end run s ending.Stopped = refl

@@ -4,6 +4,8 @@ pub mod CallOutcomes
 pub mod CommandTexts
 pub mod EventLines
 pub mod FeedMoves
+pub mod GoingOn
+pub mod MostSteps
 pub mod RunnableBodies
 pub mod SaidToCommands
 pub mod SessionEnds

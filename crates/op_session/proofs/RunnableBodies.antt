@@ -8,19 +8,19 @@ use Rattle.std.proofs.lemmas.List.Elements.{All-append}
 use Rattle.std.specs.List.{list_all}
 use Rattle.op_logic.specs.Term.{Term, var, int, node, no_args, arg, args_of, nth_arg, arity, size}
 use Rattle.op_logic.specs.Names.{name_at, named, HasNames}
-use Rattle.op_logic.proofs.Renaming.{arity-rename}
+use Rattle.op_logic.proofs.RenamedUnification.{arity-rename}
 use Rattle.op_term.specs.Head.{head, sym as name}
 use Rattle.op_term.specs.declared.symbols.Sym.{Sym}
 use Rattle.op_term.specs.declared.node.Node.TheVariants as nodes
-use Rattle.op_trace.specs.World.{Text}
+use Rattle.op_trace.specs.Database.{Text}
 use Rattle.op_bind.specs.declared.places.Clause.{Clause as NumberedClause}
-use Rattle.op_store.specs.declared.pi.Pi.{Pi}
+use Rattle.op_store.specs.declared.procedures.pi.Pi.{Pi}
 use Rattle.op_store.specs.Rows.{Rows, all_numbered_clauses, IsNumberedClause, AreRows}
-use Rattle.op_store.specs.World.{name_arity, indicator_of_term, World, procedure_in}
+use Rattle.op_trace.specs.Database.{name_arity, indicator_of_term, Database, procedure_in}
 use Rattle.op_session.specs.Runnable.{is_goal, is_control_pair_name, is_control_pair, is_runnable, all_runnable}
 
 -- a compound's procedure, and what is asked of a goal of it
-pub goal-struct : (w : World) (names : List Text) (t : Term ℕ) (f : Sym) (n : ℕ) → nodes.Struct f n ≡ head t
+pub goal-struct : (w : Database) (names : List Text) (t : Term ℕ) (f : Sym) (n : ℕ) → nodes.Struct f n ≡ head t
     → is_some (procedure_in w.procedures (name_arity (name_at names f.0) n)) ≡ is_goal w (indicator_of_term (named names t))
 goal-struct w names (var v) f n e = absurd cc
 goal-struct w names (int i) f n e = absurd cc
@@ -57,12 +57,12 @@ control_pair-other names (node g (arg a (arg b no_args))) f n e two = let k : n 
 control_pair-other names (node g (arg a (arg b (arg c ts)))) f n e two = refl
 
 -- the two parts of a control construct
-pub record Parts (w : World) (names : List Text) (t : Term ℕ) : Type 0 where
+pub record Parts (w : Database) (names : List Text) (t : Term ℕ) : Type 0 where
   pub two : arity (args_of t) ≡ 2
   pub run : is_runnable w (named names t) ≡ (is_runnable w (named names (nth_arg (args_of t) 0)) && is_runnable w (named names (nth_arg (args_of t) 1)))
   pub less : size (nth_arg (args_of t) 0) + size (nth_arg (args_of t) 1) < size t
 
-pub parts-of : (w : World) (names : List Text) (t : Term ℕ) → is_control_pair (named names t) ≡ true → Parts w names t
+pub parts-of : (w : Database) (names : List Text) (t : Term ℕ) → is_control_pair (named names t) ≡ true → Parts w names t
 parts-of w names (var v) e = absurd cc
 parts-of w names (int i) e = absurd cc
 parts-of w names (node f no_args) e = absurd cc
@@ -74,7 +74,7 @@ parts-of w names (node f (arg a (arg b no_args))) e = record {
 }
 parts-of w names (node f (arg a (arg b (arg c ts)))) e = absurd cc
 
-pub part-names : (w : World) (names : List Text) (t : Term ℕ) (n : ℕ) → is_control_pair (named names t) ≡ true → HasNames n t
+pub part-names : (w : Database) (names : List Text) (t : Term ℕ) (n : ℕ) → is_control_pair (named names t) ≡ true → HasNames n t
     → HasNames n (nth_arg (args_of t) 0) × HasNames n (nth_arg (args_of t) 1)
 part-names w names (var v) n e h = absurd cc
 part-names w names (int i) n e h = absurd cc
@@ -83,7 +83,7 @@ part-names w names (node f (arg a no_args)) n e h = absurd cc
 part-names w names (node f (arg a (arg b no_args))) n e h = (h.1.0, h.1.1.0)
 part-names w names (node f (arg a (arg b (arg c ts)))) n e h = absurd cc
 
-pub other-part : (w : World) (names : List Text) (t : Term ℕ) → is_control_pair (named names t) ≡ false → is_goal w (indicator_of_term (named names t)) ≡ is_runnable w (named names t)
+pub other-part : (w : Database) (names : List Text) (t : Term ℕ) → is_control_pair (named names t) ≡ false → is_goal w (indicator_of_term (named names t)) ≡ is_runnable w (named names t)
 other-part w names (var v) e = refl
 other-part w names (int i) e = refl
 other-part w names (node f no_args) e = refl
@@ -116,7 +116,7 @@ and-turned false true = refl
 and-turned false false = refl
 
 -- the places that are left to be met
-module _ {A : Type 0} (w : World) (names : List Text) (term : A → Term ℕ) where
+module _ {A : Type 0} (w : Database) (names : List Text) (term : A → Term ℕ) where
   abbrev pub shown : A → Term Text
   shown p = named names (term p)
 

@@ -6,7 +6,7 @@ use Rattle.op_token.specs.Cut.{cut_of, text_in, rest_in, IsOpen, IsFollowed}
 use Rattle.op_session.specs.Moves.{Stand, at_start}
 use Rattle.op_session.specs.Session.{answer_to, answers_from, stand_after, joined, said_to, commands_in, session_text}
 use Rattle.op_session.specs.inner.Behind.{commands_from, rest_texts}
-use Rattle.op_session.specs.Promise.{followed_texts, taken_whole, all_but_last, IsPrefix}
+use Rattle.op_session.specs.Promise.{followed_texts, taken_whole, all_but_last, IsPrefix, IsBetween}
 use Rattle.op_session.specs.inner.Progress.{Cuts}
 use Rattle.op_session.proofs.CommandTexts.{followed_none, followed_one, commands_more, commands_text, commands_rest, commands_are, fuel}
 
@@ -14,11 +14,13 @@ pub joined_more : (xs ys : List (List ℕ)) → joined (xs ++ ys) ≡ joined xs 
 joined_more [] ys = refl
 joined_more (x ∷ xs) ys = ap (λ t. x ++ t) (joined_more xs ys) ∙ sym (append_assoc x (joined xs) (joined ys))
 
-pub stand_more : (traced : Traced) (s : Stand) (cs ds : List (List ℕ)) → stand_after traced s (cs ++ ds) ≡ stand_after traced (stand_after traced s cs) ds
+pub stand_more : (traced : Traced) (s : Stand) (cs ds : List (List ℕ))
+    → stand_after traced s (cs ++ ds) ≡ stand_after traced (stand_after traced s cs) ds
 stand_more traced s [] ds = refl
 stand_more traced s (c ∷ cs) ds = stand_more traced (answer_to traced s c).stand cs ds
 
-pub answers_more : (traced : Traced) (s : Stand) (cs ds : List (List ℕ)) → answers_from traced s (cs ++ ds) ≡ answers_from traced s cs ++ answers_from traced (stand_after traced s cs) ds
+pub answers_more : (traced : Traced) (s : Stand) (cs ds : List (List ℕ))
+    → answers_from traced s (cs ++ ds) ≡ answers_from traced s cs ++ answers_from traced (stand_after traced s cs) ds
 answers_more traced s [] ds = refl
 answers_more traced s (c ∷ cs) ds = ap (λ ts. (answer_to traced s c).text ∷ ts) (answers_more traced (answer_to traced s c).stand cs ds)
 
@@ -26,11 +28,16 @@ answers_more traced s (c ∷ cs) ds = ap (λ ts. (answer_to traced s c).text ∷
 abbrev pub stand_at : Traced → List (List ℕ) → Stand
 stand_at traced cs = stand_after traced at_start cs
 
-pub said_more : (traced : Traced) (cs ds : List (List ℕ)) → said_to traced (cs ++ ds) ≡ said_to traced cs ++ joined (answers_from traced (stand_at traced cs) ds)
-said_more traced cs ds = ap joined (answers_more traced at_start cs ds) ∙ joined_more (answers_from traced at_start cs) (answers_from traced (stand_at traced cs) ds)
+pub said_more : (traced : Traced) (cs ds : List (List ℕ))
+    → said_to traced (cs ++ ds) ≡ said_to traced cs ++ joined (answers_from traced (stand_at traced cs) ds)
+said_more traced cs ds =
+    ap joined (answers_more traced at_start cs ds)
+    ∙ joined_more (answers_from traced at_start cs) (answers_from traced (stand_at traced cs) ds)
 
-pub said_one : (traced : Traced) (cs : List (List ℕ)) (t : List ℕ) → said_to traced (cs ++ t ∷ []) ≡ said_to traced cs ++ (answer_to traced (stand_at traced cs) t).text
-said_one traced cs t = said_more traced cs (t ∷ []) ∙ ap (λ x. said_to traced cs ++ x) (append-nil (answer_to traced (stand_at traced cs) t).text)
+pub said_one : (traced : Traced) (cs : List (List ℕ)) (t : List ℕ)
+    → said_to traced (cs ++ t ∷ []) ≡ said_to traced cs ++ (answer_to traced (stand_at traced cs) t).text
+said_one traced cs t =
+    said_more traced cs (t ∷ []) ∙ ap (λ x. said_to traced cs ++ x) (append-nil (answer_to traced (stand_at traced cs) t).text)
 
 pub prefix_take : (k : ℕ) (xs : List ℕ) → IsPrefix (take k xs) xs
 prefix_take k xs = (drop k xs, sym (take-append-drop k xs))
@@ -47,15 +54,23 @@ prefix_self xs = ([], sym (append-nil xs))
 pub said_prefix : (traced : Traced) (cs ds : List (List ℕ)) → IsPrefix (said_to traced cs) (said_to traced (cs ++ ds))
 said_prefix traced cs ds = (joined (answers_from traced (stand_at traced cs) ds), said_more traced cs ds)
 
-pub front_prefix : (traced : Traced) (cs : List (List ℕ)) → IsPrefix (said_to traced (all_but_last cs)) (said_to traced cs)
-front_prefix traced cs =
-    subst (λ ds. IsPrefix (said_to traced (all_but_last cs)) (said_to traced ds)) (take-append-drop (length cs - 1) cs)
-    (said_prefix traced (all_but_last cs) (drop (length cs - 1) cs))
+-- an answer that was begun lies between those before it and all up to it
+pub between : (traced : Traced) (passed ps qs : List (List ℕ)) (text : List ℕ) (k : ℕ) → ps ≡ passed → qs ≡ passed ++ text ∷ []
+    → IsBetween (said_to traced ps) (said_to traced passed ++ take k (answer_to traced (stand_at traced passed) text).text)
+    (said_to traced qs)
+between traced passed ps qs text k e f =
+    let said = said_to traced passed in
+    let answer = (answer_to traced (stand_at traced passed) text).text in
+    let w = said ++ take k answer in (
+      subst (λ cs. IsPrefix (said_to traced cs) w) (sym e) (prefix_longer said said (take k answer) (prefix_self said)),
+      subst (λ cs. IsPrefix w (said_to traced cs)) (sym f)
+          (subst (IsPrefix w) (sym (said_one traced passed text)) (prefix_more said (take k answer) answer (prefix_take k answer))),
+    )
 
-pub front_one : (cs : List (List ℕ)) (t : List ℕ) → all_but_last (cs ++ t ∷ []) ≡ cs
-front_one cs t =
-    let n : length cs ≡ length (cs ++ t ∷ []) - 1 = omega (arith, length-append cs (t ∷ [])) in
-    subst (λ n. take n (cs ++ t ∷ []) ≡ cs) n (take_at cs (t ∷ []) (length cs) refl)
+pub but_last : (xs : List ℕ) (x : ℕ) → all_but_last (xs ++ x ∷ []) ≡ xs
+but_last xs x =
+    let n : length xs ≡ length (xs ++ x ∷ []) - 1 = omega (arith, length-append xs (x ∷ [])) in
+    subst (λ n. take n (xs ++ x ∷ []) ≡ xs) n (take_at xs (x ∷ []) (length xs) refl)
 
 -- the texts that were taken with a byte behind them are those that were passed
 pub whole_open : (passed : List (List ℕ)) (taken p : List ℕ) → Cuts passed taken p → IsOpen p → taken_whole taken ≡ passed
@@ -69,17 +84,18 @@ whole_open passed taken p c o =
     ∙ ap (λ ts. passed ++ ts) (followed_none f.more p o)
     ∙ append-nil passed
 
-pub enough_open : (traced : Traced) (passed : List (List ℕ)) (taken p : List ℕ) → Cuts passed taken p → IsOpen p
-    → IsPrefix (said_to traced (all_but_last (taken_whole taken))) (said_to traced passed)
-enough_open traced passed taken p c o =
-    subst (λ cs. IsPrefix (said_to traced (all_but_last cs)) (said_to traced passed)) (sym (whole_open passed taken p c o)) (front_prefix traced passed)
+-- but for a byte that was not kept
+pub whole_kept : (passed : List (List ℕ)) (taken p : List ℕ) (byte : ℕ) → Cuts passed taken p → IsOpen p
+    → taken_whole (all_but_last (taken ++ byte ∷ [])) ≡ passed
+whole_kept passed taken p byte c o = ap taken_whole (but_last taken byte) ∙ whole_open passed taken p c o
 
 some_more : (m : ℕ) → 0 < m → (k : ℕ) × (m ≡ suc k)
 some_more zero h = absurd (omega arith)
 some_more (suc k) h = (k, refl)
 
 -- and one more, where it was not passed yet
-pub whole_followed : (passed : List (List ℕ)) (taken p : List ℕ) → Cuts passed taken p → IsFollowed p → IsOpen (rest_in (cut_of p) p) → 2 ≤ length p
+pub whole_followed : (passed : List (List ℕ)) (taken p : List ℕ) → Cuts passed taken p → IsFollowed p → IsOpen (rest_in (cut_of p) p)
+    → 2 ≤ length p
     → taken_whole taken ≡ passed ++ text_in (cut_of p) p ∷ []
 whole_followed passed taken p c f o two =
     let u = fuel passed taken p [] c in
@@ -94,24 +110,24 @@ whole_followed passed taken p c f o two =
     ∙ ap (λ s. passed ++ t ∷ followed_texts k.0 s) (append-nil (rest_in (cut_of p) p))
     ∙ ap (λ ts. passed ++ t ∷ ts) (followed_none k.0 (rest_in (cut_of p) p) o)
 
-pub enough_followed : (traced : Traced) (passed : List (List ℕ)) (taken p : List ℕ) → Cuts passed taken p → IsFollowed p → IsOpen (rest_in (cut_of p) p)
-    → 2 ≤ length p → IsPrefix (said_to traced (all_but_last (taken_whole taken))) (said_to traced passed)
-enough_followed traced passed taken p c f o two =
-    let t = text_in (cut_of p) p in
-    subst (λ cs. IsPrefix (said_to traced (all_but_last cs)) (said_to traced passed)) (sym (whole_followed passed taken p c f o two))
-    (subst (λ cs. IsPrefix (said_to traced cs) (said_to traced passed)) (sym (front_one passed t)) (prefix_self (said_to traced passed)))
-
 -- all that is to be said, behind what was said
-pub session_more : (traced : Traced) (passed : List (List ℕ)) (taken p r : List ℕ) (m : ℕ) → Cuts passed taken p → length (taken ++ r) ≡ length passed + m → session_text traced (taken ++ r) ≡ said_to traced (passed ++ commands_from m (p ++ r))
-session_more traced passed taken p r m c e = ap (said_to traced) (commands_are (taken ++ r) (length passed + m) e ∙ commands_more passed taken p r m c)
+pub session_more : (traced : Traced) (passed : List (List ℕ)) (taken p r : List ℕ) (m : ℕ) → Cuts passed taken p
+    → length (taken ++ r) ≡ length passed + m → session_text traced (taken ++ r) ≡ said_to traced (passed ++ commands_from m (p ++ r))
+session_more traced passed taken p r m c e =
+    ap (said_to traced) (commands_are (taken ++ r) (length passed + m) e ∙ commands_more passed taken p r m c)
 
-pub front_so_far : (traced : Traced) (passed : List (List ℕ)) (taken p r : List ℕ) → Cuts passed taken p → IsPrefix (said_to traced passed) (session_text traced (taken ++ r))
+pub front_so_far : (traced : Traced) (passed : List (List ℕ)) (taken p r : List ℕ) → Cuts passed taken p
+    → IsPrefix (said_to traced passed) (session_text traced (taken ++ r))
 front_so_far traced passed taken p r c =
     let u = fuel passed taken p r c in
-    subst (IsPrefix (said_to traced passed)) (sym (session_more traced passed taken p r u.more c u.all)) (said_prefix traced passed (commands_from u.more (p ++ r)))
+    subst (IsPrefix (said_to traced passed)) (sym (session_more traced passed taken p r u.more c u.all))
+    (said_prefix traced passed (commands_from u.more (p ++ r)))
 
 -- and a front of the next answer
-pub front_of_answer : (traced : Traced) (passed : List (List ℕ)) (taken p r : List ℕ) (k : ℕ) → Cuts passed taken p → IsFollowed p → 2 ≤ length p → IsPrefix (said_to traced passed ++ take k (answer_to traced (stand_at traced passed) (text_in (cut_of p) p)).text) (session_text traced (taken ++ r))
+pub front_of_answer : (traced : Traced) (passed : List (List ℕ)) (taken p r : List ℕ) (k : ℕ) → Cuts passed taken p → IsFollowed p
+    → 2 ≤ length p
+    → IsPrefix (said_to traced passed ++ take k (answer_to traced (stand_at traced passed) (text_in (cut_of p) p)).text)
+    (session_text traced (taken ++ r))
 front_of_answer traced passed taken p r k c f two =
     let u = fuel passed taken p r c in
     let enough = u.enough in
@@ -123,11 +139,15 @@ front_of_answer traced passed taken p r k c f two =
     ∙ ap (λ cs. said_to traced (passed ++ cs)) (commands_text n.0 p r f)
     ∙ ap (said_to traced) (sym (append_assoc passed (t ∷ []) more)) in
     let w = said_to traced passed ++ take k (answer_to traced (stand_at traced passed) t).text in
-    subst (IsPrefix w) (sym (e ∙ said_more traced (passed ++ t ∷ []) more ∙ ap (λ x. x ++ joined (answers_from traced (stand_at traced (passed ++ t ∷ [])) more)) (said_one traced passed t)))
-    (prefix_longer w (said_to traced passed ++ (answer_to traced (stand_at traced passed) t).text) _ (prefix_more (said_to traced passed) _ _ (prefix_take k (answer_to traced (stand_at traced passed) t).text)))
+    subst (IsPrefix w)
+    (sym (e ∙ said_more traced (passed ++ t ∷ []) more
+    ∙ ap (λ x. x ++ joined (answers_from traced (stand_at traced (passed ++ t ∷ [])) more)) (said_one traced passed t)))
+    (prefix_longer w (said_to traced passed ++ (answer_to traced (stand_at traced passed) t).text) _
+    (prefix_more (said_to traced passed) _ _ (prefix_take k (answer_to traced (stand_at traced passed) t).text)))
 
 -- where all was taken
-pub commands_at_end : (passed : List (List ℕ)) (taken p : List ℕ) → Cuts passed taken p → IsOpen p → commands_in taken ≡ passed ++ rest_texts (cut_of p) p
+pub commands_at_end : (passed : List (List ℕ)) (taken p : List ℕ) → Cuts passed taken p → IsOpen p
+    → commands_in taken ≡ passed ++ rest_texts (cut_of p) p
 commands_at_end passed taken p c o =
     let u = fuel passed taken p [] c in
     let all : length taken ≡ length passed + u.more = ap length (sym (append-nil taken)) ∙ u.all in

@@ -2,11 +2,12 @@
 use Rattle.std.specs.Prelude.{ℕ, nat_lt, false, List, [], ◌∷◌, ◌++◌, length, codes, Option, Some, None, Result, Ok, Err, if◌then◌else◌}
 use Rattle.op_desk.specs.Contents.{Files, bytes_of}
 use Rattle.op_term.specs.Ops.{iso_table}
-use Rattle.op_reader.specs.declared.quotes.DoubleQuotes.TheVariants.{Codes}
+use Rattle.op_term.specs.declared.quotes.DoubleQuotes.TheVariants.{Codes}
 use Rattle.op_trace.specs.World as trace
 use Rattle.op_trace.specs.Run.{run}
-use Rattle.op_store.specs.declared.locked.Locked.TheVariants.{Program}
-use Rattle.op_store.specs.World.{World, clauses_of_world}
+use Rattle.op_store.specs.declared.names.locked.Locked.TheVariants.{Program}
+use Rattle.op_trace.specs.Database.{Database}
+use Rattle.op_trace.specs.Act.{setup_for}
 use Rattle.op_store.specs.Load.{Query, Found, Loaded, load_text, goal_of}
 use Rattle.op_session.specs.declared.status.Status.{Status}
 use Rattle.op_session.specs.declared.status.Status.TheVariants as status
@@ -35,13 +36,13 @@ abbrev pub long_line : List ℕ → List ℕ
 long_line name = codes "opium: too long " ++ name ++ codes "\n"
 
 -- before a program is loaded there are no clauses, the operators of the standard, and text in double quotes is codes
-abbrev pub first_world : World
+abbrev pub first_world : Database
 first_world = record { procedures = []; next = 0; table = iso_table; flags = record { quotes = Codes; unknown_fails = false } }
 
 -- the run of a goal: so many steps, up to its first solution
-abbrev pub traced_of : ℕ → World → Query → Traced
+abbrev pub traced_of : ℕ → Database → Query → Traced
 traced_of budget w q = record {
-  run = run (record { budget = budget; wanted = 1 }) q.body q.variables (trace.loaded (clauses_of_world w));
+  run = run (setup_for budget 1) q.body q.variables (trace.loaded w);
   table = w.table;
 }
 
@@ -56,17 +57,17 @@ abbrev pub goal_name : List ℕ
 goal_name = codes "(goal)"
 
 -- ten million steps
-abbrev pub with_query : World → Query → Outcome
+abbrev pub with_query : Database → Query → Outcome
 with_query w q = if is_runnable w q.body then Session (traced_of 10000000 w q) else unrunnable goal_name
 
-abbrev pub with_goal : World → Result Query Found → Outcome
+abbrev pub with_goal : Database → Result Query Found → Outcome
 with_goal w (Err f) = refused goal_name f
 with_goal w (Ok q) = with_query w q
 
-abbrev pub with_world : List ℕ → List ℕ → World → Outcome
+abbrev pub with_world : List ℕ → List ℕ → Database → Outcome
 with_world name goal w = if are_runnable w then with_goal w (goal_of w.table w.flags.quotes goal) else unrunnable name
 
-abbrev pub with_found : List ℕ → List ℕ → World → Option Found → Outcome
+abbrev pub with_found : List ℕ → List ℕ → Database → Option Found → Outcome
 with_found name goal w (Some f) = refused name f
 with_found name goal w None = with_world name goal w
 
@@ -76,7 +77,8 @@ with_loaded name goal l = with_found name goal l.world l.found
 abbrev pub with_bytes : List ℕ → List ℕ → Option (List ℕ) → Outcome
 with_bytes name goal None = Missing
 with_bytes name goal (Some bytes) =
-    if nat_lt file_limit (length bytes) then Line status.TooLong (long_line name) else with_loaded name goal (load_text Program first_world bytes)
+    if nat_lt file_limit (length bytes) then Line status.TooLong (long_line name)
+    else with_loaded name goal (load_text Program first_world bytes)
 
 -- the words are the program's file and the goal
 abbrev pub outcome_of : Files → List (List ℕ) → Outcome

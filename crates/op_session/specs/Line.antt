@@ -1,4 +1,5 @@
--- The line of an event: its number, its box's call number and depth, the port and the goal, quoted, cut, with the operators that loading left.
+-- The line of an event: its number, its box's call number and depth, the port and the goal, quoted, cut, with the operators that
+-- loading left.
 use Rattle.std.specs.Prelude.{ℕ, false, List, ◌++◌, codes, decimal}
 use Rattle.op_term.specs.Ops.{Table}
 use Rattle.op_writer.specs.Cut.{short}
@@ -18,4 +19,5 @@ space = codes " "
 -- without a newline
 abbrev pub event_line : Table → Event → List ℕ
 event_line ops e =
-    decimal e.chrono ++ space ++ decimal e.call ++ space ++ decimal e.depth ++ space ++ port_word e.port ++ space ++ short ops e.goal 1200 false
+    decimal e.chrono ++ space ++ decimal e.call ++ space ++ decimal e.depth ++ space ++ port_word e.port ++ space
+    ++ short ops e.goal 1200 false

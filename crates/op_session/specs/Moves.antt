@@ -1,6 +1,7 @@
 -- The places of a run, and the moves between them. There are n events: place 0 is before the first, place i is at event i; the end,
 -- which counts as n + 1, can be looked at, and is no place to stand at.
-use Rattle.std.specs.Prelude.{ℕ, ◌+◌, nat_le, length, max, if◌then◌else◌}
+use Rattle.std.specs.Prelude.{ℕ, ◌+◌, nat_le, List, [], ◌∷◌, length, max, if◌then◌else◌}
+use Rattle.op_trace.specs.World.{Turn, Shown, Solved}
 use Rattle.op_trace.specs.Ending.{Ending, Stopped, Failed, Spent}
 use Rattle.op_trace.specs.Run.{Run, events_of}
 
@@ -35,3 +36,12 @@ abbrev pub moved : Run → Stand → Found → Stand
 moved run s (At j) = record { place = j; furthest = max s.furthest j }
 moved run s No_event = record { place = s.place; furthest = event_count run + 1 }
 moved run s Past_budget = record { place = s.place; furthest = event_count run + 1 }
+
+-- the most steps that a run has counted at one of its turns, or at its end
+abbrev pub most_at : List Turn → ℕ
+most_at [] = 0
+most_at (Shown e w ∷ ts) = max w.steps (most_at ts)
+most_at (Solved σ w ∷ ts) = max w.steps (most_at ts)
+
+abbrev pub most_steps : Run → ℕ
+most_steps run = max (most_at run.turns) run.world.steps

@@ -1,14 +1,15 @@
 -- A session: the texts of the commands, one after the other, and the answer to each over the run's events.
-use Rattle.std.specs.Prelude.{ℕ, zero, suc, ◌-◌, Bool, true, false, List, [], ◌∷◌, ◌++◌, length, codes, decimal, Result, Ok, Err, if◌then◌else◌}
+use Rattle.std.specs.Prelude.{ℕ, zero, suc, ◌-◌, Bool, false, List, [], ◌∷◌, ◌++◌, length, codes, decimal, Result, Ok, Err, if◌then◌else◌}
 use Rattle.op_base.specs.Characters.{is_layout}
 use Rattle.op_logic.specs.Term.{Term, node, no_args}
 use Rattle.op_term.specs.Ops.{Table, iso_table}
-use Rattle.op_trace.specs.World.{Text, text_eq, Event}
+use Rattle.op_trace.specs.Database.{Text, text_eq}
+use Rattle.op_trace.specs.World.{Event}
 use Rattle.op_trace.specs.Run.{events_of}
 use Rattle.op_token.specs.declared.piece.Piece.{Piece}
 use Rattle.op_token.specs.declared.piece.Piece.TheVariants.{NoEnd}
 use Rattle.op_token.specs.Cut.{cut_of, texts, behind_texts}
-use Rattle.op_reader.specs.declared.quotes.DoubleQuotes.TheVariants.{Codes}
+use Rattle.op_term.specs.declared.quotes.DoubleQuotes.TheVariants.{Codes}
 use Rattle.op_reader.specs.declared.fault.ReadFaultKind.{ReadFaultKind}
 use Rattle.op_store.specs.Load.{Query, Bad, unreadable, not_body, command_of}
 use Rattle.op_session.specs.declared.command.Meaning.{Meaning}
@@ -102,9 +103,10 @@ joined (x ∷ xs) = x ++ joined xs
 abbrev pub said_to : Traced → List (List ℕ) → List ℕ
 said_to traced commands = joined (answers_from traced at_start commands)
 
--- all that is answered to the commands in these bytes, and the furthest place at the end
+-- the furthest place that these commands look at, from the start
+abbrev pub furthest_of : Traced → List (List ℕ) → ℕ
+furthest_of traced commands = (stand_after traced at_start commands).furthest
+
+-- all that is answered to the commands in these bytes
 abbrev pub session_text : Traced → List ℕ → List ℕ
 session_text traced bytes = said_to traced (commands_in bytes)
-
-abbrev pub session_furthest : Traced → List ℕ → ℕ
-session_furthest traced bytes = (stand_after traced at_start (commands_in bytes)).furthest

@@ -6,7 +6,7 @@ use Rattle.op_reader.specs.declared.fault.ReadFaultKind.{ReadFaultKind}
 use Rattle.op_reader.specs.declared.fault.ReadFaultKind.TheVariants.{Token, NoEnd, Unbalanced, NoOperand, Priority}
 use Rattle.op_writer.specs.declared.style.Style.TheVariants.{Quoted}
 use Rattle.op_writer.specs.Text.{text_of}
-use Rattle.op_store.specs.World.{Indicator}
+use Rattle.op_trace.specs.Database.{Indicator}
 use Rattle.op_store.specs.Fault.{Fault, syntax, trailing, head, body, locked, directive}
 
 -- why a text can't be read

@@ -1,10 +1,10 @@
-ghost use Rattle.std.specs.Prelude.{◌≡◌, ℕ, ◌+◌, ◌++◌, OnOk, IfOk};
+ghost use Rattle.std.specs.Prelude.{◌≡◌, ◌≤◌, OnOk, IfOk};
 ghost use Rattle.op_machine.specs.Machine.{event_now};
 ghost use Rattle.op_session.specs.Moves.{Stand};
 ghost use Rattle.op_session.specs.Traced.{Traced};
 ghost use Rattle.op_session.specs.inner.Reader.{IsReader};
 ghost use Rattle.op_session.specs.Session.{other_text, unreadable_text};
-ghost use Rattle.op_session.specs.inner.Feeding.{Feeds, IsHere};
+ghost use Rattle.op_session.specs.inner.Feeding.{Feeds, IsHere, most_of};
 ghost use Rattle.op_session.specs.inner.Giving.{Told, Pays, Gives, text_of};
 ghost use Rattle.op_session.specs.Sight.{sight};
 
@@ -43,8 +43,10 @@ fn answer<L: Ledger>(
     steps: &mut Steps<L>,
 ) -> Result<Bytes, Memory>
     requires { IsReader feed.old.commands }
-    ensures told { (traced : Traced) (s : Stand) → Feeds traced s feed.old → IfOk result (λ answer. Told traced s text.now answer feed.new) }
-    ensures pays { OnOk result (Pays feed.old feed.new steps.old steps.new) }
+    ensures told { (traced : Traced) (s : Stand) → Feeds traced s feed.old
+        → IfOk result (λ answer. Told traced s text.now answer feed.new) }
+    ensures pays { Pays feed.old feed.new steps.old steps.new }
+    ensures rises { OnOk result (most_of feed.new.machine ≤ most_of feed.old.machine) }
 {
     match feed.read(text)? {
         Meaning::Next => {

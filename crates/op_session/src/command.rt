@@ -1,6 +1,6 @@
 ghost use Rattle.std.specs.Prelude.{◌≡◌, length, codes, IfOk, OnOk};
 ghost use Rattle.op_logic.specs.Names.{named};
-ghost use Rattle.op_trace.specs.World.{text_eq};
+ghost use Rattle.op_trace.specs.Database.{text_eq};
 ghost use Rattle.op_store.specs.Queries.{IsSoundGoal};
 
 use op_base::Memory;

@@ -1,9 +1,9 @@
-ghost use Rattle.std.specs.Prelude.{◌≡◌, ℕ, ◌+◌, ◌-◌, ◌≤◌, true, IfOk, OnOk, IsTrue};
+ghost use Rattle.std.specs.Prelude.{◌≡◌, ◌+◌, ◌-◌, ◌≤◌, true, IfOk, OnOk};
 ghost use Rattle.op_machine.specs.Machine.{has_event, event_now};
 ghost use Rattle.op_machine.specs.View.{event_in};
 ghost use Rattle.op_session.specs.Moves.{Stand, at_start};
 ghost use Rattle.op_session.specs.Traced.{Traced};
-ghost use Rattle.op_session.specs.inner.Feeding.{Finds, Shows, next_of};
+ghost use Rattle.op_session.specs.inner.Feeding.{Finds, Shows, next_of, most_of};
 
 use crate::command::Meaning;
 use op_base::{Memory, Steps};
@@ -66,8 +66,10 @@ impl Feed {
     pub fn next<L: Ledger>(&mut self, steps: &mut Steps<L>) -> Result<Next, Memory>
         ensures finds { (traced : Traced) (s : Stand) → Feeds traced s self.old → IfOk result (λ next. Finds traced s self.new next) }
         ensures here { IfOk result (λ next. IsHere next self.new.machine) }
-        ensures cost { OnOk result (steps.new ≡ steps.old + (self.new.machine.steps - self.old.machine.steps)) }
-        ensures later { OnOk result (self.old.machine.steps ≤ self.new.machine.steps) }
+        ensures cost { steps.new ≡ steps.old + (self.new.machine.steps - self.old.machine.steps) }
+        ensures later { self.old.machine.steps ≤ self.new.machine.steps }
+        ensures within { self.new.machine.steps ≤ most_of self.old.machine }
+        ensures rises { OnOk result (most_of self.new.machine ≤ most_of self.old.machine) }
     {
         if self.ended.is_none() {
             self.ended = next_event(&mut self.machine, steps)?;
@@ -108,13 +110,16 @@ struct Nothing;
 impl Host for Nothing {}
 
 // Asks a machine for turns up to the next event or its ending: a solution is passed over.
+#[tactic(auto, using(crate::proofs::MostSteps::answers_most))]
 fn next_event<L: Ledger>(
     machine: &mut Machine,
     steps: &mut Steps<L>,
 ) -> Result<Option<Ending>, Memory>
     ensures shows { IfOk result (λ ended. Shows machine.old machine.new ended) }
-    ensures cost { OnOk result (steps.new ≡ steps.old + (machine.new.steps - machine.old.steps)) }
-    ensures later { OnOk result (machine.old.steps ≤ machine.new.steps) }
+    ensures cost { steps.new ≡ steps.old + (machine.new.steps - machine.old.steps) }
+    ensures later { machine.old.steps ≤ machine.new.steps }
+    ensures within { machine.new.steps ≤ most_of machine.old }
+    ensures rises { OnOk result (most_of machine.new ≤ most_of machine.old) }
     ensures tables { machine.new.tables ≡ machine.old.tables }
 {
     let mut host = Nothing;

@@ -1,10 +1,10 @@
-ghost use Rattle.std.specs.Prelude.{◌≡◌, ◌<◌, ◌++◌, ◌∷◌, [], ◌&&◌, ℕ, List, length, map, All, sum_by, IfOk, OnOk};
+ghost use Rattle.std.specs.Prelude.{◌≡◌, ◌<◌, ◌++◌, ◌∷◌, [], ◌&&◌, length, map, All, sum_by, IfOk, OnOk};
 ghost use Rattle.std.specs.List.{list_all};
 ghost use Rattle.op_bind.specs.declared.places.Clause.{Clause as NumberedClause};
 ghost use Rattle.op_logic.specs.Term.{size};
 ghost use Rattle.op_logic.specs.Names.{HasNames, named};
-ghost use Rattle.op_store.specs.World.{indicator_of_term};
-ghost use Rattle.op_store.specs.Stored.{world_of};
+ghost use Rattle.op_trace.specs.Database.{indicator_of_term};
+ghost use Rattle.op_store.specs.Stored.{database_of};
 ghost use Rattle.op_store.specs.Queries.{IsSoundGoal};
 ghost use Rattle.op_session.specs.Runnable.{is_control_atom_name as the_control_atom_name, is_goal as the_goal, is_control_pair_name as the_control_pair_name, is_control_pair as the_control_pair, is_runnable, all_runnable, are_runnable as the_runnable};
 
@@ -29,7 +29,7 @@ fn is_control_pair_name(name: &str) -> bool
 fn is_goal<T: Tree>(store: &Store, tree: &T, at: &T::At) -> bool
     requires place { T.IsPlace tree.now at.now }
     requires names { HasNames (length store.now.names) (T.term tree.now at.now) }
-    ensures { result ≡ the_goal (world_of store.now) (indicator_of_term (named store.now.names (T.term tree.now at.now))) }
+    ensures { result ≡ the_goal (database_of store.now) (indicator_of_term (named store.now.names (T.term tree.now at.now))) }
 {
     match tree.node(at) {
         Node::Var(_) => false,
@@ -59,8 +59,8 @@ fn meet<T: Tree>(store: &Store, tree: &T, at: T::At, todo: &mut Vec<T::At>) -> R
     requires place { T.IsPlace tree.now at }
     requires names { HasNames (length store.now.names) (T.term tree.now at) }
     requires todo { All (λ p. T.IsPlace tree.now p × HasNames (length store.now.names) (T.term tree.now p)) todo.old.items }
-    ensures met { IfOk result (λ b. all_runnable (world_of store.now) (map (λ p. named store.now.names (T.term tree.now p)) (todo.old.items ++ at ∷ []))
-        ≡ (b && all_runnable (world_of store.now) (map (λ p. named store.now.names (T.term tree.now p)) todo.new.items))) }
+    ensures met { IfOk result (λ b. all_runnable (database_of store.now) (map (λ p. named store.now.names (T.term tree.now p)) (todo.old.items ++ at ∷ []))
+        ≡ (b && all_runnable (database_of store.now) (map (λ p. named store.now.names (T.term tree.now p)) todo.new.items))) }
     ensures todo { OnOk result (All (λ p. T.IsPlace tree.now p × HasNames (length store.now.names) (T.term tree.now p)) todo.new.items) }
     ensures less { OnOk result (sum_by (λ p. size (T.term tree.now p)) todo.new.items < sum_by (λ p. size (T.term tree.now p)) (todo.old.items ++ at ∷ [])) }
 {
@@ -76,7 +76,7 @@ fn meet<T: Tree>(store: &Store, tree: &T, at: T::At, todo: &mut Vec<T::At>) -> R
 // Whether a body can be run.
 fn is_runnable_term(alloc: Global, store: &Store, term: &Term) -> Result<bool, Memory>
     requires { HasNames (length store.now.names) term.now }
-    ensures { IfOk result (λ b. b ≡ is_runnable (world_of store.now) (named store.now.names term.now)) }
+    ensures { IfOk result (λ b. b ≡ is_runnable (database_of store.now) (named store.now.names term.now)) }
 {
     let whole = Whole::new(term);
     let mut todo = Vec::new(alloc);
@@ -92,7 +92,7 @@ fn is_runnable_term(alloc: Global, store: &Store, term: &Term) -> Result<bool, M
 // Whether the bodies of these clauses can be run.
 fn are_runnable_clauses(alloc: Global, store: &Store, clauses: &Snapshot) -> Result<bool, Memory>
     requires { All (λ (r : NumberedClause). HasNames (length store.now.names) r.body) clauses.now }
-    ensures { IfOk result (λ b. b ≡ list_all (λ (r : NumberedClause). is_runnable (world_of store.now) (named store.now.names r.body)) clauses.now) }
+    ensures { IfOk result (λ b. b ≡ list_all (λ (r : NumberedClause). is_runnable (database_of store.now) (named store.now.names r.body)) clauses.now) }
 {
     'clauses: for i in 0..clauses.len() {
         if !is_runnable_term(alloc, store, &clauses.clause(i).body)? {
@@ -104,7 +104,7 @@ fn are_runnable_clauses(alloc: Global, store: &Store, clauses: &Snapshot) -> Res
 
 /// Whether each clause of a program can be run. It takes time linear in the size of the clauses' bodies.
 pub fn are_runnable(alloc: Global, store: &Store) -> Result<bool, Memory>
-    ensures { IfOk result (λ b. b ≡ the_runnable (world_of store.now)) }
+    ensures { IfOk result (λ b. b ≡ the_runnable (database_of store.now)) }
 {
     let clauses = store.all_clauses()?;
     are_runnable_clauses(alloc, store, &clauses)
@@ -113,7 +113,7 @@ pub fn are_runnable(alloc: Global, store: &Store) -> Result<bool, Memory>
 /// Whether a goal can be run over a program.
 pub fn is_runnable_goal(alloc: Global, store: &Store, goal: &Goal) -> Result<bool, Memory>
     requires { IsSoundGoal (length store.now.names) goal.now }
-    ensures { IfOk result (λ b. b ≡ is_runnable (world_of store.now) (named store.now.names goal.now.body)) }
+    ensures { IfOk result (λ b. b ≡ is_runnable (database_of store.now) (named store.now.names goal.now.body)) }
 {
     is_runnable_term(alloc, store, &goal.body)
 }

@@ -1,7 +1,7 @@
 ghost use Rattle.std.specs.Prelude.{◌≡◌, ℕ, ◌<◌, ◌≤◌, Some, length, IfOk};
 ghost use Rattle.std.specs.Io.KnownBytes.{IsAtEnd};
 ghost use Rattle.op_desk.specs.declared.chan.Chan.{Chan};
-ghost use Rattle.op_store.specs.Stored.{world_of};
+ghost use Rattle.op_store.specs.Stored.{database_of};
 ghost use Rattle.op_store.specs.Queries.{query_named, IsSoundGoal};
 ghost use Rattle.op_session.specs.Traced.{Traced};
 ghost use Rattle.op_session.specs.inner.Reader.{IsReader};
@@ -141,7 +141,7 @@ fn begin(alloc: Global, store: Store, goal: Goal, budget: u64) -> Result<(Machin
     requires goal { IsSoundGoal (length store.names) goal }
     requires some { 1 ≤ budget }
     requires limit { budget ≤ 1000000000 }
-    ensures traced { IfOk result (λ p. traced_by p.0 ≡ traced_of budget (world_of store) (query_named store.names goal)) }
+    ensures traced { IfOk result (λ p. traced_by p.0 ≡ traced_of budget (database_of store) (query_named store.names goal)) }
     ensures steps { IfOk result (λ p. p.0.steps ≡ 0) }
     ensures reads { IfOk result (λ p. IsReader p.1) }
 {
@@ -162,7 +162,7 @@ pub fn session<D: Desk, L: Ledger>(
     requires goal { IsSoundGoal (length store.names) goal }
     requires some { 1 ≤ budget }
     requires limit { budget ≤ 1000000000 }
-    ensures { Leaves (Some (Session (traced_of budget (world_of store) (query_named store.names goal)))) result
+    ensures { Leaves (Some (Session (traced_of budget (database_of store) (query_named store.names goal)))) result
         (sight D.Desk desk.old) (sight D.Desk desk.new) steps.old steps.new }
 {
     match begin(alloc, store, goal, budget) {

@@ -1,14 +1,16 @@
-ghost use Rattle.std.specs.Prelude.{◌≡◌, ◌++◌, length, IfOk};
-ghost use Rattle.op_store.specs.Queries.{fault_named, IsKnownFault};
+ghost use Rattle.std.specs.Prelude.{◌≡◌, ◌++◌, Some, length, IfOk, if◌then◌else◌};
+ghost use Rattle.op_store.specs.Queries.{fault_named, IsKnownFault, IsSoundLoadFault};
+ghost use Rattle.op_session.specs.Call.{Outcome, unrunnable};
 ghost use Rattle.op_session.specs.Words.{fault_words as the_words, load_line as the_line};
 ghost use Rattle.op_session.specs.Sight.{sight};
 ghost use Rattle.op_session.specs.inner.Steps.{Takes, Says, Reads, ended_as as ended_of};
+ghost use Rattle.op_session.specs.inner.Refusing.{Refuses, GoesOn};
 
 use crate::status::Status;
 use crate::words::{fault_words, load_line};
 use op_base::Memory;
 use op_desk::{Bytes, Chan, Desk, DeskFault, TakeFault, put_all, take_all};
-use op_store::{LoadFaultKind, Store};
+use op_store::{LoadFault, LoadFaultKind, Store};
 use std::alloc::Global;
 
 // How many bytes a file may have.
@@ -91,6 +93,43 @@ pub fn say_refused<D: Desk>(
 {
     let words = fault_words(alloc, store, kind)?;
     say_load(alloc, desk, name, line, words.as_slice())
+}
+
+/// The end of a call whose program or goal is refused for a fault, with the line of the refusal.
+pub fn refuse<D: Desk>(
+    alloc: Global,
+    desk: &mut D,
+    store: &Store,
+    name: &str,
+    fault: LoadFault,
+) -> Status
+    requires { IsSoundLoadFault (length store.now.names) fault }
+    ensures { Refuses store.now.names name.now fault result
+        (sight D.Desk desk.old) (sight D.Desk desk.new) }
+{
+    match fault {
+        LoadFault::Memory => Status::Memory,
+        LoadFault::At { line, kind } => ended_as(
+            Status::Load,
+            say_refused(alloc, desk, store, name, line, kind),
+        ),
+    }
+}
+
+/// Goes on with a program or a goal that can be run; another is refused with its line.
+pub fn demand_runnable<D: Desk>(
+    alloc: Global,
+    desk: &mut D,
+    name: &str,
+    runnable: bool,
+) -> Result<(), Status>
+    ensures { (o : Outcome) → GoesOn result (Some (if runnable then o else unrunnable name.now)) (λ _. o)
+        (sight D.Desk desk.old) (sight D.Desk desk.new) }
+{
+    if runnable {
+        return Ok(());
+    }
+    Err(ended_as(Status::Load, say_load(alloc, desk, name, 1, b"form")))
 }
 
 /// Takes a whole file, or None where it has more bytes than a file may have.

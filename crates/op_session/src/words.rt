@@ -1,4 +1,4 @@
-ghost use Rattle.std.specs.Prelude.{◌≡◌, ◌++◌, ◌<◌, length, codes, IfOk, OnOk};
+ghost use Rattle.std.specs.Prelude.{◌≡◌, ◌++◌, ◌<◌, length, IfOk, OnOk};
 ghost use Rattle.op_store.specs.Rows.{indicator_named};
 ghost use Rattle.op_store.specs.Queries.{fault_named, IsKnownFault};
 ghost use Rattle.op_session.specs.Words.{kind_word as the_kind, indicator_text as the_indicator, fault_words as the_words, load_line as the_line};

@@ -1,22 +1,21 @@
-mod Parts
-mod Meeting
-mod Walking
-mod Nodes
-mod Linking
-mod Sharing
+mod BodyParts
+mod ConversionSteps
+mod ConversionPlaces
+mod BodyNodes
+mod LinkedNodes
+mod SharedClauses
 mod RowLaws
-pub mod Naming
+pub mod NamedProcedures
 mod Numbers
-mod Making
-mod Counting
-mod Bodies
-mod Commands
-mod Joining
-mod Converting
+mod BodyTerms
+mod VariableCounts
+mod ConvertedTerm
+mod CommandReading
+mod AddedClauses
+mod ConversionNames
 pub mod Soundness
-mod Loading
-mod Shapes
-mod Listing
-mod Declaring
-mod Telling
-pub mod GoalClauses
+mod LoadedTerms
+mod TermShapes
+mod DirectiveEntries
+mod DirectiveLaws
+mod LoadLaws

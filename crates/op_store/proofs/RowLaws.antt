@@ -1,25 +1,30 @@
 -- Procedures that take a clause.
-use Rattle.std.proofs.Common.{◌≡◌, ℕ, zero, suc, ◌+◌, take, arith, append_assoc, cond, Bool, true, false, List, [], ◌∷◌, ◌++◌, Option, Some, None, Result, Ok, Err, IfOk, OnOk, OnErr, Bor, refl, sym, ap, ◌∙◌}
+use Rattle.std.proofs.Common.{◌≡◌, ℕ, zero, suc, ◌+◌, take, arith, append_assoc, cond, Bool, true, false, List, [], ◌∷◌, ◌++◌, Option, Some}
+use Rattle.std.proofs.Common.{None, Result, Ok, Err, IfOk, OnOk, OnErr, Bor, refl, sym, ap, ◌∙◌}
 use Rattle.std.specs.List.{slice_get}
 use Rattle.std.proofs.lemmas.List.{append-nil}
 use Rattle.std.specs.Prelude.{is_some, option_copied}
 use Rattle.std.specs.Map.{lookup, set_value}
 use Rattle.indexmap.specs.IndexMap.{insert_entry}
 use Rattle.op_bind.specs.declared.places.Clause.{Clause as NumberedClause}
-use Rattle.op_store.specs.declared.pi.Pi.{Pi}
-use Rattle.op_store.specs.declared.procedure.Procedure.{Procedure as Row}
+use Rattle.op_store.specs.declared.procedures.pi.Pi.{Pi}
+use Rattle.op_store.specs.declared.procedures.procedure.Procedure.{Procedure as Row}
 use Rattle.op_store.specs.Rows.{Rows, pi_eq, all_numbered_clauses}
 
-set-inserts-on : (b : Bool) (e : Pi × Row) (es more same : Rows) (w : Row) (o : Option Row) (p : Row) → cond b (Some e.1) o ≡ Some p → (o ≡ Some p → same ≡ more) → cond b ((e.0, w) ∷ es) (e ∷ same) ≡ cond b ((e.0, w) ∷ es) (e ∷ more)
+set-inserts-on : (b : Bool) (e : Pi × Row) (es more same : Rows) (w : Row) (o : Option Row) (p : Row) → cond b (Some e.1) o ≡ Some p
+    → (o ≡ Some p → same ≡ more) → cond b ((e.0, w) ∷ es) (e ∷ same) ≡ cond b ((e.0, w) ∷ es) (e ∷ more)
 set-inserts-on true e es more same w o p h f = refl
 set-inserts-on false e es more same w o p h f = ap (λ (xs : Rows). e ∷ xs) (f h)
 
 -- writing to a procedure that is there
 pub set-inserts : (k : Pi) (es : Rows) (p w : Row) → lookup (pi_eq k) es ≡ Some p → set_value (pi_eq k) es w ≡ insert_entry pi_eq es k w
 set-inserts k [] p w h = absurd cc
-set-inserts k (e ∷ es) p w h = set-inserts-on (pi_eq k e.0) e es (insert_entry pi_eq es k w) (set_value (pi_eq k) es w) w (lookup (pi_eq k) es) p h (set-inserts k es p w)
+set-inserts k (e ∷ es) p w h =
+    set-inserts-on (pi_eq k e.0) e es (insert_entry pi_eq es k w) (set_value (pi_eq k) es w) w (lookup (pi_eq k) es) p h
+    (set-inserts k es p w)
 
-set-same-on : (b : Bool) (e : Pi × Row) (es same : Rows) (o : Option Row) (p : Row) → cond b (Some e.1) o ≡ Some p → (o ≡ Some p → same ≡ es) → cond b ((e.0, p) ∷ es) (e ∷ same) ≡ e ∷ es
+set-same-on : (b : Bool) (e : Pi × Row) (es same : Rows) (o : Option Row) (p : Row) → cond b (Some e.1) o ≡ Some p
+    → (o ≡ Some p → same ≡ es) → cond b ((e.0, p) ∷ es) (e ∷ same) ≡ e ∷ es
 set-same-on true e es same o p h f = let q : p ≡ e.1 = cc in ap (λ (x : Row). (e.0, x) ∷ es) q
 set-same-on false e es same o p h f = ap (λ (xs : Rows). e ∷ xs) (f h)
 
@@ -36,17 +41,21 @@ on-err-map (Ok a) f p = tt
 on-err-map (Err e) f p = f p
 
 -- the clauses of one procedure more
-all-next : (rows : Rows) (i : ℕ) (e : Pi × Row) → slice_get rows i ≡ Some e → all_numbered_clauses (take (suc i) rows) ≡ all_numbered_clauses (take i rows) ++ e.1.clauses
+all-next : (rows : Rows) (i : ℕ) (e : Pi × Row) → slice_get rows i ≡ Some e
+    → all_numbered_clauses (take (suc i) rows) ≡ all_numbered_clauses (take i rows) ++ e.1.clauses
 all-next [] i e h = absurd cc
 all-next (d ∷ ds) zero e h =
     let same : d ≡ e = cc in ap (λ (x : Pi × Row). x.1.clauses ++ []) same ∙ append-nil e.1.clauses
 all-next (d ∷ ds) (suc i) e h =
-    ap (λ (rs : List NumberedClause). d.1.clauses ++ rs) (all-next ds i e h) ∙ sym (append_assoc d.1.clauses (all_numbered_clauses (take i ds)) e.1.clauses)
+    ap (λ (rs : List NumberedClause). d.1.clauses ++ rs) (all-next ds i e h)
+    ∙ sym (append_assoc d.1.clauses (all_numbered_clauses (take i ds)) e.1.clauses)
 
-pub all-more : (rows : Rows) (i : ℕ) (e : Pi × Row) (old new : List NumberedClause) → Some e ≡ slice_get rows i → old ≡ all_numbered_clauses (take i rows) → new ≡ old ++ e.1.clauses → new ≡ all_numbered_clauses (take (i + 1) rows)
+pub all-more : (rows : Rows) (i : ℕ) (e : Pi × Row) (old new : List NumberedClause) → Some e ≡ slice_get rows i
+    → old ≡ all_numbered_clauses (take i rows) → new ≡ old ++ e.1.clauses → new ≡ all_numbered_clauses (take (i + 1) rows)
 all-more rows i e old new h o n =
     let one : suc i ≡ i + 1 = omega arith in
-    n ∙ (ap (λ (rs : List NumberedClause). rs ++ e.1.clauses) o ∙ (sym (all-next rows i e (sym h)) ∙ ap (λ (k : ℕ). all_numbered_clauses (take k rows)) one))
+    n ∙ (ap (λ (rs : List NumberedClause). rs ++ e.1.clauses) o
+    ∙ (sym (all-next rows i e (sym h)) ∙ ap (λ (k : ℕ). all_numbered_clauses (take k rows)) one))
 
 pub if-ok : {A E : Type 0} {P Q : A → Type 0} (r : Result A E) → ((a : A) → P a → Q a) → IfOk r P → IfOk r Q
 if-ok (Ok a) f p = f a p

@@ -1,5 +1,6 @@
 -- What the calls of a store keep.
-use Rattle.std.proofs.Common.{◌≡◌, ℕ, zero, map, suc, ◌<◌, ◌≤◌, ◌==◌, ◌&&◌, max, Bool, true, false, List, [], ◌∷◌, ◌++◌, length, take, Option, Some, None, All, refl, sym, ap, ◌∙◌, subst, arith, Result, Ok, Err, OnOk}
+use Rattle.std.proofs.Common.{◌≡◌, ℕ, zero, map, suc, ◌<◌, ◌≤◌, ◌==◌, ◌&&◌, max, Bool, true, false, List, [], ◌∷◌, ◌++◌, length, take}
+use Rattle.std.proofs.Common.{Option, Some, None, All, refl, sym, ap, ◌∙◌, subst, arith, Result, Ok, Err, OnOk}
 use Rattle.std.specs.Prelude.{IfSome}
 use Rattle.std.proofs.lemmas.Bool.Decides.{Decides-eqb}
 use Rattle.std.proofs.lemmas.List.{length-take}
@@ -8,21 +9,22 @@ use Rattle.op_logic.proofs.Tests.{by_test, if_true, if_false}
 use Rattle.op_logic.specs.Term.{Term, var, int, node, no_args, IsWithin}
 use Rattle.op_store.specs.Counted.{variable_count}
 use Rattle.op_logic.specs.Names.{IsTable, HasNames, named, name_at, with_name}
-use Rattle.op_logic.proofs.Naming.{named-more}
-use Rattle.op_trace.specs.World.{Text, Clause}
+use Rattle.op_logic.proofs.NameTables.{named-more}
+use Rattle.op_trace.specs.Database.{Text, Clause}
 use Rattle.op_bind.specs.declared.places.Clause.{Clause as NumberedClause}
-use Rattle.op_store.specs.declared.pi.Pi.{Pi}
+use Rattle.op_store.specs.declared.procedures.pi.Pi.{Pi}
 use Rattle.op_term.specs.Ops.{Table}
-use Rattle.op_store.specs.declared.flags.Flags.{Flags}
-use Rattle.op_store.specs.declared.locked.Locked.{Locked}
-use Rattle.op_store.specs.declared.procedure.Procedure.{Procedure as Row}
-use Rattle.op_store.specs.Rows.{clause_named, row_named, indicator_named, rows_named, Rows, pi_eq, row_in, with_row, extended_row, pi_of, IsNumberedClause, IsRow, AreRows}
-use Rattle.op_store.specs.Stored.{Stored, IsSound, world_of, with_numbered_clause, first_names}
-use Rattle.op_store.specs.World.{World, Indicator, name_arity, Procedure}
-use Rattle.op_store.specs.Parts.{body_variables}
-use Rattle.op_store.specs.Told.{with_names}
-use Rattle.op_store.proofs.Bodies.{has-more, kept-has, names-more}
-use Rattle.op_store.proofs.Converting.{within-count}
+use Rattle.op_trace.specs.declared.flags.Flags.{Flags}
+use Rattle.op_store.specs.declared.names.locked.Locked.{Locked}
+use Rattle.op_store.specs.declared.procedures.procedure.Procedure.{Procedure as Row}
+use Rattle.op_store.specs.Rows.{clause_named, row_named, indicator_named, rows_named, Rows, pi_eq, row_in, with_row, extended_row, pi_of}
+use Rattle.op_store.specs.Rows.{IsNumberedClause, IsRow, AreRows}
+use Rattle.op_store.specs.Stored.{Stored, IsSound, database_of, with_numbered_clause, first_names}
+use Rattle.op_trace.specs.Database.{Database, Indicator, name_arity, Procedure}
+use Rattle.op_store.specs.inner.Parts.{body_variables}
+use Rattle.op_store.specs.inner.Told.{with_names}
+use Rattle.op_store.proofs.ConvertedTerm.{has-more, kept-has, names-more}
+use Rattle.op_store.proofs.ConversionNames.{within-count}
 
 numbered-more : (m n : ℕ) (k : Pi) (r : NumberedClause) → m ≤ n → IsNumberedClause m k r → IsNumberedClause n k r
 numbered-more m n k r l s = record {
@@ -36,7 +38,8 @@ numbered-more m n k r l s = record {
 -- the rows over more names
 pub rows-more : (m n : ℕ) (rows : Rows) → m ≤ n → AreRows m rows → AreRows n rows
 rows-more m n [] l h = tt
-rows-more m n (e ∷ es) l h = (record { name = omega (arith, h.0.name); clauses = λ i d k. numbered-more m n e.0 _ l (h.0.clauses i d k) }, rows-more m n es l h.1)
+rows-more m n (e ∷ es) l h =
+    (record { name = omega (arith, h.0.name); clauses = λ i d k. numbered-more m n e.0 _ l (h.0.clauses i d k) }, rows-more m n es l h.1)
 
 take-front : {A : Type 0} (k n : ℕ) (xs : List A) → k ≤ n → take k (take n xs) ≡ take k xs
 take-front zero n xs l = refl
@@ -50,7 +53,8 @@ begins-more old new b e =
     let l : 8 ≤ length old = omega (arith, length-take 8 old, ap length b) in
     sym (take-front 8 (length old) new l) ∙ (ap (take 8) e ∙ b)
 
-pub sound-more : (s : Stored) (names : List Text) → IsSound s → IsTable names → take (length s.names) names ≡ s.names → IsSound (with_names s names)
+pub sound-more : (s : Stored) (names : List Text) → IsSound s → IsTable names → take (length s.names) names ≡ s.names
+    → IsSound (with_names s names)
 sound-more s names h t e = record {
   names = t;
   begins = begins-more s.names names h.begins e;
@@ -75,7 +79,8 @@ indicator-below n (var v) k e h = absurd cc
 indicator-below n (int i) k e h = absurd cc
 indicator-below n (node f ts) k e h = subst (λ (o : Option Pi). IfSome o (λ k. k.name.0 < n)) e h.0
 
-numbered-push : (n : ℕ) (k : Pi) (rs : List NumberedClause) (r : NumberedClause) → All (λ r. IsNumberedClause n k r) rs → IsNumberedClause n k r → All (λ r. IsNumberedClause n k r) (rs ++ r ∷ [])
+numbered-push : (n : ℕ) (k : Pi) (rs : List NumberedClause) (r : NumberedClause) → All (λ r. IsNumberedClause n k r) rs
+    → IsNumberedClause n k r → All (λ r. IsNumberedClause n k r) (rs ++ r ∷ [])
 numbered-push n k rs r h s = All-push (λ (q : NumberedClause). IsNumberedClause n k q) rs r h s
 
 numbered-none : (n : ℕ) (k : Pi) → All (λ r. IsNumberedClause n k r) []
@@ -87,23 +92,28 @@ new-row n k r s = record { name = indicator-below n r.head k s.for s.head_names;
 more-row : (n : ℕ) (k : Pi) (p : Row) (r : NumberedClause) → IsRow n k p → IsNumberedClause n k r → IsRow n k (extended_row (Some p) r)
 more-row n k p r h s = record { name = h.name; clauses = numbered-push n k p.clauses r h.clauses s }
 
-row-found : (n : ℕ) (k : Pi) (rows : Rows) (r : NumberedClause) → AreRows n rows → IsNumberedClause n k r → IsRow n k (extended_row (row_in rows k) r)
+row-found : (n : ℕ) (k : Pi) (rows : Rows) (r : NumberedClause) → AreRows n rows → IsNumberedClause n k r
+    → IsRow n k (extended_row (row_in rows k) r)
 row-found n k [] r h s = new-row n k r s
 row-found n k (e ∷ es) r h s =
     by_test (pi_eq k e.0)
     (λ y. subst (λ (o : Option Row). IsRow n k (extended_row o r)) (sym (if_true (pi_eq k e.0) (Some e.1) (row_in es k) y))
     (more-row n k e.1 r (subst (λ (x : Pi). IsRow n x e.1) (sym (same-pi k e.0 y)) h.0) s))
-    (λ y. subst (λ (o : Option Row). IsRow n k (extended_row o r)) (sym (if_false (pi_eq k e.0) (Some e.1) (row_in es k) y)) (row-found n k es r h.1 s))
+    (λ y. subst (λ (o : Option Row). IsRow n k (extended_row o r)) (sym (if_false (pi_eq k e.0) (Some e.1) (row_in es k) y))
+    (row-found n k es r h.1 s))
 
 pub row-put : (n : ℕ) (k : Pi) (p : Row) (rows : Rows) → AreRows n rows → IsRow n k p → AreRows n (with_row rows k p)
 row-put n k p [] h s = (s, tt)
 row-put n k p (e ∷ es) h s =
     by_test (pi_eq k e.0)
-    (λ y. subst (λ (rs : Rows). AreRows n rs) (sym (if_true (pi_eq k e.0) ((e.0, p) ∷ es) (e ∷ with_row es k p) y)) (subst (λ (x : Pi). IsRow n x p) (same-pi k e.0 y) s, h.1))
-    (λ y. subst (λ (rs : Rows). AreRows n rs) (sym (if_false (pi_eq k e.0) ((e.0, p) ∷ es) (e ∷ with_row es k p) y)) (h.0, row-put n k p es h.1 s))
+    (λ y. subst (λ (rs : Rows). AreRows n rs) (sym (if_true (pi_eq k e.0) ((e.0, p) ∷ es) (e ∷ with_row es k p) y))
+    (subst (λ (x : Pi). IsRow n x p) (same-pi k e.0 y) s, h.1))
+    (λ y. subst (λ (rs : Rows). AreRows n rs) (sym (if_false (pi_eq k e.0) ((e.0, p) ∷ es) (e ∷ with_row es k p) y))
+    (h.0, row-put n k p es h.1 s))
 
 -- a clause that joins
-pub sound-joins : (s : Stored) (k : Pi) (r : NumberedClause) → IsSound s → IsNumberedClause (length s.names) k r → IsSound (with_numbered_clause s k r)
+pub sound-joins : (s : Stored) (k : Pi) (r : NumberedClause) → IsSound s → IsNumberedClause (length s.names) k r
+    → IsSound (with_numbered_clause s k r)
 sound-joins s k r h i = record {
   names = h.names;
   begins = h.begins;
@@ -121,7 +131,8 @@ module _ {P : Type 0} (term : P → Term ℕ) where
   body-counted h None = tt
   body-counted h (Some p) = within-count (term p) (max (variable_count (term h)) (variable_count (term p))) (omega arith)
 
-pub numbered-made : (old new : List Text) (k : Pi) (r : NumberedClause) (head : Term ℕ) (n : ℕ) → take (length old) new ≡ old → Some k ≡ pi_of head → r.head ≡ head → HasNames (length old) head → HasNames (length new) r.body
+pub numbered-made : (old new : List Text) (k : Pi) (r : NumberedClause) (head : Term ℕ) (n : ℕ) → take (length old) new ≡ old
+    → Some k ≡ pi_of head → r.head ≡ head → HasNames (length old) head → HasNames (length new) r.body
     → r.vars ≡ n → IsWithin n head → IsWithin n r.body → IsNumberedClause (length new) k r
 numbered-made old new k r head n e f own h b v wh wb = record {
   for = ap pi_of own ∙ sym f;
@@ -148,17 +159,23 @@ module _ (old new : List Text) (kept : take (length old) new ≡ old) where
 
   clause-kept : (k : Pi) (r : NumberedClause) → IsNumberedClause (length old) k r → clause_named new r ≡ clause_named old r
   clause-kept k r h =
-      ap (λ (t : Term Text). let c : Clause = record { id = r.id; head = t; body = named new r.body; variables = r.vars } in c) (named-more old new kept r.head h.head_names)
-      ∙ ap (λ (t : Term Text). let c : Clause = record { id = r.id; head = named old r.head; body = t; variables = r.vars } in c) (named-more old new kept r.body h.body_names)
+      ap (λ (t : Term Text). let c : Clause = record { id = r.id; head = t; body = named new r.body; variables = r.vars } in c)
+      (named-more old new kept r.head h.head_names)
+      ∙ ap (λ (t : Term Text). let c : Clause = record { id = r.id; head = named old r.head; body = t; variables = r.vars } in c)
+      (named-more old new kept r.body h.body_names)
 
-  clauses-kept : (k : Pi) (rs : List NumberedClause) → All (λ r. IsNumberedClause (length old) k r) rs → map (clause_named new) rs ≡ map (clause_named old) rs
+  clauses-kept : (k : Pi) (rs : List NumberedClause) → All (λ r. IsNumberedClause (length old) k r) rs
+      → map (clause_named new) rs ≡ map (clause_named old) rs
   clauses-kept k [] h = refl
   clauses-kept k (r ∷ rs) h =
-      ap (λ (c : Clause). c ∷ map (clause_named new) rs) (clause-kept k r (All-head (λ (r : NumberedClause). IsNumberedClause (length old) k r) r rs h))
-      ∙ ap (λ (cs : List Clause). clause_named old r ∷ cs) (clauses-kept k rs (All-tail (λ (r : NumberedClause). IsNumberedClause (length old) k r) r rs h))
+      ap (λ (c : Clause). c ∷ map (clause_named new) rs)
+      (clause-kept k r (All-head (λ (r : NumberedClause). IsNumberedClause (length old) k r) r rs h))
+      ∙ ap (λ (cs : List Clause). clause_named old r ∷ cs) (clauses-kept k rs
+      (All-tail (λ (r : NumberedClause). IsNumberedClause (length old) k r) r rs h))
 
   row-kept : (k : Pi) (p : Row) → IsRow (length old) k p → row_named new p ≡ row_named old p
-  row-kept k p h = ap (λ (cs : List Clause). let q : Procedure = record { dynamic = p.dynamic; clauses = cs } in q) (clauses-kept k p.clauses h.clauses)
+  row-kept k p h =
+      ap (λ (cs : List Clause). let q : Procedure = record { dynamic = p.dynamic; clauses = cs } in q) (clauses-kept k p.clauses h.clauses)
 
   rows-kept : (rows : Rows) → AreRows (length old) rows → rows_named new rows ≡ rows_named old rows
   rows-kept [] h = refl
@@ -167,9 +184,12 @@ module _ (old new : List Text) (kept : take (length old) new ≡ old) where
       ∙ (ap (λ (p : Procedure). (indicator_named old e.0, p) ∷ rows_named new es) (row-kept e.0 e.1 h.0)
       ∙ ap (λ (ps : List (Indicator × Procedure)). (indicator_named old e.0, row_named old e.1) ∷ ps) (rows-kept es h.1))
 
-pub world-kept : (s : Stored) (names : List Text) → take (length s.names) names ≡ s.names → IsSound s → world_of (with_names s names) ≡ world_of s
+pub world-kept : (s : Stored) (names : List Text) → take (length s.names) names ≡ s.names → IsSound s
+    → database_of (with_names s names) ≡ database_of s
 world-kept s names kept h =
-    ap (λ (ps : List (Indicator × Procedure)). let w : World = record { procedures = ps; next = s.next; table = s.table; flags = s.flags } in w) (rows-kept s.names names kept s.rows h.rows)
+    ap (λ (ps : List (Indicator × Procedure)).
+    let w : Database = record { procedures = ps; next = s.next; table = s.table; flags = s.flags } in w)
+    (rows-kept s.names names kept s.rows h.rows)
 
 -- of a store, by its fields, to which names join: it is sound as before, and has the same world
 module _ (l : Locked) (old new : List Text) (t : Table) (f : Flags) (rows : Rows) (next : ℕ) where
@@ -179,9 +199,10 @@ module _ (l : Locked) (old new : List Text) (t : Table) (f : Flags) (rows : Rows
   pub joined-sound : IsSound before → IsTable new → take (length old) new ≡ old → IsSound (with_names before new)
   joined-sound h table kept = sound-more before new h table kept
 
-  pub joined-world : IsSound before → take (length old) new ≡ old → world_of (with_names before new) ≡ world_of before
+  pub joined-world : IsSound before → take (length old) new ≡ old → database_of (with_names before new) ≡ database_of before
   joined-world h kept = world-kept before new kept h
 
-  pub joined-exact : {A E : Type 0} (r : Result A E) (name : Text) → OnOk r (new ≡ with_name old name) → OnOk r (with_names before new ≡ with_names before (with_name old name))
+  pub joined-exact : {A E : Type 0} (r : Result A E) (name : Text) → OnOk r (new ≡ with_name old name)
+      → OnOk r (with_names before new ≡ with_names before (with_name old name))
   joined-exact (Ok a) name e = ap (λ (ns : List Text). with_names before ns) e
   joined-exact (Err x) name e = tt

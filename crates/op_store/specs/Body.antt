@@ -3,8 +3,8 @@
 -- a number, which is refused.
 use Rattle.std.specs.Prelude.{ℕ, suc, ◌+◌, List, [], ◌∷◌, Option, Some, None, option_map, if◌then◌else◌, bytes_eq, codes}
 use Rattle.op_logic.specs.Term.{Term, var, int, node, Args, no_args, arg}
-use Rattle.op_store.specs.declared.body_part.Part.{Part}
-use Rattle.op_store.specs.declared.body_part.Part.TheVariants.{Conjunction, Disjunction, IfThen, Variable, Goal, Number}
+use Rattle.op_store.specs.declared.bodies.body_part.Part.{Part}
+use Rattle.op_store.specs.declared.bodies.body_part.Part.TheVariants.{Conjunction, Disjunction, IfThen, Variable, Goal, Number}
 
 -- a compound of two arguments, by its name
 abbrev pub part_of_pair : List ℕ → Part

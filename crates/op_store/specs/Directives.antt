@@ -1,14 +1,15 @@
 -- Directives (ISO/IEC 13211-1, 7.4.2): what they make of a world.
-use Rattle.std.specs.Prelude.{ℕ, pos, negsuc, ℤ, nat_le, Bool, true, false, List, [], ◌∷◌, ◌++◌, Option, Some, None, option_map, option_and_then, Result, Ok, Err, bytes_eq, codes, if◌then◌else◌}
+use Rattle.std.specs.Prelude.{ℕ, pos, negsuc, ℤ, nat_le, Bool, true, false, List, [], ◌∷◌, ◌++◌, Option, Some, None, option_map}
+use Rattle.std.specs.Prelude.{option_and_then, Result, Ok, Err, bytes_eq, codes, if◌then◌else◌}
 use Rattle.op_logic.specs.Term.{Term, var, int, node, Args, no_args, arg}
-use Rattle.op_trace.specs.World.{Text}
+use Rattle.op_trace.specs.Database.{Text}
 use Rattle.op_term.specs.Ops.{Table, set_in}
 use Rattle.op_term.specs.declared.ops.OpKind.{OpKind}
 use Rattle.op_term.specs.declared.ops.OpKind.TheVariants.{Xfx, Xfy, Yfx, Fy, Fx, Xf, Yf}
-use Rattle.op_reader.specs.declared.quotes.DoubleQuotes.{DoubleQuotes}
-use Rattle.op_reader.specs.declared.quotes.DoubleQuotes.TheVariants.{Codes, Chars, Atom}
-use Rattle.op_store.specs.declared.locked.Locked.{Locked}
-use Rattle.op_store.specs.World.{Indicator, name_arity, Procedure, World, procedure_in, set_procedure, no_clauses}
+use Rattle.op_term.specs.declared.quotes.DoubleQuotes.{DoubleQuotes}
+use Rattle.op_term.specs.declared.quotes.DoubleQuotes.TheVariants.{Codes, Chars, Atom}
+use Rattle.op_store.specs.declared.names.locked.Locked.{Locked}
+use Rattle.op_trace.specs.Database.{Indicator, name_arity, Procedure, Database, procedure_in, set_procedure, no_clauses}
 use Rattle.op_store.specs.Locked.{is_locked}
 use Rattle.op_store.specs.Fault.{Fault, locked, directive, and_then}
 
@@ -82,20 +83,20 @@ or_directive (Some a) = Ok a
 or_directive None = Err directive
 
 -- a procedure that has static clauses can't become dynamic
-abbrev pub may_change : World → Indicator → Option Procedure → Result World Fault
+abbrev pub may_change : Database → Indicator → Option Procedure → Result Database Fault
 may_change w k None = Ok (set_procedure w k no_clauses)
 may_change w k (Some p) = if p.dynamic then Ok w else Err directive
 
-abbrev pub made_dynamic : Locked → World → Indicator → Result World Fault
+abbrev pub made_dynamic : Locked → Database → Indicator → Result Database Fault
 made_dynamic l w k = if is_locked l k then Err (locked k) else may_change w k (procedure_in w.procedures k)
 
 -- from the left, each entry for its form, then for what it names
-abbrev pub all_dynamic : Locked → World → List (Term Text) → Result World Fault
+abbrev pub all_dynamic : Locked → Database → List (Term Text) → Result Database Fault
 all_dynamic l w [] = Ok w
 all_dynamic l w (t ∷ ts) = and_then (or_directive (indicator t)) (λ k. and_then (made_dynamic l w k) (λ u. all_dynamic l u ts))
 
 -- entries that have no effect
-abbrev pub all_indicate : World → List (Term Text) → Result World Fault
+abbrev pub all_indicate : Database → List (Term Text) → Result Database Fault
 all_indicate w [] = Ok w
 all_indicate w (t ∷ ts) = and_then (or_directive (indicator t)) (λ k. all_indicate w ts)
 
@@ -130,7 +131,7 @@ abbrev pub is_priority : ℤ → Bool
 is_priority (pos n) = nat_le n 1200
 is_priority (negsuc n) = false
 
-abbrev pub with_ops : World → Option ℤ → Option OpKind → Option (List Text) → Result World Fault
+abbrev pub with_ops : Database → Option ℤ → Option OpKind → Option (List Text) → Result Database Fault
 with_ops w (Some p) (Some kind) (Some names) =
     if is_priority p then and_then (ops_set p kind w.table names) (λ table. Ok (record w { table = table })) else Err directive
 with_ops w p kind names = Err directive
@@ -150,20 +151,22 @@ unknown_named f =
     if is_name f (codes "fail") then Some true else
     None
 
-abbrev pub with_flag : World → Text → Text → Result World Fault
+abbrev pub with_flag : Database → Text → Text → Result Database Fault
 with_flag w flag value =
     if is_name flag (codes "double_quotes")
-    then and_then (or_directive (quotes_named value)) (λ q. Ok (record w { flags = record { quotes = q; unknown_fails = w.flags.unknown_fails } })) else
+    then and_then (or_directive (quotes_named value))
+    (λ q. Ok (record w { flags = record { quotes = q; unknown_fails = w.flags.unknown_fails } })) else
     if is_name flag (codes "unknown")
-    then and_then (or_directive (unknown_named value)) (λ b. Ok (record w { flags = record { quotes = w.flags.quotes; unknown_fails = b } })) else
+    then and_then (or_directive (unknown_named value))
+    (λ b. Ok (record w { flags = record { quotes = w.flags.quotes; unknown_fails = b } })) else
     Err directive
 
-abbrev pub with_flag_of : World → Option Text → Option Text → Result World Fault
+abbrev pub with_flag_of : Database → Option Text → Option Text → Result Database Fault
 with_flag_of w (Some flag) (Some value) = with_flag w flag value
 with_flag_of w flag value = Err directive
 
 -- the goal of initialization/1 is noted and not run
-abbrev pub of_one : Locked → World → Text → Term Text → Result World Fault
+abbrev pub of_one : Locked → Database → Text → Term Text → Result Database Fault
 of_one l w f t =
     if is_name f (codes "dynamic") then all_dynamic l w (entries t) else
     if is_name f (codes "discontiguous") then all_indicate w (entries t) else
@@ -172,9 +175,10 @@ of_one l w f t =
     Err directive
 
 -- what a directive makes of a world; another one, or one with unfit arguments, is refused
-abbrev pub directed : Locked → World → Term Text → Result World Fault
+abbrev pub directed : Locked → Database → Term Text → Result Database Fault
 directed l w (node f (arg t no_args)) = of_one l w f t
-directed l w (node f (arg t (arg u no_args))) = if is_name f (codes "set_prolog_flag") then with_flag_of w (atom_name t) (atom_name u) else Err directive
+directed l w (node f (arg t (arg u no_args))) =
+    if is_name f (codes "set_prolog_flag") then with_flag_of w (atom_name t) (atom_name u) else Err directive
 directed l w (node f (arg t (arg u (arg v no_args)))) =
     if is_name f (codes "op") then with_ops w (integer t) (option_and_then op_kind (atom_name u)) (operator_names v) else Err directive
 directed l w t = Err directive

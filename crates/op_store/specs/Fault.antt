@@ -1,7 +1,7 @@
 -- Why a term of a text is refused.
 use Rattle.std.specs.Prelude.{Result, Ok, Err}
 use Rattle.op_reader.specs.declared.fault.ReadFaultKind.{ReadFaultKind}
-use Rattle.op_store.specs.World.{Indicator}
+use Rattle.op_trace.specs.Database.{Indicator}
 
 -- it can't be read; something stands behind a goal; a clause's head or body is none; no clause may be for its name; no such directive
 pub data Fault : Type 0 where

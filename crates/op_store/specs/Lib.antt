@@ -1,8 +1,6 @@
 pub mod Body
 pub mod Nodes
-pub mod Walk
 pub mod BodyExamples
-pub mod World
 pub mod Locked
 pub mod Fault
 pub mod Directives
@@ -10,11 +8,8 @@ pub mod Clauses
 pub mod Load
 pub mod LoadExamples
 pub mod Rows
-pub mod Parts
-pub mod Told
 pub mod Queries
 pub mod Counted
-pub mod Converted
 pub mod Stored
-pub mod Shapes
 pub mod Snapshots
+pub mod inner

@@ -1,16 +1,17 @@
 -- Loading a text, and reading a goal and a command. Terms are read one after the other with the operators and flags of that moment.
-use Rattle.std.specs.Prelude.{ℕ, zero, suc, ◌+◌, ◌==◌, ◌||◌, not, nat_lt, Bool, List, [], ◌∷◌, ◌++◌, take, drop, length, filter, count_by, Option, Some, None, Result, Ok, Err, codes, bytes_eq, if◌then◌else◌}
+use Rattle.std.specs.Prelude.{ℕ, zero, suc, ◌+◌, ◌==◌, ◌||◌, not, nat_lt, Bool, List, [], ◌∷◌, ◌++◌, take, drop, length, filter, count_by}
+use Rattle.std.specs.Prelude.{Option, Some, None, Result, Ok, Err, codes, bytes_eq, if◌then◌else◌}
 use Rattle.op_logic.specs.Term.{Term}
 use Rattle.op_store.specs.Counted.{variable_count}
-use Rattle.op_trace.specs.World.{Text}
+use Rattle.op_trace.specs.Database.{Text}
 use Rattle.op_term.specs.Ops.{Table}
 use Rattle.op_token.specs.Tokens.{scan_of}
-use Rattle.op_reader.specs.declared.quotes.DoubleQuotes.{DoubleQuotes}
+use Rattle.op_term.specs.declared.quotes.DoubleQuotes.{DoubleQuotes}
 use Rattle.op_reader.specs.declared.fault.ReadFaultKind.{ReadFaultKind}
 use Rattle.op_reader.specs.declared.fault.ReadFaultKind.TheVariants.{NoEnd}
 use Rattle.op_reader.specs.Reading.{Outcome, term, end, refused, reading_of, first_place}
-use Rattle.op_store.specs.declared.locked.Locked.{Locked}
-use Rattle.op_store.specs.World.{World}
+use Rattle.op_store.specs.declared.names.locked.Locked.{Locked}
+use Rattle.op_trace.specs.Database.{Database}
 use Rattle.op_store.specs.Body.{converted}
 use Rattle.op_store.specs.Fault.{Fault, syntax, trailing, body}
 use Rattle.op_store.specs.Clauses.{with_term}
@@ -37,18 +38,18 @@ fault_line line bytes place = line_at line bytes (if nat_lt place (length bytes)
 
 -- a world, and the first fault
 pub record Loaded : Type 0 where
-  pub world : World
+  pub world : Database
   pub found : Option Found
 
-abbrev pub loaded : World → Loaded
+abbrev pub loaded : Database → Loaded
 loaded w = record { world = w; found = None }
 
 -- the world before the refused term
-abbrev pub stopped : World → ℕ → Fault → Loaded
+abbrev pub stopped : Database → ℕ → Fault → Loaded
 stopped w line f = record { world = w; found = Some (record { line = line; fault = f }) }
 
 -- at most so many terms of bytes that begin at a line
-unfoldable pub load_from : ℕ → Locked → World → ℕ → List ℕ → Loaded
+unfoldable pub load_from : ℕ → Locked → Database → ℕ → List ℕ → Loaded
 load_from zero l w line bytes = loaded w
 load_from (suc n) l w line bytes =
     elim (reading_of w.table w.flags.quotes bytes) [
@@ -62,7 +63,7 @@ load_from (suc n) l w line bytes =
     ]
 
 -- a whole text, in which each term takes a byte at least
-abbrev pub load_text : Locked → World → List ℕ → Loaded
+abbrev pub load_text : Locked → Database → List ℕ → Loaded
 load_text l w text = load_from (suc (length text)) l w 1 text
 
 -- a goal with its variables' names and how many variables there are

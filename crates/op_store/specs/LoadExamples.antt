@@ -2,18 +2,18 @@
 use Rattle.std.specs.Prelude.{◌≡◌, ℕ, pos, true, false, List, [], ◌∷◌, Some, None, Ok, Err, codes, refl}
 use Rattle.op_logic.specs.Term.{Term, var, int, node, atom, no_args, arg}
 use Rattle.op_term.specs.Ops.{iso_table, iso_rows}
-use Rattle.op_trace.specs.World.{Clause, Text}
-use Rattle.op_reader.specs.declared.quotes.DoubleQuotes.TheVariants.{Codes}
+use Rattle.op_trace.specs.Database.{Clause, Text}
+use Rattle.op_term.specs.declared.quotes.DoubleQuotes.TheVariants.{Codes}
 use Rattle.op_reader.specs.declared.fault.ReadFaultKind.TheVariants.{NoEnd, NoOperand, Priority}
 use Rattle.op_reader.specs.Reading.{reading_of}
 use Rattle.op_reader.specs.Row.{tree_of}
-use Rattle.op_store.specs.declared.locked.Locked.TheVariants.{Program, Analysis}
-use Rattle.op_store.specs.World.{World, name_arity, Procedure, no_clauses}
+use Rattle.op_store.specs.declared.names.locked.Locked.TheVariants.{Program, Analysis}
+use Rattle.op_trace.specs.Database.{Indicator, Database, name_arity, Procedure, no_clauses}
 use Rattle.op_store.specs.Locked.{builtins, commands}
 use Rattle.op_store.specs.Fault.{Fault, syntax, trailing, head, body, locked, directive}
 use Rattle.op_store.specs.Load.{Loaded, stopped, load_from, load_text, query, goal_of, goal_in, command_of, unreadable}
 
-abbrev start : World
+abbrev start : Database
 start = record { procedures = []; next = 0; table = iso_table; flags = record { quotes = Codes; unknown_fails = false } }
 
 abbrev load : List ℕ → Loaded
@@ -37,11 +37,17 @@ static cs = record { dynamic = false; clauses = cs }
 abbrev truth : Term Text
 truth = atom (codes "true")
 
+-- the world at first with these procedures, and the number of the next clause
+abbrev made : List (Indicator × Procedure) → ℕ → Database
+made ps n = record start { procedures = ps; next = n }
+
 -- what was found
 abbrev fault_of : Loaded → ℕ → Fault → Type 0
 fault_of l line f = l.found ≡ Some (record { line = line; fault = f })
 
-pub two_clauses : (load (codes "a. p(X) :- X.")).world ≡ record start { procedures = (name_arity (codes "a") 0, static (clause 0 a truth 0 ∷ [])) ∷ (name_arity (codes "p") 1, static (clause 1 (one (codes "p") (var 0)) (one (codes "call") (var 0)) 1 ∷ [])) ∷ []; next = 2 }
+pub two_clauses : (load (codes "a. p(X) :- X.")).world
+    ≡ made ((name_arity (codes "a") 0, static (clause 0 a truth 0 ∷ []))
+    ∷ (name_arity (codes "p") 1, static (clause 1 (one (codes "p") (var 0)) (one (codes "call") (var 0)) 1 ∷ [])) ∷ []) 2
 unfolding load_from reading_of iso_table iso_rows tree_of builtins commands
 two_clauses = refl
 
@@ -50,7 +56,8 @@ unfolding load_from reading_of iso_table iso_rows tree_of builtins commands
 two_necks = refl
 
 -- the operators of the moment
-pub an_operator : (load (codes ":- op(700,xfx,===>). p(a ===> a).")).world.procedures ≡ (name_arity (codes "p") 1, static (clause 0 (one (codes "p") (two (codes "===>") a a)) truth 0 ∷ [])) ∷ []
+pub an_operator : (load (codes ":- op(700,xfx,===>). p(a ===> a).")).world.procedures
+    ≡ (name_arity (codes "p") 1, static (clause 0 (one (codes "p") (two (codes "===>") a a)) truth 0 ∷ [])) ∷ []
 unfolding load_from reading_of iso_table iso_rows tree_of builtins commands
 an_operator = refl
 
@@ -58,11 +65,14 @@ pub an_operator_too_late : fault_of (load (codes "p(a ===> a).\n:- op(700,xfx,==
 unfolding load_from reading_of iso_table iso_rows tree_of builtins commands
 an_operator_too_late = refl
 
-pub a_dynamic_procedure : (load (codes ":- dynamic q/1, r/0.\nq(1).")).world.procedures ≡ (name_arity (codes "q") 1, record { dynamic = true; clauses = clause 0 (one (codes "q") (int (pos 1))) truth 0 ∷ [] }) ∷ (name_arity (codes "r") 0, no_clauses) ∷ []
+pub a_dynamic_procedure : (load (codes ":- dynamic q/1, r/0.\nq(1).")).world.procedures
+    ≡ (name_arity (codes "q") 1, record { dynamic = true; clauses = clause 0 (one (codes "q") (int (pos 1))) truth 0 ∷ [] })
+    ∷ (name_arity (codes "r") 0, no_clauses) ∷ []
 unfolding load_from reading_of iso_table iso_rows tree_of builtins commands
 a_dynamic_procedure = refl
 
-pub dynamic_too_late : load (codes "q(1).\n\n :- dynamic q/1. a.") ≡ stopped (record start { procedures = (name_arity (codes "q") 1, static (clause 0 (one (codes "q") (int (pos 1))) truth 0 ∷ [])) ∷ []; next = 1 }) 3 directive
+pub dynamic_too_late : load (codes "q(1).\n\n :- dynamic q/1. a.")
+    ≡ stopped (made ((name_arity (codes "q") 1, static (clause 0 (one (codes "q") (int (pos 1))) truth 0 ∷ [])) ∷ []) 1) 3 directive
 unfolding load_from reading_of iso_table iso_rows tree_of builtins commands
 dynamic_too_late = refl
 
@@ -104,7 +114,8 @@ pub no_end : fault_of (load (codes "a.\n\nb")) 3 (syntax NoEnd)
 unfolding load_from reading_of iso_table iso_rows tree_of builtins commands
 no_end = refl
 
-pub a_goal : goal_of iso_table Codes (codes "p(X), a") ≡ Ok (query (two (codes ",") (one (codes "p") (var 0)) a) (two (codes ",") (one (codes "p") (var 0)) a) ((codes "X", 0) ∷ []))
+pub a_goal : goal_of iso_table Codes (codes "p(X), a")
+    ≡ Ok (query (two (codes ",") (one (codes "p") (var 0)) a) (two (codes ",") (one (codes "p") (var 0)) a) ((codes "X", 0) ∷ []))
 unfolding goal_of goal_in reading_of iso_table iso_rows tree_of
 a_goal = refl
 

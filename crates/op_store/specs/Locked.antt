@@ -2,10 +2,10 @@
 -- 7.8 and 8; print/1 and assert/1 are this project's own), the arrow of grammar rules, and in an analysis its commands.
 use Rattle.std.specs.Prelude.{ℕ, ◌==◌, Bool, ◌||◌, List, [], ◌∷◌, codes, bytes_eq, if◌then◌else◌}
 use Rattle.std.specs.List.{list_any}
-use Rattle.op_trace.specs.World.{Text}
-use Rattle.op_store.specs.World.{Indicator}
-use Rattle.op_store.specs.declared.locked.Locked.{Locked}
-use Rattle.op_store.specs.declared.locked.Locked.TheVariants.{Program, Analysis}
+use Rattle.op_trace.specs.Database.{Text}
+use Rattle.op_trace.specs.Database.{Indicator}
+use Rattle.op_store.specs.declared.names.locked.Locked.{Locked}
+use Rattle.op_store.specs.declared.names.locked.Locked.TheVariants.{Program, Analysis}
 
 -- call/4, call/6, call/7 and call/8
 abbrev pub calls : ℕ → List Text
@@ -22,13 +22,16 @@ builtins n =
     if n == 0 then
     codes "true" ∷ codes "fail" ∷ codes "false" ∷ codes "!" ∷ codes "repeat" ∷ codes "halt" ∷ codes "nl" ∷ []
     else if n == 1 then
-    codes "var" ∷ codes "nonvar" ∷ codes "atom" ∷ codes "integer" ∷ codes "number" ∷ codes "atomic" ∷ codes "compound" ∷ codes "callable" ∷ codes "ground" ∷
+    codes "var" ∷ codes "nonvar" ∷ codes "atom" ∷ codes "integer" ∷ codes "number" ∷ codes "atomic" ∷ codes "compound" ∷
+    codes "callable" ∷ codes "ground" ∷
     codes "call" ∷ codes "throw" ∷ codes "\\+" ∷ codes "once" ∷ codes "halt" ∷
     codes "asserta" ∷ codes "assertz" ∷ codes "assert" ∷ codes "retract" ∷ codes "retractall" ∷ codes "abolish" ∷
-    codes "write" ∷ codes "print" ∷ codes "writeq" ∷ codes "write_canonical" ∷ codes "put_char" ∷ codes "get_char" ∷ codes "peek_char" ∷ codes "read" ∷ []
+    codes "write" ∷ codes "print" ∷ codes "writeq" ∷ codes "write_canonical" ∷ codes "put_char" ∷
+    codes "get_char" ∷ codes "peek_char" ∷ codes "read" ∷ []
     else if n == 2 then
     codes "," ∷ codes ";" ∷ codes "->" ∷ codes "-->" ∷
-    codes "=" ∷ codes "\\=" ∷ codes "==" ∷ codes "\\==" ∷ codes "@<" ∷ codes "@=<" ∷ codes "@>" ∷ codes "@>=" ∷ codes "=.." ∷ codes "copy_term" ∷ codes "term_variables" ∷
+    codes "=" ∷ codes "\\=" ∷ codes "==" ∷ codes "\\==" ∷ codes "@<" ∷ codes "@=<" ∷ codes "@>" ∷ codes "@>=" ∷
+    codes "=.." ∷ codes "copy_term" ∷ codes "term_variables" ∷
     codes "is" ∷ codes "=:=" ∷ codes "=\\=" ∷ codes "<" ∷ codes "=<" ∷ codes ">" ∷ codes ">=" ∷
     codes "call" ∷ codes "clause" ∷
     codes "atom_length" ∷ codes "atom_chars" ∷ codes "atom_codes" ∷ codes "char_code" ∷ codes "number_chars" ∷ codes "number_codes" ∷

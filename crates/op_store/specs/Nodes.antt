@@ -2,8 +2,8 @@
 use Rattle.std.specs.Prelude.{ℕ, suc, pos, ◌-◌, ◌<◌, List, [], ◌∷◌, length, slice_index_or, codes}
 use Rattle.op_logic.specs.Term.{Term, int}
 use Rattle.op_store.specs.Body.{Body, goal, call, control}
-use Rattle.op_store.specs.declared.body_node.BodyNode.{BodyNode}
-use Rattle.op_store.specs.declared.body_node.BodyNode.TheVariants.{Goal, CallOf, And, Or, Then}
+use Rattle.op_store.specs.declared.bodies.body_node.BodyNode.{BodyNode}
+use Rattle.op_store.specs.declared.bodies.body_node.BodyNode.TheVariants.{Goal, CallOf, And, Or, Then}
 
 -- the body of a node, by the terms of the places and the bodies of the nodes behind it
 abbrev pub node_tree : {P : Type 0} → (P → Term (List ℕ)) → (ℕ → Body) → BodyNode P → Body

@@ -3,23 +3,23 @@ use Rattle.std.specs.Prelude.{◌≡◌, ◌<◌, ℕ, List, Some, None, Result,
 use Rattle.op_logic.specs.Names.{named, HasNames}
 use Rattle.op_logic.specs.Term.{IsWithin}
 use Rattle.op_store.specs.Counted.{variable_count}
-use Rattle.op_trace.specs.World.{Text}
+use Rattle.op_trace.specs.Database.{Text}
 use Rattle.op_reader.specs.declared.term_reader.Read.{Read}
 use Rattle.op_reader.specs.Reading.{AreCounted}
-use Rattle.op_store.specs.declared.goal.Goal.{Goal}
-use Rattle.op_store.specs.declared.goal.Converted.{Converted}
-use Rattle.op_store.specs.declared.goal.Converted.TheVariants as converted_as
-use Rattle.op_store.specs.declared.command_fault.CommandFault.{CommandFault}
-use Rattle.op_store.specs.declared.command_fault.CommandFault.TheVariants as faults
+use Rattle.op_store.specs.declared.goals.goal.Goal.{Goal}
+use Rattle.op_store.specs.declared.goals.goal.Converted.{Converted}
+use Rattle.op_store.specs.declared.goals.goal.Converted.TheVariants as converted_as
+use Rattle.op_store.specs.declared.goals.command_fault.CommandFault.{CommandFault}
+use Rattle.op_store.specs.declared.goals.command_fault.CommandFault.TheVariants as faults
 use Rattle.op_store.specs.Body.{converted}
 use Rattle.op_store.specs.Load.{Query, Found, Bad, unreadable, not_body, Loaded, loaded, stopped}
-use Rattle.op_store.specs.Stored.{Stored, world_of}
+use Rattle.op_store.specs.Stored.{Stored, database_of}
 use Rattle.op_store.specs.Fault.{Fault, syntax, trailing, head, body, locked, directive}
 use Rattle.op_store.specs.Rows.{indicator_named}
-use Rattle.op_store.specs.declared.load_fault.LoadFaultKind.{LoadFaultKind}
-use Rattle.op_store.specs.declared.load_fault.LoadFaultKind.TheVariants as kinds
-use Rattle.op_store.specs.declared.load_fault.LoadFault.{LoadFault}
-use Rattle.op_store.specs.declared.load_fault.LoadFault.TheVariants as load_faults
+use Rattle.op_store.specs.declared.loading.load_fault.LoadFaultKind.{LoadFaultKind}
+use Rattle.op_store.specs.declared.loading.load_fault.LoadFaultKind.TheVariants as kinds
+use Rattle.op_store.specs.declared.loading.load_fault.LoadFault.{LoadFault}
+use Rattle.op_store.specs.declared.loading.load_fault.LoadFault.TheVariants as load_faults
 
 abbrev pub query_named : List Text → Goal → Query
 query_named names g = record { body = named names g.body; names = g.names; variables = g.vars }
@@ -37,7 +37,8 @@ IsSoundConverted n (converted_as.NotBody t) = HasNames n t
 -- the goal of a term that was read, or the term, which stands for no body
 abbrev pub IsConverted : List Text → Read → Converted → Type 0
 IsConverted names r (converted_as.Goal g) =
-    ((converted (named names r.term)).body ≡ Some (named names g.body)) × (g.names ≡ r.names) × (g.vars ≡ variable_count (named names r.term))
+    ((converted (named names r.term)).body ≡ Some (named names g.body)) × (g.names ≡ r.names)
+    × (g.vars ≡ variable_count (named names r.term))
 IsConverted names r (converted_as.NotBody t) = ((converted (named names r.term)).body ≡ None) × (t ≡ r.term)
 
 -- a term that stands for no body has its names in a table of so many
@@ -69,9 +70,9 @@ TellsGoal names (Err (load_faults.At line kind)) q = q ≡ Err (record { line = 
 
 -- what loading a text tells, over the names of the store behind it
 abbrev pub TellsLoad : {U : Type 0} → Stored → Result U LoadFault → Loaded → Type 0
-TellsLoad new (Ok u) l = l ≡ loaded (world_of new)
+TellsLoad new (Ok u) l = l ≡ loaded (database_of new)
 TellsLoad new (Err load_faults.Memory) l = Unit {0}
-TellsLoad new (Err (load_faults.At line kind)) l = l ≡ stopped (world_of new) line (fault_named new.names kind)
+TellsLoad new (Err (load_faults.At line kind)) l = l ≡ stopped (database_of new) line (fault_named new.names kind)
 
 -- a name that is locked is in a table of so many
 abbrev pub IsKnownFault : ℕ → LoadFaultKind → Type 0

@@ -6,11 +6,11 @@ use Rattle.indexmap.specs.IndexMap.{insert_entry}
 use Rattle.op_logic.specs.Term.{Term, var, int, node, arity, IsWithin}
 use Rattle.op_logic.specs.Names.{name_at, named, HasNames}
 use Rattle.op_term.specs.Head.{sym}
-use Rattle.op_trace.specs.World.{Text, Clause}
+use Rattle.op_trace.specs.Database.{Text, Clause}
 use Rattle.op_bind.specs.declared.places.Clause.{Clause as NumberedClause}
-use Rattle.op_store.specs.declared.pi.Pi.{Pi}
-use Rattle.op_store.specs.declared.procedure.Procedure.{Procedure as Row}
-use Rattle.op_store.specs.World.{Indicator, name_arity, Procedure}
+use Rattle.op_store.specs.declared.procedures.pi.Pi.{Pi}
+use Rattle.op_store.specs.declared.procedures.procedure.Procedure.{Procedure as Row}
+use Rattle.op_trace.specs.Database.{Indicator, name_arity, Procedure}
 
 abbrev pub Rows : Type 0
 Rows = List (Pi × Row)

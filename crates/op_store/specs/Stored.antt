@@ -3,13 +3,13 @@ use Rattle.std.specs.Prelude.{◌≡◌, ℕ, suc, false, List, [], ◌∷◌, B
 use Rattle.op_logic.specs.Names.{IsTable}
 use Rattle.op_term.specs.Ops.{Table, iso_table}
 use Rattle.op_term.specs.Ops as ops
-use Rattle.op_trace.specs.World.{Text}
-use Rattle.op_reader.specs.declared.quotes.DoubleQuotes.TheVariants.{Codes}
+use Rattle.op_trace.specs.Database.{Text}
+use Rattle.op_term.specs.declared.quotes.DoubleQuotes.TheVariants.{Codes}
 use Rattle.op_bind.specs.declared.places.Clause.{Clause as NumberedClause}
-use Rattle.op_store.specs.declared.flags.Flags.{Flags}
-use Rattle.op_store.specs.declared.locked.Locked.{Locked}
-use Rattle.op_store.specs.declared.pi.Pi.{Pi}
-use Rattle.op_store.specs.World.{World, Procedure}
+use Rattle.op_trace.specs.declared.flags.Flags.{Flags}
+use Rattle.op_store.specs.declared.names.locked.Locked.{Locked}
+use Rattle.op_store.specs.declared.procedures.pi.Pi.{Pi}
+use Rattle.op_trace.specs.Database.{Database, Procedure}
 use Rattle.op_store.specs.Rows.{Rows, row_in, with_row, extended_row, all_numbered_clauses, rows_named, AreRows}
 
 -- which names are locked; the names; the operators; the flags; the procedures; the number of the next clause
@@ -21,8 +21,8 @@ pub record Stored : Type 0 where
   pub rows : Rows
   pub next : ℕ
 
-abbrev pub world_of : Stored → World
-world_of s = record { procedures = rows_named s.names s.rows; next = s.next; table = s.table; flags = s.flags }
+abbrev pub database_of : Stored → Database
+database_of s = record { procedures = rows_named s.names s.rows; next = s.next; table = s.table; flags = s.flags }
 
 -- the names that have the numbers 0 to 7: those of the control constructs (ISO/IEC 13211-1, 7.8), where call has any number of arguments
 abbrev pub first_names : List Text
@@ -30,7 +30,14 @@ first_names = codes "true" ∷ codes "fail" ∷ codes "false" ∷ codes "," ∷ 
 
 -- at first: the operators of the standard, text in double quotes as codes, and unknown procedures are errors
 abbrev pub new_store : Locked → Stored
-new_store l = record { locked = l; names = first_names; table = iso_table; flags = record { quotes = Codes; unknown_fails = false }; rows = []; next = 0 }
+new_store l = record {
+  locked = l;
+  names = first_names;
+  table = iso_table;
+  flags = record { quotes = Codes; unknown_fails = false };
+  rows = [];
+  next = 0;
+}
 
 -- a clause joins at the end of its procedure
 abbrev pub with_numbered_clause : Stored → Pi → NumberedClause → Stored

@@ -1,45 +1,44 @@
-ghost use Rattle.std.specs.Prelude.{◌≡◌, ◌≢◌, ◌<◌, ℕ, [], length, take, map, option_map, Some, None, Ok, Err, IfOk, IfErr, IfSome, OnOk, OnErr, is_some, All};
+ghost use Rattle.std.specs.Prelude.{◌≡◌, ◌≢◌, ◌<◌, ℕ, [], length, take, map, option_map, Some, None, Ok, Err, IfOk, IfErr, IfSome, OnOk};
+ghost use Rattle.std.specs.Prelude.{OnErr, is_some, All};
 ghost use Rattle.op_logic.specs.Names.{IsTable, HasNames, name_at, named, with_name};
 ghost use Rattle.op_reader.specs.Reading.{reading_of};
 ghost use Rattle.op_reader.specs.Passes.{Tells, HasKnownNames};
 ghost use Rattle.op_store.specs.Directives.{made_dynamic};
 ghost use Rattle.op_logic.specs.Term.{IsWithin, Term as SpecTerm};
-ghost use Rattle.op_trace.specs.World.{procedure};
 ghost use Rattle.op_store.specs.Counted.{variable_count};
 ghost use Rattle.op_store.specs.Body.{converted};
 ghost use Rattle.op_store.specs.Clauses.{with_parts};
-ghost use Rattle.op_store.specs.Parts.{body_text, body_variables};
+ghost use Rattle.op_store.specs.inner.Parts.{body_text, body_variables};
 ghost use Rattle.op_term.specs.Ops.{set_in};
 ghost use Rattle.op_term.specs.declared.ops.OpFault.TheVariants.{Memory as want_of_memory};
-ghost use Rattle.op_store.specs.World.{procedure_in, clauses_of_world, indicator_of_term};
+ghost use Rattle.op_trace.specs.Database.{procedure_in, clauses_of_database, procedure_of, indicator_of_term};
 ghost use Rattle.op_store.specs.Load.{goal_of, command_of, load_text, load_from};
 ghost use Rattle.op_store.specs.Locked.{is_locked as the_locked};
 ghost use Rattle.op_store.specs.Rows.{row_in, indicator_named, clause_named, pi_of, IsNumberedClause};
-ghost use Rattle.op_store.specs.Snapshots.{snapshot_clauses};
 
-use crate::builtins::is_locked_name;
-use crate::clause_parts::{clause_body, clause_variables, own_term, procedure_of};
-use crate::command::read_command;
-use crate::command_fault::CommandFault;
-use crate::first_names::first_symbols;
-use crate::flags::Flags;
-use crate::goal::Goal;
-use crate::goal_text::read_goal;
-use crate::load::load_all;
-use crate::load_fault::{LoadFault, LoadFaultKind};
-use crate::locked::Locked;
-use crate::pi::Pi;
-use crate::procedures::Procedures;
-use crate::snapshot::Snapshot;
-use crate::term_fault::TermFault;
+use crate::goals::command::read_command;
+use crate::goals::command_fault::CommandFault;
+use crate::goals::goal::Goal;
+use crate::goals::goal_text::read_goal;
+use crate::loading::clause_parts::{clause_body, clause_variables, own_term, procedure_of};
+use crate::loading::load::load_all;
+use crate::loading::load_fault::{LoadFault, LoadFaultKind};
+use crate::loading::term_fault::TermFault;
+use crate::names::builtins::is_locked_name;
+use crate::names::first_names::first_symbols;
+use crate::names::locked::Locked;
+use crate::procedures::pi::Pi;
+use crate::procedures::snapshot::Snapshot;
+use crate::procedures::table::Procedures;
 use op_base::Memory;
 use op_bind::Clause;
 use op_reader::{DoubleQuotes, ReadFault, Reading, read_term};
 use op_term::{OpFault, OpKind, Ops, Sym, Symbols, Term, Tree};
+use op_trace::Flags;
 use std::alloc::Global;
 use std::marker::Model;
 
-/// A program as it stands: its names, operators, flags and procedures. A clause sees them over the numbers of the names; `world_of` says
+/// A program as it stands: its names, operators, flags and procedures. A clause sees them over the numbers of the names; `database_of` says
 /// what they are.
 #[derive(Drop)]
 pub struct Store {
@@ -54,22 +53,25 @@ pub struct Store {
 
 impl Model for Store {
     ghost use Rattle.std.specs.Coded.{codes};
-    ghost use Rattle.op_logic.specs.Code.{term_code};
+    ghost use Rattle.op_logic.specs.inner.Code.{term_code};
     ghost use Rattle.op_store.specs.Stored.{Stored, IsSound};
 
     ghost Value = { Stored };
 
     ghost coded = { Prim.hlevel (codes, term_code) };
 
-    ghost view = { λ s. record { locked = s.locked; names = s.symbols; table = s.ops; flags = s.flags; rows = s.procedures; next = s.next } };
+    ghost view = { λ s.
+        record { locked = s.locked; names = s.symbols; table = s.ops; flags = s.flags; rows = s.procedures; next = s.next } };
 
-    ghost invariant = { λ s. IsSound (record { locked = s.locked; names = s.symbols; table = s.ops; flags = s.flags; rows = s.procedures; next = s.next }) };
+    ghost invariant = { λ s.
+        IsSound (record { locked = s.locked; names = s.symbols; table = s.ops; flags = s.flags; rows = s.procedures; next = s.next }) };
 }
 
 impl Store {
     ghost use Rattle.op_store.specs.Queries.{TellsGoal, TellsCommand, TellsLoad, IsSoundGoal, IsSoundFault, IsSoundLoadFault};
-    ghost use Rattle.op_store.specs.Told.{TellsTerm, with_names};
-    ghost use Rattle.op_store.specs.Stored.{Stored, world_of, first_names, new_store, with_numbered_clause, numbered_clauses, is_dynamic_row, IsSound};
+    ghost use Rattle.op_store.specs.inner.Told.{TellsTerm, with_names};
+    ghost use Rattle.op_store.specs.Stored.{Stored, database_of, first_names, new_store, with_numbered_clause, numbered_clauses};
+    ghost use Rattle.op_store.specs.Stored.{is_dynamic_row, IsSound};
 
     /// A store without clauses, with the operators of the standard and the names of the control constructs.
     pub fn new(alloc: Global, locked: Locked) -> Result<Store, Memory>
@@ -146,10 +148,11 @@ impl Store {
     pub fn snapshot(&self, pi: Pi) -> Result<Option<Snapshot>, Memory>
         ensures clauses { IfOk result (λ o. o ≡ option_map (λ p. p.clauses) (row_in self.now.rows pi)) }
         ensures world { IfOk result (λ o. option_map (map (clause_named self.now.names)) o
-            ≡ option_map (λ p. p.clauses) (procedure_in (world_of self.now).procedures (indicator_named self.now.names pi))) }
+            ≡ option_map (λ p. p.clauses) (procedure_in (database_of self.now).procedures (indicator_named self.now.names pi))) }
         ensures sound { IfOk result (λ o. IfSome o (All (λ r. IsNumberedClause (length self.now.names) pi r))) }
         ensures procedure { IfOk result (λ o. (g : SpecTerm ℕ) → pi_of g ≡ Some pi
-            → procedure (clauses_of_world (world_of self.now)) (named self.now.names g) ≡ map (clause_named self.now.names) (snapshot_clauses o)) }
+            → option_map (λ p. p.clauses) (procedure_of (database_of self.now) (named self.now.names g))
+            ≡ option_map (map (clause_named self.now.names)) o) }
     {
         let _names = self.symbols.count();
         let _procedures = self.procedures.len();
@@ -162,7 +165,7 @@ impl Store {
     /// All clauses at this moment, procedure by procedure in order of first sight. It takes time linear in their number.
     pub fn all_clauses(&self) -> Result<Snapshot, Memory>
         ensures clauses { IfOk result (λ all. all ≡ numbered_clauses self.now) }
-        ensures world { IfOk result (λ all. map (clause_named self.now.names) all ≡ clauses_of_world (world_of self.now)) }
+        ensures world { IfOk result (λ all. map (clause_named self.now.names) all ≡ clauses_of_database (database_of self.now)) }
         ensures sound { IsSound self.now }
     {
         self.procedures.all_clauses()
@@ -170,14 +173,14 @@ impl Store {
 
     /// Whether there is a procedure, with clauses or without.
     pub fn has_procedure(&self, pi: Pi) -> bool
-        ensures { result ≡ is_some (procedure_in (world_of self.now).procedures (indicator_named self.now.names pi)) }
+        ensures { result ≡ is_some (procedure_in (database_of self.now).procedures (indicator_named self.now.names pi)) }
     {
         self.procedures.find(pi).is_some()
     }
 
     /// Whether the program may change a procedure.
     pub fn is_dynamic(&self, pi: Pi) -> bool
-        ensures { result ≡ is_dynamic_row (procedure_in (world_of self.now).procedures (indicator_named self.now.names pi)) }
+        ensures { result ≡ is_dynamic_row (procedure_in (database_of self.now).procedures (indicator_named self.now.names pi)) }
     {
         let _names = self.symbols.count();
         match self.procedures.find(pi) {
@@ -198,8 +201,8 @@ impl Store {
     /// and flags of that moment. At the first fault it stops, and what stood before the refused term stays. After a want of memory the
     /// store is as after some of the first terms. Names that were new stay.
     pub fn load(&mut self, text: &[u8]) -> Result<(), LoadFault>
-        ensures tells { TellsLoad self.new result (load_text self.old.locked (world_of self.old) text.now) }
-        ensures stands { (n : ℕ) × (world_of self.new ≡ (load_from n self.old.locked (world_of self.old) 1 text.now).world) }
+        ensures tells { TellsLoad self.new result (load_text self.old.locked (database_of self.old) text.now) }
+        ensures stands { (n : ℕ) × (database_of self.new ≡ (load_from n self.old.locked (database_of self.old) 1 text.now).world) }
         ensures sound { IfErr result (IsSoundLoadFault (length self.new.names)) }
         ensures names { take (length self.old.names) self.new.names ≡ self.old.names }
         ensures locked { self.new.locked ≡ self.old.locked }
@@ -214,7 +217,7 @@ impl Store {
         ensures sound { IfOk result (IsSoundGoal (length self.new.names)) }
         ensures kept { self.new ≡ record self.old { names = self.new.names } }
         ensures names { take (length self.old.names) self.new.names ≡ self.old.names }
-        ensures world { world_of self.new ≡ world_of self.old }
+        ensures world { database_of self.new ≡ database_of self.old }
     {
         let goal = read_goal(self.alloc, &self.ops, self.flags, &mut self.symbols, text);
         let _count = self.symbols.count();
@@ -228,7 +231,7 @@ impl Store {
         ensures refused { IfErr result (IsSoundFault (length self.new.names)) }
         ensures kept { self.new ≡ record self.old { names = self.new.names } }
         ensures names { take (length self.old.names) self.new.names ≡ self.old.names }
-        ensures world { world_of self.new ≡ world_of self.old }
+        ensures world { database_of self.new ≡ database_of self.old }
     {
         let goal = read_command(self.alloc, &self.ops, self.flags, &mut self.symbols, text);
         let _count = self.symbols.count();
@@ -238,7 +241,8 @@ impl Store {
     // Adds a clause at the end of its procedure, under the next number.
     pub(crate) fn add(&mut self, pi: Pi, head: Term, body: Term, vars: u64) -> Result<(), Memory>
         requires { IsNumberedClause (length self.old.names) pi (record { id = self.old.next; head = head; body = body; vars = vars }) }
-        ensures ok { OnOk result (self.new ≡ with_numbered_clause self.old pi (record { id = self.old.next; head = head; body = body; vars = vars })) }
+        ensures ok { OnOk result (self.new ≡ with_numbered_clause self.old pi
+            (record { id = self.old.next; head = head; body = body; vars = vars })) }
         ensures err { OnErr result (self.new ≡ self.old) }
     {
         let id = self.next;
@@ -258,12 +262,13 @@ impl Store {
     fn body_term<T: Tree>(&mut self, tree: &T, body: Option<T::At>) -> Result<Option<Term>, Memory>
         requires place { IfSome body (λ b. T.IsPlace tree.now b) }
         requires names { IfSome body (λ b. HasNames (length self.old.names) (T.term tree.now b)) }
-        ensures body { IfOk result (λ o. option_map (named self.new.names) o ≡ (converted (body_text (λ p. named self.new.names (T.term tree.now p)) body)).body) }
+        ensures body { IfOk result (λ o. option_map (named self.new.names) o
+            ≡ (converted (body_text (λ p. named self.new.names (T.term tree.now p)) body)).body) }
         ensures has { IfOk result (λ o. IfSome o (HasNames (length self.new.names))) }
         ensures within { IfOk result (λ o. (n : ℕ) → IfSome body (λ b. IsWithin n (T.term tree.now b)) → IfSome o (IsWithin n)) }
         ensures kept { self.new ≡ with_names self.old self.new.names }
         ensures names { take (length self.old.names) self.new.names ≡ self.old.names }
-        ensures world { world_of self.new ≡ world_of self.old }
+        ensures world { database_of self.new ≡ database_of self.old }
     {
         let made = clause_body(self.alloc, &mut self.symbols, tree, body);
         let _count = self.symbols.count();
@@ -276,7 +281,7 @@ impl Store {
         ensures known { IfOk result (HasKnownNames (length self.new.names)) }
         ensures kept { self.new ≡ with_names self.old self.new.names }
         ensures names { take (length self.old.names) self.new.names ≡ self.old.names }
-        ensures world { world_of self.new ≡ world_of self.old }
+        ensures world { database_of self.new ≡ database_of self.old }
     {
         let quotes = self.flags.quotes;
         let reading = read_term(self.alloc, &self.ops, quotes, &mut self.symbols, bytes);
@@ -301,7 +306,7 @@ impl Store {
     /// Makes a procedure dynamic, which it stays.
     pub(crate) fn make_dynamic(&mut self, pi: Pi) -> Result<(), TermFault>
         requires { pi.name.0 < length self.old.names }
-        ensures tells { TellsTerm self.new result (made_dynamic self.old.locked (world_of self.old) (indicator_named self.old.names pi)) }
+        ensures tells { TellsTerm self.new result (made_dynamic self.old.locked (database_of self.old) (indicator_named self.old.names pi)) }
         ensures kept { self.new ≡ record self.old { rows = self.new.rows } }
         ensures front { take (length self.old.rows) self.new.rows ≡ self.old.rows }
         ensures err { OnErr result (self.new ≡ self.old) }
@@ -327,7 +332,8 @@ impl Store {
         requires { name.0 < length self.old.names }
         ensures ok { OnOk result (set_in self.old.table priority kind (name_at self.old.names name.0) ≡ Ok self.new.table) }
         ensures kept { self.new ≡ record self.old { table = self.new.table } }
-        ensures refused { IfErr result (λ e. e ≢ want_of_memory → set_in self.old.table priority kind (name_at self.old.names name.0) ≡ Err e) }
+        ensures refused { IfErr result (λ e. e ≢ want_of_memory → set_in self.old.table priority kind (name_at self.old.names name.0)
+            ≡ Err e) }
         ensures err { OnErr result (self.new ≡ self.old) }
     {
         self.ops.set(priority, kind, self.symbols.name_of(name))
@@ -353,13 +359,14 @@ impl Store {
         requires body { IfSome body (λ b. T.IsPlace tree.now b) }
         requires body_names { IfSome body (λ b. HasNames (length self.old.names) (T.term tree.now b)) }
         ensures tells { TellsTerm self.new result
-            (with_parts self.old.locked (world_of self.old) (named self.new.names (T.term tree.now head.now))
-            (body_variables (λ p. variable_count (T.term tree.now p)) head.now body) (indicator_of_term (named self.new.names (T.term tree.now head.now)))
+            (with_parts self.old.locked (database_of self.old) (named self.new.names (T.term tree.now head.now))
+            (body_variables (λ p. variable_count (T.term tree.now p)) head.now body)
+            (indicator_of_term (named self.new.names (T.term tree.now head.now)))
             (converted (body_text (λ p. named self.new.names (T.term tree.now p)) body)).body) }
         ensures names { take (length self.old.names) self.new.names ≡ self.old.names }
         ensures locked { self.new.locked ≡ self.old.locked }
         ensures err { OnErr result (self.new ≡ with_names self.old self.new.names) }
-        ensures world { OnErr result (world_of self.new ≡ world_of self.old) }
+        ensures world { OnErr result (database_of self.new ≡ database_of self.old) }
     {
         let Some(pi) = procedure_of(tree, head) else {
             return Err(TermFault::Refused(LoadFaultKind::Head));

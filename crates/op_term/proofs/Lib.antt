@@ -1,6 +1,7 @@
+mod BuilderCalls
+mod BuilderTerms
 pub mod Heads
+mod Integers
+mod MeaningMaps
 pub mod Operators
-mod Tables
-mod Texts
-mod Laid
-mod Nodes
+mod SymbolTexts

@@ -1,5 +1,6 @@
 -- What looking up, setting and the table at first come to.
-use Rattle.std.proofs.Common.{◌≡◌, ◌≤◌, ℕ, ℤ, pos, negsuc, Bool, true, false, not, cond, ◌&&◌, ◌||◌, List, [], ◌∷◌, Option, Some, None, Result, Ok, Err, sym, ◌∙◌, ap, subst, refl, arith, is_some, IfSome, nat_eq, leb}
+use Rattle.std.proofs.Common.{◌≡◌, ◌≤◌, ℕ, ℤ, pos, negsuc, Bool, true, false, not, cond, ◌&&◌, ◌||◌, List, [], ◌∷◌, Option, Some, None}
+use Rattle.std.proofs.Common.{Result, Ok, Err, sym, ◌∙◌, ap, subst, refl, arith, is_some, IfSome, nat_eq, leb}
 use Rattle.std.specs.Prelude.{codes}
 use Rattle.std.specs.Str.{bytes_eq}
 use Rattle.std.specs.List.{list_all}
@@ -12,7 +13,8 @@ use Rattle.op_term.specs.declared.ops.OpFault.{OpFault}
 use Rattle.op_term.specs.declared.ops.OpFault.TheVariants.{Priority, Comma, Reserved, Clash}
 use Rattle.op_term.specs.declared.ops.Meaning.{Meaning}
 use Rattle.op_term.specs.declared.ops.Meanings.{Meanings}
-use Rattle.op_term.specs.Ops.{Table, no_meaning, meanings_in, with_meanings, with_op, meaning_of, changed, is_prefix, is_infix, is_postfix, is_reserved, clashes, set_in, iso_table, IsMeaning, IsTable}
+use Rattle.op_term.specs.Ops.{Table, no_meaning, meanings_in, with_meanings, with_op, meaning_of, changed, is_prefix, is_infix, is_postfix}
+use Rattle.op_term.specs.Ops.{is_reserved, clashes, set_in, iso_table, IsMeaning, IsTable}
 
 -- a name that was given meanings has these
 pub meanings-same : (t : Table) (name : List ℕ) (ms : Meanings) → meanings_in (with_meanings t name ms) name ≡ ms
@@ -24,13 +26,15 @@ meanings-same (e ∷ es) name ms = by_test (bytes_eq name e.0)
     ∙ (if_false (bytes_eq name e.0) e.1 (meanings_in (with_meanings es name ms) name) h ∙ meanings-same es name ms))
 
 -- and the others keep theirs
-pub meanings-other : (t : Table) (name : List ℕ) (ms : Meanings) (other : List ℕ) → bytes_eq other name ≡ false → meanings_in (with_meanings t name ms) other ≡ meanings_in t other
+pub meanings-other : (t : Table) (name : List ℕ) (ms : Meanings) (other : List ℕ) → bytes_eq other name ≡ false
+    → meanings_in (with_meanings t name ms) other ≡ meanings_in t other
 meanings-other [] name ms other h = if_false (bytes_eq other name) ms no_meaning h
 meanings-other (e ∷ es) name ms other h = by_test (bytes_eq name e.0)
     (λ g. let same : name ≡ e.0 = (bytes_eq-Decides name e.0).0 g in
     let apart : bytes_eq other e.0 ≡ false = subst (λ (n : List ℕ). bytes_eq other n ≡ false) same h in
     ap (λ (t : Table). meanings_in t other) (if_true (bytes_eq name e.0) ((e.0, ms) ∷ es) (e ∷ with_meanings es name ms) g)
-    ∙ (if_false (bytes_eq other e.0) ms (meanings_in es other) apart ∙ sym (if_false (bytes_eq other e.0) e.1 (meanings_in es other) apart)))
+    ∙ (if_false (bytes_eq other e.0) ms (meanings_in es other) apart
+    ∙ sym (if_false (bytes_eq other e.0) e.1 (meanings_in es other) apart)))
     (λ g. ap (λ (t : Table). meanings_in t other) (if_false (bytes_eq name e.0) ((e.0, ms) ∷ es) (e ∷ with_meanings es name ms) g)
     ∙ ap (λ (m : Meanings). cond (bytes_eq other e.0) e.1 m) (meanings-other es name ms other h))
 
@@ -42,12 +46,14 @@ Sound ms = IfSome ms.as_prefix (IsMeaning is_prefix) × IfSome ms.as_infix (IsMe
 pub sound-in : (t : Table) → IsTable t → (name : List ℕ) → Sound (meanings_in t name)
 sound-in t h name = (h.prefixes name, h.infixes name, h.postfixes name, h.apart name)
 
-meaning-sound : (class : OpKind → Bool) (n : ℕ) (kind : OpKind) → class kind ≡ true → n ≤ 1200 → IfSome (meaning_of n kind) (IsMeaning class)
+meaning-sound : (class : OpKind → Bool) (n : ℕ) (kind : OpKind) → class kind ≡ true → n ≤ 1200
+    → IfSome (meaning_of n kind) (IsMeaning class)
 meaning-sound class n kind c h =
     let some : Option Meaning = Some (record { priority = n; kind = kind }) in
     by_test (nat_eq n 0)
     (λ e. subst (λ (m : Option Meaning). IfSome m (IsMeaning class)) (sym (if_true (nat_eq n 0) None some e)) tt)
-    (λ e. subst (λ (m : Option Meaning). IfSome m (IsMeaning class)) (sym (if_false (nat_eq n 0) None some e)) (c, (let z = eqb-false n 0 e in omega arith), h))
+    (λ e. subst (λ (m : Option Meaning). IfSome m (IsMeaning class)) (sym (if_false (nat_eq n 0) None some e))
+    (c, (let z = eqb-false n 0 e in omega arith), h))
 
 or-left : (a b : Bool) → a || b ≡ false → a ≡ false
 or-left true b h = h
@@ -61,14 +67,35 @@ and-first : (a b : Bool) → a ≡ false → a && b ≡ false
 and-first true b h = absurd (let e : true ≡ false = h in cc)
 and-first false b h = refl
 
-sound-changed : (kind : OpKind) (n : ℕ) (ms : Meanings) → Sound ms → n ≤ 1200 → clashes kind ms ≡ false → Sound (changed kind (meaning_of n kind) ms)
+sound-changed : (kind : OpKind) (n : ℕ) (ms : Meanings) → Sound ms → n ≤ 1200 → clashes kind ms ≡ false
+    → Sound (changed kind (meaning_of n kind) ms)
 sound-changed Fy n ms s h c = (meaning-sound is_prefix n Fy refl h, s.1, s.2, s.3)
 sound-changed Fx n ms s h c = (meaning-sound is_prefix n Fx refl h, s.1, s.2, s.3)
-sound-changed Xfx n ms s h c = (s.0, meaning-sound is_infix n Xfx refl h, s.2, and-second (is_some (meaning_of n Xfx)) (is_some ms.as_postfix) (or-left (is_some ms.as_postfix) false c))
-sound-changed Xfy n ms s h c = (s.0, meaning-sound is_infix n Xfy refl h, s.2, and-second (is_some (meaning_of n Xfy)) (is_some ms.as_postfix) (or-left (is_some ms.as_postfix) false c))
-sound-changed Yfx n ms s h c = (s.0, meaning-sound is_infix n Yfx refl h, s.2, and-second (is_some (meaning_of n Yfx)) (is_some ms.as_postfix) (or-left (is_some ms.as_postfix) false c))
-sound-changed Xf n ms s h c = (s.0, s.1, meaning-sound is_postfix n Xf refl h, and-first (is_some ms.as_infix) (is_some (meaning_of n Xf)) c)
-sound-changed Yf n ms s h c = (s.0, s.1, meaning-sound is_postfix n Yf refl h, and-first (is_some ms.as_infix) (is_some (meaning_of n Yf)) c)
+sound-changed Xfx n ms s h c = (
+  s.0,
+  meaning-sound is_infix n Xfx refl h,
+  s.2,
+  and-second (is_some (meaning_of n Xfx)) (is_some ms.as_postfix)
+      (or-left (is_some ms.as_postfix) false c),
+)
+sound-changed Xfy n ms s h c = (
+  s.0,
+  meaning-sound is_infix n Xfy refl h,
+  s.2,
+  and-second (is_some (meaning_of n Xfy)) (is_some ms.as_postfix)
+      (or-left (is_some ms.as_postfix) false c),
+)
+sound-changed Yfx n ms s h c = (
+  s.0,
+  meaning-sound is_infix n Yfx refl h,
+  s.2,
+  and-second (is_some (meaning_of n Yfx)) (is_some ms.as_postfix)
+      (or-left (is_some ms.as_postfix) false c),
+)
+sound-changed Xf n ms s h c =
+    (s.0, s.1, meaning-sound is_postfix n Xf refl h, and-first (is_some ms.as_infix) (is_some (meaning_of n Xf)) c)
+sound-changed Yf n ms s h c =
+    (s.0, s.1, meaning-sound is_postfix n Yf refl h, and-first (is_some ms.as_infix) (is_some (meaning_of n Yf)) c)
 
 table-of : (t : Table) → ((name : List ℕ) → Sound (meanings_in t name))
     → meanings_in t (codes ",") ≡ record { as_prefix = None; as_infix = Some (record { priority = 1000; kind = Xfy }); as_postfix = None }
@@ -85,17 +112,20 @@ table-of t s c r = record {
 -- a name that differs from one that passes a test, where the other doesn't pass it
 differs : (test : List ℕ → Bool) (a b : List ℕ) → test a ≡ true → test b ≡ false → bytes_eq a b ≡ false
 differs test a b h g = by_test (bytes_eq a b)
-    (λ e. absurd (let same : a ≡ b = (bytes_eq-Decides a b).0 e in let f : test a ≡ test b = ap test same in let k : true ≡ false = sym h ∙ (f ∙ g) in cc))
+    (λ e. absurd (let same : a ≡ b = (bytes_eq-Decides a b).0 e in let f : test a ≡ test b = ap test same in let k : true ≡ false = sym h
+    ∙ (f ∙ g) in cc))
     (λ e. e)
 
-table-with : (t : Table) (n : ℕ) (kind : OpKind) (name : List ℕ) → IsTable t → n ≤ 1200 → bytes_eq name (codes ",") ≡ false → is_reserved name ≡ false
+table-with : (t : Table) (n : ℕ) (kind : OpKind) (name : List ℕ) → IsTable t → n ≤ 1200 → bytes_eq name (codes ",") ≡ false
+    → is_reserved name ≡ false
     → clashes kind (meanings_in t name) ≡ false → IsTable (with_op t n kind name)
 table-with t n kind name h small comma reserved clash =
     let ms : Meanings = changed kind (meaning_of n kind) (meanings_in t name) in
     table-of (with_op t n kind name)
     (λ other. by_test (bytes_eq other name)
     (λ e. let same : other ≡ name = (bytes_eq-Decides other name).0 e in
-    subst Sound (sym (ap (meanings_in (with_meanings t name ms)) same ∙ meanings-same t name ms)) (sound-changed kind n (meanings_in t name) (sound-in t h name) small clash))
+    subst Sound (sym (ap (meanings_in (with_meanings t name ms)) same ∙ meanings-same t name ms))
+    (sound-changed kind n (meanings_in t name) (sound-in t h name) small clash))
     (λ e. subst Sound (sym (meanings-other t name ms other e)) (sound-in t h other)))
     (meanings-other t name ms (codes ",") (differs (λ x. bytes_eq x (codes ",")) (codes ",") name refl comma) ∙ h.comma)
     (λ other r. meanings-other t name ms other (differs is_reserved other name r reserved) ∙ h.reserved other r)
@@ -104,7 +134,8 @@ err-ok : {A E : Type 0} (e : E) (a : A) {P : Type 0} → Err e ≡ Ok a → P
 err-ok e a h = absurd (cc)
 
 -- a table stays one when an operator is set
-pub IsTable-set : (t : Table) (p : ℤ) (kind : OpKind) (name : List ℕ) (new : Table) → IsTable t → set_in t p kind name ≡ Ok new → IsTable new
+pub IsTable-set : (t : Table) (p : ℤ) (kind : OpKind) (name : List ℕ) (new : Table) → IsTable t
+    → set_in t p kind name ≡ Ok new → IsTable new
 IsTable-set t (negsuc n) kind name new h e = absurd (let f : Err Priority ≡ Ok new = e in cc)
 IsTable-set t (pos n) kind name new h e = by_test (leb 1201 n)
     (λ a. absurd (let f : Err Priority ≡ Ok new = sym (if_true _ _ _ a) ∙ e in cc))
@@ -127,7 +158,9 @@ is_in class None = true
 is_in class (Some m) = class m.kind && (leb 1 m.priority && leb m.priority 1200)
 
 abbrev is_sound : Meanings → Bool
-is_sound ms = is_in is_prefix ms.as_prefix && (is_in is_infix ms.as_infix && (is_in is_postfix ms.as_postfix && not (is_some ms.as_infix && is_some ms.as_postfix)))
+is_sound ms =
+    is_in is_prefix ms.as_prefix && (is_in is_infix ms.as_infix && (is_in is_postfix ms.as_postfix && not
+    (is_some ms.as_infix && is_some ms.as_postfix)))
 
 both : (a b : Bool) → a && b ≡ true → (a ≡ true) × (b ≡ true)
 both true b h = (refl, h)
@@ -162,9 +195,11 @@ or-both false b f g h = g h
 
 reserved-are : (P : List ℕ → Type 0) → P (codes "[]") → P (codes "{}") → P (codes "|") → (name : List ℕ) → is_reserved name ≡ true → P name
 reserved-are P p q r name = or-both _ _
-    (or-both _ _ (λ e. subst P (sym ((bytes_eq-Decides name (codes "[]")).0 e)) p) (λ e. subst P (sym ((bytes_eq-Decides name (codes "{}")).0 e)) q))
+    (or-both _ _ (λ e. subst P (sym ((bytes_eq-Decides name (codes "[]")).0 e)) p)
+    (λ e. subst P (sym ((bytes_eq-Decides name (codes "{}")).0 e)) q))
     (λ e. subst P (sym ((bytes_eq-Decides name (codes "|")).0 e)) r)
 
 pub IsTable-iso : IsTable iso_table
 unfolding iso_table
-IsTable-iso = table-of iso_table (sound-all iso_table refl) refl (reserved-are (λ name. meanings_in iso_table name ≡ no_meaning) refl refl refl)
+IsTable-iso =
+    table-of iso_table (sound-all iso_table refl) refl (reserved-are (λ name. meanings_in iso_table name ≡ no_meaning) refl refl refl)

@@ -1,4 +1,5 @@
-pub mod Places
 pub mod Head
-pub mod Cells
+pub mod Integers
 pub mod Ops
+pub mod Places
+pub mod inner

@@ -1,5 +1,6 @@
 -- Operators (ISO/IEC 13211-1, 6.3.4): what a name is as an operator, the operators at first, and what setting one makes of them.
-use Rattle.std.specs.Prelude.{◌≡◌, ◌≤◌, ◌==◌, ◌||◌, ◌&&◌, ℕ, pos, negsuc, nat_le, Bool, true, false, ℤ, List, [], ◌∷◌, codes, bytes_eq, if◌then◌else◌, Option, Some, None, Result, Ok, Err, fold}
+use Rattle.std.specs.Prelude.{◌≡◌, ◌≤◌, ◌==◌, ◌||◌, ◌&&◌, ℕ, pos, negsuc, nat_le, Bool, true, false, ℤ, List, [], ◌∷◌, codes, bytes_eq}
+use Rattle.std.specs.Prelude.{if◌then◌else◌, Option, Some, None, Result, Ok, Err, fold}
 use Rattle.std.specs.Option.{IfSome, is_some}
 use Rattle.op_term.specs.declared.ops.OpKind.{OpKind}
 use Rattle.op_term.specs.declared.ops.OpKind.TheVariants.{Xfx, Xfy, Yfx, Fy, Fx, Xf, Yf}
@@ -139,5 +140,6 @@ pub record IsTable (table : Table) : Type 0 where
   pub infixes : (name : List ℕ) → IfSome (infix_in table name) (IsMeaning is_infix)
   pub postfixes : (name : List ℕ) → IfSome (postfix_in table name) (IsMeaning is_postfix)
   pub apart : (name : List ℕ) → is_some (infix_in table name) && is_some (postfix_in table name) ≡ false
-  pub comma : meanings_in table (codes ",") ≡ record { as_prefix = None; as_infix = Some (record { priority = 1000; kind = Xfy }); as_postfix = None }
+  pub comma : meanings_in table (codes ",")
+      ≡ record { as_prefix = None; as_infix = Some (record { priority = 1000; kind = Xfy }); as_postfix = None }
   pub reserved : (name : List ℕ) → is_reserved name ≡ true → meanings_in table name ≡ no_meaning

@@ -3,7 +3,7 @@ use Rattle.std.specs.Prelude.{ℕ, pos, List, [], ◌∷◌, slice_index_or}
 use Rattle.std.specs.Coded.{Coded, code_by, coded×, coded_ℕ}
 use Rattle.std.specs.Prelude.{refl}
 use Rattle.op_logic.specs.Term.{Term, int, Args, no_args, arg}
-use Rattle.op_logic.specs.Code.{terms_code}
+use Rattle.op_logic.specs.inner.Code.{terms_code}
 
 -- the term at a number
 abbrev pub term_at : List (Term ℕ) → ℕ → Term ℕ
@@ -20,4 +20,5 @@ pub record Rooted : Type 0 where
   pub root : ℕ
 
 abbrev pub rooted_code : Coded Rooted
-rooted_code = code_by (List (Term ℕ) × ℕ) (coded× terms_code coded_ℕ) (λ r. (r.terms, r.root)) (λ p. record { terms = p.0; root = p.1 }) (λ _. refl)
+rooted_code =
+    code_by (List (Term ℕ) × ℕ) (coded× terms_code coded_ℕ) (λ r. (r.terms, r.root)) (λ p. record { terms = p.0; root = p.1 }) (λ _. refl)

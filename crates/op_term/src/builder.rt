@@ -2,7 +2,8 @@ ghost use Rattle.std.specs.Prelude.{◌≡◌, ◌<◌, ◌≤◌, ◌+◌, ◌+
 ghost use Rattle.op_logic.specs.Term.{var, int, node, atom, args_of, nth_arg, arity};
 ghost use Rattle.op_term.specs.Places.{term_at, args_at};
 ghost use Rattle.op_term.specs.Head.{head};
-ghost use Rattle.op_term.specs.Cells.{stretch, count_of, shaped};
+ghost use Rattle.op_term.specs.Integers.{HasSmallIntegers};
+ghost use Rattle.op_term.specs.inner.Cells.{stretch, count_of, shaped, IsSmallShape};
 
 use crate::node::Node;
 use crate::symbols::Sym;
@@ -37,17 +38,17 @@ pub struct Builder {
 impl Model for Builder {
     ghost use Rattle.std.specs.Prelude.{List, ℕ};
     ghost use Rattle.op_logic.specs.Term.{Term as SpecTerm};
-    ghost use Rattle.op_logic.specs.Code.{terms_code};
+    ghost use Rattle.op_logic.specs.inner.Code.{terms_code};
 
     ghost Value = { List (SpecTerm ℕ) };
 
     ghost coded = { terms_code };
 
-    ghost use Rattle.op_term.specs.Cells.{terms_of, Laid};
+    ghost use Rattle.op_term.specs.inner.Cells.{terms_of, Laid, HaveSmallShapes};
 
     ghost view = { λ b. terms_of b.parts.items b.cells.items };
 
-    ghost invariant = { λ b. Laid 0 0 b.parts.items b.cells.items };
+    ghost invariant = { λ b. Laid 0 0 b.parts.items b.cells.items × HaveSmallShapes b.cells.items };
 }
 
 fn stretch_of(parts: &[u64], from: usize, n: usize) -> &[u64]
@@ -124,6 +125,7 @@ impl Builder {
     fn push(&mut self, shape: Shape, parts: &[u64]) -> Result<u64, Memory>
         requires given { All (λ p. p < length self.old) parts.now }
         requires counted { count_of shape ≡ length parts.now }
+        requires small { IsSmallShape shape }
         ensures number { IfOk result (λ r. r ≡ length self.old) }
         ensures ok { OnOk result (self.new ≡ self.old ++ shaped self.old parts.now shape ∷ []) }
         ensures err { OnErr result (self.new ≡ self.old) }
@@ -179,6 +181,13 @@ impl Builder {
             Shape::Named(_, n) => stretch_of(&self.parts, cell.from, n),
             _ => &[],
         }
+    }
+
+    /// A law for proofs: each integer has 64 bits.
+    pub(crate) fn integers_law(&self)
+        ensures { (i : ℕ) → HasSmallIntegers (term_at self.now i) }
+    {
+        let _ = &self.cells;
     }
 
     /// Drops the nodes from a number on.

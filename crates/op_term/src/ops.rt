@@ -1,5 +1,7 @@
 ghost use Rattle.std.specs.Prelude.{◌≡◌, ◌≢◌, IfOk, IfErr, OnOk, OnErr, Ok, Err, fold};
-ghost use Rattle.op_term.specs.Ops.{prefix_in, infix_in, postfix_in, is_prefix as prefix_kind, is_postfix as postfix_kind, is_infix as infix_kind, is_y_left as y_left, is_y_right as y_right, changed as the_changed, is_reserved as the_reserved, clashes as the_clash, with_op, iso_table, set_in, IsTable};
+ghost use Rattle.op_term.specs.Ops.{prefix_in, infix_in, postfix_in, is_prefix as prefix_kind, is_postfix as postfix_kind};
+ghost use Rattle.op_term.specs.Ops.{is_infix as infix_kind, is_y_left as y_left, is_y_right as y_right, changed as the_changed};
+ghost use Rattle.op_term.specs.Ops.{is_reserved as the_reserved, clashes as the_clash, with_op, iso_table, set_in, IsTable};
 ghost use Rattle.op_term.specs.declared.ops.OpFault.TheVariants.{Memory as want_of_memory};
 
 use crate::meanings::MeaningMap;

@@ -1,4 +1,6 @@
-ghost use Rattle.std.specs.Prelude.{◌≡◌, ℕ, ◌<◌, List, [], length, take, OnOk, OnErr, IfOk, All, IsUtf8};
+ghost use Rattle.std.specs.Prelude.{◌≡◌, ℕ, ◌<◌, List, [], length, take, OnOk, OnErr, IfOk, All, IsUtf8, bytes_eq, option_map};
+ghost use Rattle.std.specs.List.{position, list_any};
+ghost use Rattle.std.specs.Option.{is_some};
 ghost use Rattle.op_logic.specs.Names.{name_at, with_name, IsTable};
 
 use indexmap::IndexSet;
@@ -63,6 +65,17 @@ impl Symbols {
         let owned = String::from_str(self.alloc, name)?;
         let (at, _) = self.names.insert_full(owned)?;
         Ok(Sym(at as u64))
+    }
+
+    /// The number of a name; None where the name isn't there.
+    pub fn find(&self, name: &str) -> Option<Sym>
+        ensures index { option_map (λ s. s.0) result ≡ position (bytes_eq name.now) self.now }
+        ensures found { is_some result ≡ list_any (bytes_eq name.now) self.now }
+    {
+        match self.names.get_index_of(name) {
+            Some(at) => Some(Sym(at as u64)),
+            None => None,
+        }
     }
 
     /// The text of a name.

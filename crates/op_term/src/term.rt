@@ -1,4 +1,5 @@
 ghost use Rattle.std.specs.Prelude.{◌≡◌, ◌<◌, ℕ, length, IfOk};
+ghost use Rattle.op_term.specs.Integers.{HasSmallIntegers};
 ghost use Rattle.op_term.specs.Places.{term_at};
 
 use crate::builder::Builder;
@@ -16,7 +17,7 @@ pub struct Term {
 impl Model for Term {
     ghost use Rattle.std.specs.Prelude.{ℕ, length, ◌<◌};
     ghost use Rattle.op_logic.specs.Term.{Term as SpecTerm};
-    ghost use Rattle.op_logic.specs.Code.{term_code};
+    ghost use Rattle.op_logic.specs.inner.Code.{term_code};
     ghost use Rattle.op_term.specs.Places.{term_at};
 
     ghost Value = { SpecTerm ℕ };
@@ -35,6 +36,13 @@ impl Term {
         ensures { result ≡ term_at nodes root }
     {
         Term { nodes, root }
+    }
+
+    /// A law for proofs: each integer in it has 64 bits.
+    pub fn integers_law(&self)
+        ensures { HasSmallIntegers self.now }
+    {
+        self.nodes.integers_law();
     }
 
     /// An equal term.

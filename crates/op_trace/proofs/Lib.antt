@@ -1,3 +1,3 @@
-pub mod Later
-pub mod Agree
-pub mod Only
+pub mod WalkBarriers
+pub mod WalkRows
+pub mod WalkSteps

@@ -1,12 +1,17 @@
 -- Small runs by computation.
-use Rattle.std.specs.Prelude.{◌≡◌, ℕ, [], ◌∷◌, codes, refl}
-use Rattle.op_logic.specs.Term.{Term, var, node, no_args, arg, atom}
+use Rattle.std.specs.Prelude.{◌≡◌, ℕ, ◌+◌, false, List, [], ◌∷◌, ◌++◌, codes, refl, Option, Some, None, max, if◌then◌else◌}
+use Rattle.op_logic.specs.Term.{Term, var, node, no_args, arg, atom, term_eq}
+use Rattle.op_logic.specs.Bind.{Bindings, apply}
 use Rattle.op_trace.specs.declared.port.Port.{Port}
 use Rattle.op_trace.specs.declared.port.Port.TheVariants as port
-use Rattle.op_trace.specs.World.{Text, Clause, World, loaded, Setup, Event}
+use Rattle.op_term.specs.declared.quotes.DoubleQuotes.TheVariants.{Codes}
+use Rattle.op_trace.specs.Database.{Text, text_eq, Clause, Indicator, Database, indicator_of_term, name_arity, set_procedure, no_clauses}
+use Rattle.op_trace.specs.Database.{with_clause}
+use Rattle.op_trace.specs.World.{World, loaded, Event, Turn, Shown, Solved, Tries, Always}
+use Rattle.op_trace.specs.Act.{Act, Fails, Gives, Gives_again, done, pay, Setup, setup_for}
 use Rattle.op_trace.specs.Ending.{Failed, Stopped, Spent}
 use Rattle.op_trace.specs.Visit.{visit, visit_by, visit_with}
-use Rattle.op_trace.specs.Run.{run, events_of}
+use Rattle.op_trace.specs.Run.{Run, run, events_of, output_at}
 
 abbrev name : Text → Term Text
 name f = atom f
@@ -23,18 +28,35 @@ if_then a b = node (codes "->") (arg a (arg b no_args))
 abbrev clause : ℕ → Text → Term Text → Clause
 clause i f b = record { id = i; head = name f; body = b; variables = 0 }
 
+abbrev no_database : Database
+no_database = record { procedures = []; next = 0; table = []; flags = record { quotes = Codes; unknown_fails = false } }
+
+abbrev added : Database → Option Indicator → Clause → Database
+added d None c = d
+added d (Some k) c = with_clause d k c
+
+abbrev with_clauses : Database → List Clause → Database
+with_clauses d [] = d
+with_clauses d (c ∷ cs) = with_clauses (added d (indicator_of_term c.head) c) cs
+
+-- the world of a program of these clauses
+abbrev program : List Clause → World
+program cs = loaded (with_clauses no_database cs)
+
 abbrev event : ℕ → ℕ → ℕ → ℕ → Port → Text → Event
 event n k p d q f = record { chrono = n; call = k; parent = p; depth = d; port = q; goal = name f }
 
 abbrev setup : Setup
-setup = record { budget = 100; wanted = 1 }
+setup = setup_for 100 1
 
 abbrev all : Setup
-all = record { budget = 100; wanted = 0 }
+all = setup_for 100 0
 
 -- a :- b, c. b. c.
 abbrev first_program : World
-first_program = loaded (clause 0 (codes "a") (conjunction (name (codes "b")) (name (codes "c"))) ∷ clause 1 (codes "b") (name (codes "true")) ∷ clause 2 (codes "c") (name (codes "true")) ∷ [])
+first_program =
+    program (clause 0 (codes "a") (conjunction (name (codes "b")) (name (codes "c"))) ∷ clause 1 (codes "b") (name (codes "true"))
+    ∷ clause 2 (codes "c") (name (codes "true")) ∷ [])
 
 pub first_events : events_of (run setup (name (codes "a")) 0 first_program).turns
     ≡ event 1 1 0 1 port.Call (codes "a") ∷ event 2 2 1 2 port.Call (codes "b") ∷ event 3 2 1 2 port.Exit (codes "b")
@@ -52,7 +74,8 @@ first_steps = refl
 
 -- p :- q, r. q. q. r :- fail.
 abbrev second_program : World
-second_program = loaded (clause 0 (codes "p") (conjunction (name (codes "q")) (name (codes "r"))) ∷ clause 1 (codes "q") (name (codes "true"))
+second_program =
+    program (clause 0 (codes "p") (conjunction (name (codes "q")) (name (codes "r"))) ∷ clause 1 (codes "q") (name (codes "true"))
     ∷ clause 2 (codes "q") (name (codes "true")) ∷ clause 3 (codes "r") (name (codes "fail")) ∷ [])
 
 pub second_events : events_of (run setup (name (codes "p")) 0 second_program).turns
@@ -69,10 +92,14 @@ second_ending = refl
 
 -- p :- q, !, r. p. q. q. r :- fail. The cut removes the second q and the second p.
 abbrev cut_program : World
-cut_program = loaded (clause 0 (codes "p") (conjunction (name (codes "q")) (conjunction (name (codes "!")) (name (codes "r")))) ∷ clause 1 (codes "p") (name (codes "true")) ∷ clause 2 (codes "q") (name (codes "true")) ∷ clause 3 (codes "q") (name (codes "true")) ∷ clause 4 (codes "r") (name (codes "fail")) ∷ [])
+cut_program =
+    program (clause 0 (codes "p") (conjunction (name (codes "q")) (conjunction (name (codes "!")) (name (codes "r"))))
+    ∷ clause 1 (codes "p") (name (codes "true")) ∷ clause 2 (codes "q") (name (codes "true")) ∷ clause 3 (codes "q") (name (codes "true"))
+    ∷ clause 4 (codes "r") (name (codes "fail")) ∷ [])
 
 pub cut_events : events_of (run setup (name (codes "p")) 0 cut_program).turns
-    ≡ event 1 1 0 1 port.Call (codes "p") ∷ event 2 2 1 2 port.Call (codes "q") ∷ event 3 2 1 2 port.Exit (codes "q") ∷ event 4 3 1 2 port.Call (codes "r") ∷ event 5 3 1 2 port.Fail (codes "r") ∷ event 6 1 0 1 port.Fail (codes "p") ∷ []
+    ≡ event 1 1 0 1 port.Call (codes "p") ∷ event 2 2 1 2 port.Call (codes "q") ∷ event 3 2 1 2 port.Exit (codes "q")
+    ∷ event 4 3 1 2 port.Call (codes "r") ∷ event 5 3 1 2 port.Fail (codes "r") ∷ event 6 1 0 1 port.Fail (codes "p") ∷ []
 unfolding visit visit_by visit_with
 cut_events = refl
 
@@ -86,10 +113,17 @@ cut_steps = refl
 
 -- p :- ( q, ! -> r ; s ). p. q. r. s. The cut is local to the condition.
 abbrev condition_program : World
-condition_program = loaded (clause 0 (codes "p") (disjunction (if_then (conjunction (name (codes "q")) (name (codes "!"))) (name (codes "r"))) (name (codes "s"))) ∷ clause 1 (codes "p") (name (codes "true")) ∷ clause 2 (codes "q") (name (codes "true")) ∷ clause 3 (codes "r") (name (codes "true")) ∷ clause 4 (codes "s") (name (codes "true")) ∷ [])
+condition_program =
+    program (clause 0 (codes "p")
+    (disjunction (if_then (conjunction (name (codes "q")) (name (codes "!"))) (name (codes "r"))) (name (codes "s")))
+    ∷ clause 1 (codes "p") (name (codes "true")) ∷ clause 2 (codes "q") (name (codes "true"))
+    ∷ clause 3 (codes "r") (name (codes "true")) ∷ clause 4 (codes "s") (name (codes "true")) ∷ [])
 
 pub condition_events : events_of (run all (name (codes "p")) 0 condition_program).turns
-    ≡ event 1 1 0 1 port.Call (codes "p") ∷ event 2 2 1 2 port.Call (codes "q") ∷ event 3 2 1 2 port.Exit (codes "q") ∷ event 4 3 1 2 port.Call (codes "r") ∷ event 5 3 1 2 port.Exit (codes "r") ∷ event 6 1 0 1 port.Exit (codes "p") ∷ event 7 1 0 1 port.Redo (codes "p") ∷ event 8 3 1 2 port.Redo (codes "r") ∷ event 9 3 1 2 port.Fail (codes "r") ∷ event 10 1 0 1 port.Exit (codes "p") ∷ event 11 1 0 1 port.Redo (codes "p") ∷ event 12 1 0 1 port.Fail (codes "p") ∷ []
+    ≡ event 1 1 0 1 port.Call (codes "p") ∷ event 2 2 1 2 port.Call (codes "q") ∷ event 3 2 1 2 port.Exit (codes "q")
+    ∷ event 4 3 1 2 port.Call (codes "r") ∷ event 5 3 1 2 port.Exit (codes "r") ∷ event 6 1 0 1 port.Exit (codes "p")
+    ∷ event 7 1 0 1 port.Redo (codes "p") ∷ event 8 3 1 2 port.Redo (codes "r") ∷ event 9 3 1 2 port.Fail (codes "r")
+    ∷ event 10 1 0 1 port.Exit (codes "p") ∷ event 11 1 0 1 port.Redo (codes "p") ∷ event 12 1 0 1 port.Fail (codes "p") ∷ []
 unfolding visit visit_by visit_with
 condition_events = refl
 
@@ -103,10 +137,15 @@ condition_steps = refl
 
 -- p :- ( q, !, fail -> r ; s ). q. q. s. The cut leaves the condition no solution, and the else branch is tried.
 abbrev else_program : World
-else_program = loaded (clause 0 (codes "p") (disjunction (if_then (conjunction (name (codes "q")) (conjunction (name (codes "!")) (name (codes "fail")))) (name (codes "r"))) (name (codes "s"))) ∷ clause 1 (codes "q") (name (codes "true")) ∷ clause 2 (codes "q") (name (codes "true")) ∷ clause 3 (codes "s") (name (codes "true")) ∷ [])
+else_program =
+    program (clause 0 (codes "p") (disjunction
+    (if_then (conjunction (name (codes "q")) (conjunction (name (codes "!")) (name (codes "fail")))) (name (codes "r"))) (name (codes "s")))
+    ∷ clause 1 (codes "q") (name (codes "true"))
+    ∷ clause 2 (codes "q") (name (codes "true")) ∷ clause 3 (codes "s") (name (codes "true")) ∷ [])
 
 pub else_events : events_of (run setup (name (codes "p")) 0 else_program).turns
-    ≡ event 1 1 0 1 port.Call (codes "p") ∷ event 2 2 1 2 port.Call (codes "q") ∷ event 3 2 1 2 port.Exit (codes "q") ∷ event 4 3 1 2 port.Call (codes "s") ∷ event 5 3 1 2 port.Exit (codes "s") ∷ event 6 1 0 1 port.Exit (codes "p") ∷ []
+    ≡ event 1 1 0 1 port.Call (codes "p") ∷ event 2 2 1 2 port.Call (codes "q") ∷ event 3 2 1 2 port.Exit (codes "q")
+    ∷ event 4 3 1 2 port.Call (codes "s") ∷ event 5 3 1 2 port.Exit (codes "s") ∷ event 6 1 0 1 port.Exit (codes "p") ∷ []
 unfolding visit visit_by visit_with
 else_events = refl
 
@@ -120,10 +159,13 @@ else_steps = refl
 
 -- p :- ( q ; r ). q :- fail. r.
 abbrev branch_program : World
-branch_program = loaded (clause 0 (codes "p") (disjunction (name (codes "q")) (name (codes "r"))) ∷ clause 1 (codes "q") (name (codes "fail")) ∷ clause 2 (codes "r") (name (codes "true")) ∷ [])
+branch_program =
+    program (clause 0 (codes "p") (disjunction (name (codes "q")) (name (codes "r"))) ∷ clause 1 (codes "q") (name (codes "fail"))
+    ∷ clause 2 (codes "r") (name (codes "true")) ∷ [])
 
 pub branch_events : events_of (run setup (name (codes "p")) 0 branch_program).turns
-    ≡ event 1 1 0 1 port.Call (codes "p") ∷ event 2 2 1 2 port.Call (codes "q") ∷ event 3 2 1 2 port.Fail (codes "q") ∷ event 4 3 1 2 port.Call (codes "r") ∷ event 5 3 1 2 port.Exit (codes "r") ∷ event 6 1 0 1 port.Exit (codes "p") ∷ []
+    ≡ event 1 1 0 1 port.Call (codes "p") ∷ event 2 2 1 2 port.Call (codes "q") ∷ event 3 2 1 2 port.Fail (codes "q")
+    ∷ event 4 3 1 2 port.Call (codes "r") ∷ event 5 3 1 2 port.Exit (codes "r") ∷ event 6 1 0 1 port.Exit (codes "p") ∷ []
 unfolding visit visit_by visit_with
 branch_events = refl
 
@@ -137,10 +179,12 @@ branch_steps = refl
 
 -- p :- ( q -> r ). q :- fail.
 abbrev bare_program : World
-bare_program = loaded (clause 0 (codes "p") (if_then (name (codes "q")) (name (codes "r"))) ∷ clause 1 (codes "q") (name (codes "fail")) ∷ [])
+bare_program =
+    program (clause 0 (codes "p") (if_then (name (codes "q")) (name (codes "r"))) ∷ clause 1 (codes "q") (name (codes "fail")) ∷ [])
 
 pub bare_events : events_of (run setup (name (codes "p")) 0 bare_program).turns
-    ≡ event 1 1 0 1 port.Call (codes "p") ∷ event 2 2 1 2 port.Call (codes "q") ∷ event 3 2 1 2 port.Fail (codes "q") ∷ event 4 1 0 1 port.Fail (codes "p") ∷ []
+    ≡ event 1 1 0 1 port.Call (codes "p") ∷ event 2 2 1 2 port.Call (codes "q") ∷ event 3 2 1 2 port.Fail (codes "q")
+    ∷ event 4 1 0 1 port.Fail (codes "p") ∷ []
 unfolding visit visit_by visit_with
 bare_events = refl
 
@@ -154,10 +198,13 @@ bare_steps = refl
 
 -- p :- ( fail ; !, r ). p. r :- fail. The cut in a branch is one of the clause.
 abbrev transparent_program : World
-transparent_program = loaded (clause 0 (codes "p") (disjunction (name (codes "fail")) (conjunction (name (codes "!")) (name (codes "r")))) ∷ clause 1 (codes "p") (name (codes "true")) ∷ clause 2 (codes "r") (name (codes "fail")) ∷ [])
+transparent_program =
+    program (clause 0 (codes "p") (disjunction (name (codes "fail")) (conjunction (name (codes "!")) (name (codes "r"))))
+    ∷ clause 1 (codes "p") (name (codes "true")) ∷ clause 2 (codes "r") (name (codes "fail")) ∷ [])
 
 pub transparent_events : events_of (run setup (name (codes "p")) 0 transparent_program).turns
-    ≡ event 1 1 0 1 port.Call (codes "p") ∷ event 2 2 1 2 port.Call (codes "r") ∷ event 3 2 1 2 port.Fail (codes "r") ∷ event 4 1 0 1 port.Fail (codes "p") ∷ []
+    ≡ event 1 1 0 1 port.Call (codes "p") ∷ event 2 2 1 2 port.Call (codes "r") ∷ event 3 2 1 2 port.Fail (codes "r")
+    ∷ event 4 1 0 1 port.Fail (codes "p") ∷ []
 unfolding visit visit_by visit_with
 transparent_events = refl
 
@@ -171,7 +218,7 @@ transparent_steps = refl
 
 -- q. q. The goal is q, !.
 abbrev top_program : World
-top_program = loaded (clause 0 (codes "q") (name (codes "true")) ∷ clause 1 (codes "q") (name (codes "true")) ∷ [])
+top_program = program (clause 0 (codes "q") (name (codes "true")) ∷ clause 1 (codes "q") (name (codes "true")) ∷ [])
 
 pub top_events : events_of (run all (conjunction (name (codes "q")) (name (codes "!"))) 0 top_program).turns
     ≡ event 1 1 0 1 port.Call (codes "q") ∷ event 2 1 0 1 port.Exit (codes "q") ∷ []
@@ -188,13 +235,14 @@ top_steps = refl
 
 -- p :- p.
 abbrev loop_program : World
-loop_program = loaded (clause 0 (codes "p") (name (codes "p")) ∷ [])
+loop_program = program (clause 0 (codes "p") (name (codes "p")) ∷ [])
 
 abbrev ten : Setup
-ten = record { budget = 10; wanted = 1 }
+ten = setup_for 10 1
 
 pub loop_events : events_of (run ten (name (codes "p")) 0 loop_program).turns
-    ≡ event 1 1 0 1 port.Call (codes "p") ∷ event 2 2 1 2 port.Call (codes "p") ∷ event 3 3 2 3 port.Call (codes "p") ∷ event 4 4 3 4 port.Call (codes "p") ∷ []
+    ≡ event 1 1 0 1 port.Call (codes "p") ∷ event 2 2 1 2 port.Call (codes "p") ∷ event 3 3 2 3 port.Call (codes "p")
+    ∷ event 4 4 3 4 port.Call (codes "p") ∷ []
 unfolding visit visit_by visit_with
 loop_events = refl
 
@@ -211,9 +259,14 @@ abbrev two : Text → Term Text → Term Text → Term Text
 two f a b = node f (arg a (arg b no_args))
 
 abbrev edges : World
-edges = loaded (record { id = 0; head = two (codes "e") (name (codes "a")) (name (codes "b")); body = name (codes "true"); variables = 0 }
+edges = program (record { id = 0; head = two (codes "e") (name (codes "a")) (name (codes "b")); body = name (codes "true"); variables = 0 }
     ∷ record { id = 1; head = two (codes "e") (name (codes "b")) (name (codes "c")); body = name (codes "true"); variables = 0 }
-    ∷ record { id = 2; head = two (codes "p") (var 0) (var 1); body = conjunction (two (codes "e") (var 0) (var 2)) (two (codes "e") (var 2) (var 1)); variables = 3 } ∷ [])
+    ∷ record {
+      id = 2;
+      head = two (codes "p") (var 0) (var 1);
+      body = conjunction (two (codes "e") (var 0) (var 2)) (two (codes "e") (var 2) (var 1));
+      variables = 3;
+    } ∷ [])
 
 abbrev shown : ℕ → ℕ → ℕ → ℕ → Port → Term Text → Event
 shown n k p d q g = record { chrono = n; call = k; parent = p; depth = d; port = q; goal = g }
@@ -235,7 +288,13 @@ edge_steps = refl
 
 -- s(X,f(X)). p :- s(Y,Y).
 abbrev circle : World
-circle = loaded (record { id = 0; head = two (codes "s") (var 0) (node (codes "f") (arg (var 0) no_args)); body = name (codes "true"); variables = 1 }
+circle =
+    program (record {
+      id = 0;
+      head = two (codes "s") (var 0) (node (codes "f") (arg (var 0) no_args));
+      body = name (codes "true");
+      variables = 1;
+    }
     ∷ record { id = 1; head = name (codes "p"); body = two (codes "s") (var 0) (var 0); variables = 1 } ∷ [])
 
 pub circle_events : events_of (run setup (name (codes "p")) 0 circle).turns
@@ -243,3 +302,161 @@ pub circle_events : events_of (run setup (name (codes "p")) 0 circle).turns
     ∷ shown 3 2 1 2 port.Fail (two (codes "s") (var 0) (var 0)) ∷ shown 4 1 0 1 port.Fail (name (codes "p")) ∷ []
 unfolding visit visit_by visit_with
 circle_events = refl
+
+-- no procedure z: its box fails, provisionally
+pub missing_events : events_of (run setup (name (codes "z")) 0 (program [])).turns
+    ≡ event 1 1 0 1 port.Call (codes "z") ∷ event 2 1 0 1 port.Fail (codes "z") ∷ []
+unfolding visit visit_by visit_with
+missing_events = refl
+
+-- :- dynamic z/0. A procedure without clauses fails.
+abbrev dynamic_program : World
+dynamic_program = loaded (set_procedure no_database (name_arity (codes "z") 0) no_clauses)
+
+pub dynamic_events : events_of (run setup (name (codes "z")) 0 dynamic_program).turns
+    ≡ event 1 1 0 1 port.Call (codes "z") ∷ event 2 1 0 1 port.Fail (codes "z") ∷ []
+unfolding visit visit_by visit_with
+dynamic_events = refl
+
+pub dynamic_steps : (run setup (name (codes "z")) 0 dynamic_program).world.steps ≡ 1
+unfolding visit visit_by visit_with
+dynamic_steps = refl
+
+-- A table of acts for these examples. `hello` writes five bytes, a step for each, taken before the first; `look` looks at the next two
+-- bytes of the input, a step for each; `again` succeeds as often as it is tried; `make(X)` gives out a variable and binds X to it; `late`
+-- writes and fails.
+abbrev looks : ℕ → World → World
+looks n w = record w { looked = max w.looked (w.read + n) }
+
+abbrev makes : Term Text → Bindings Text → World → Act
+makes (node f (arg (var v) no_args)) σ w = done (record w { variables = w.variables + 1 }) (Gives ((v, var w.variables) ∷ σ))
+makes t σ w = done w Fails
+
+abbrev example_act : ℕ → Tries → Term Text → Bindings Text → World → Act
+example_act left tries g σ w =
+    if term_eq text_eq g (name (codes "hello"))
+    then pay 5 left w (λ l. done (record w { output = w.output ++ codes "hello" }) (Gives σ)) else
+    if term_eq text_eq g (name (codes "look")) then pay 1 left w (λ l. pay 1 l (looks 1 w) (λ m. done (looks 2 w) (Gives σ))) else
+    if term_eq text_eq g (name (codes "again")) then done w (Gives_again σ Always) else
+    if term_eq text_eq g (name (codes "late")) then done (record w { output = w.output ++ codes "late" }) Fails else
+    makes g σ w
+
+abbrev example_setup : ℕ → ℕ → Setup
+example_setup budget wanted = record { budget = budget; wanted = wanted; act = example_act }
+
+abbrev hello : Term Text
+hello = name (codes "hello")
+
+abbrev look : Term Text
+look = name (codes "look")
+
+-- with two bytes of input
+abbrev two_bytes : World
+two_bytes = record (program []) { input = codes "ab" }
+
+pub hello_events : events_of (run (example_setup 6 1) hello 0 (program [])).turns
+    ≡ event 1 1 0 1 port.Call (codes "hello") ∷ event 2 1 0 1 port.Exit (codes "hello") ∷ []
+unfolding visit visit_by visit_with
+hello_events = refl
+
+pub hello_output : (run (example_setup 6 1) hello 0 (program [])).world.output ≡ codes "hello"
+unfolding visit visit_by visit_with
+hello_output = refl
+
+-- a step less, and nothing is written
+pub hello_cut_off : (run (example_setup 5 1) hello 0 (program [])).ending ≡ Spent
+unfolding visit visit_by visit_with
+hello_cut_off = refl
+
+pub hello_unwritten : (run (example_setup 5 1) hello 0 (program [])).world.output ≡ []
+unfolding visit visit_by visit_with
+hello_unwritten = refl
+
+-- the step for the first byte was there, and not that for the second
+pub look_cut_off : (run (example_setup 2 1) look 0 two_bytes).ending ≡ Spent
+unfolding visit visit_by visit_with
+look_cut_off = refl
+
+pub look_half_done : (run (example_setup 2 1) look 0 two_bytes).world.looked ≡ 1
+unfolding visit visit_by visit_with
+look_half_done = refl
+
+pub look_done : (run (example_setup 3 1) look 0 two_bytes).world.looked ≡ 2
+unfolding visit visit_by visit_with
+look_done = refl
+
+-- the goal is again, fail: tried again on backtracking, a step for each further try, until the budget is spent
+pub again_events : events_of (run (example_setup 5 1) (conjunction (name (codes "again")) (name (codes "fail"))) 0 (program [])).turns
+    ≡ event 1 1 0 1 port.Call (codes "again") ∷ event 2 1 0 1 port.Exit (codes "again") ∷ event 3 1 0 1 port.Redo (codes "again")
+    ∷ event 4 1 0 1 port.Exit (codes "again") ∷ event 5 1 0 1 port.Redo (codes "again") ∷ []
+unfolding visit visit_by visit_with
+again_events = refl
+
+pub again_ending : (run (example_setup 5 1) (conjunction (name (codes "again")) (name (codes "fail"))) 0 (program [])).ending ≡ Spent
+unfolding visit visit_by visit_with
+again_ending = refl
+
+-- what looks at the same bytes again costs again and adds nothing
+pub look_twice : (run (example_setup 100 1) (conjunction look look) 0 two_bytes).world.looked ≡ 2
+unfolding visit visit_by visit_with
+look_twice = refl
+
+pub look_twice_steps : (run (example_setup 100 1) (conjunction look look) 0 two_bytes).world.steps ≡ 7
+unfolding visit visit_by visit_with
+look_twice_steps = refl
+
+-- what was written stays written when the goal fails, and at each place stands what was written by then
+abbrev written_run : Run
+written_run = run (example_setup 100 1) (disjunction (name (codes "late")) hello) 0 (program [])
+
+pub written_after_failure : output_at written_run 3 ≡ codes "late"
+unfolding visit visit_by visit_with
+written_after_failure = refl
+
+pub written_before : output_at written_run 1 ≡ []
+unfolding visit visit_by visit_with
+written_before = refl
+
+pub written_at_the_end : output_at written_run 5 ≡ codes "latehello"
+unfolding visit visit_by visit_with
+written_at_the_end = refl
+
+-- the goal is again, !: the cut drops the further tries, and nothing is redone
+pub again_cut : events_of (run (example_setup 100 0) (conjunction (name (codes "again")) (name (codes "!"))) 0 (program [])).turns
+    ≡ event 1 1 0 1 port.Call (codes "again") ∷ event 2 1 0 1 port.Exit (codes "again") ∷ []
+unfolding visit visit_by visit_with
+again_cut = refl
+
+-- the goal is make(X), z(X), with X the variable 0: the call and the exit show it under their own bindings, and numbers are given once
+pub make_events : events_of (run (example_setup 100 1)
+    (conjunction (node (codes "make") (arg (var 0) no_args)) (node (codes "z") (arg (var 0) no_args))) 1
+    (program (record { id = 0; head = node (codes "z") (arg (var 0) no_args); body = name (codes "true"); variables = 1 } ∷ []))).turns
+    ≡ shown 1 1 0 1 port.Call (node (codes "make") (arg (var 0) no_args))
+    ∷ shown 2 1 0 1 port.Exit (node (codes "make") (arg (var 1) no_args))
+    ∷ shown 3 2 0 1 port.Call (node (codes "z") (arg (var 1) no_args))
+    ∷ shown 4 2 0 1 port.Exit (node (codes "z") (arg (var 1) no_args)) ∷ []
+unfolding visit visit_by visit_with
+make_events = refl
+
+-- a run that may take the ten steps that it needs, and one that may take nine
+pub ten_steps : (run (setup_for 10 1) (name (codes "a")) 0 first_program).ending ≡ Stopped
+unfolding visit visit_by visit_with
+ten_steps = refl
+
+pub nine_steps : (run (setup_for 9 1) (name (codes "a")) 0 first_program).ending ≡ Spent
+unfolding visit visit_by visit_with
+nine_steps = refl
+
+-- both solutions of e(X,Y) are turns, with the bindings and the count of each
+abbrev edges_of_all : List Turn
+edges_of_all = (run all (two (codes "e") (var 0) (var 1)) 2 edges).turns
+
+abbrev solutions_of : List Turn → List (Term Text × ℕ)
+solutions_of [] = []
+solutions_of (Shown e w ∷ ts) = solutions_of ts
+solutions_of (Solved σ w ∷ ts) = (apply σ (two (codes "e") (var 0) (var 1)), w.solutions) ∷ solutions_of ts
+
+pub edge_solutions : solutions_of edges_of_all
+    ≡ (two (codes "e") (name (codes "a")) (name (codes "b")), 1) ∷ (two (codes "e") (name (codes "b")) (name (codes "c")), 2) ∷ []
+unfolding visit visit_by visit_with
+edge_solutions = refl

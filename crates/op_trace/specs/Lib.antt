@@ -1,5 +1,7 @@
+pub mod Act
+pub mod Database
 pub mod Ending
-pub mod World
-pub mod Visit
-pub mod Run
 pub mod Examples
+pub mod Run
+pub mod Visit
+pub mod World

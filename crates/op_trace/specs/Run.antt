@@ -2,7 +2,9 @@
 use Rattle.std.specs.Prelude.{ℕ, ◌-◌, nat_le, List, [], ◌∷◌, if◌then◌else◌, slice_index_or}
 use Rattle.op_logic.specs.Term.{Term}
 use Rattle.op_trace.specs.declared.barrier.Barrier.TheVariants.{Call}
-use Rattle.op_trace.specs.World.{Text, World, Setup, Goal, Event, Turn, Shown, Solved}
+use Rattle.op_trace.specs.Database.{Text}
+use Rattle.op_trace.specs.World.{World, Goal, Event, Turn, Shown, Solved}
+use Rattle.op_trace.specs.Act.{Setup}
 use Rattle.op_trace.specs.Visit.{Verdict, Visited, visit}
 use Rattle.op_trace.specs.Visit as verdict
 use Rattle.op_trace.specs.Ending.{Ending, Stopped, Failed, Spent}
@@ -41,18 +43,17 @@ worlds_of [] = []
 worlds_of (Shown e w ∷ ts) = w ∷ worlds_of ts
 worlds_of (Solved σ w ∷ ts) = worlds_of ts
 
--- The places of a run with n events: 0 before the first event, i at event i, and n + 1 for the end.
--- The world at a place of a run from a world: that world at 0, the event's at an event, and the whole run's at the end.
-abbrev pub world_at : World → Run → ℕ → World
-world_at w v i =
-    if nat_le i 0 then w else (slice_index_or (worlds_of v.turns) (i - 1) v.world)
+-- The places of a run with n events: 0 before the first event, i at event i, and n + 1 for the end. A part of the world at a place: as in
+-- the world of an event at that event, as in the last world at the end, and nothing at place 0.
+abbrev pub at_place : {A : Type 0} → A → (World → A) → Run → ℕ → A
+at_place nothing part v i = if nat_le i 0 then nothing else part (slice_index_or (worlds_of v.turns) (i - 1) v.world)
 
--- how much was written, looked at and counted up to a place
-abbrev pub output_at : World → Run → ℕ → List ℕ
-output_at w v i = (world_at w v i).output
+-- what was written up to a place; how many bytes of the input were looked at, and how many steps were made
+abbrev pub output_at : Run → ℕ → List ℕ
+output_at v i = at_place [] (λ w. w.output) v i
 
-abbrev pub looked_at : World → Run → ℕ → ℕ
-looked_at w v i = (world_at w v i).looked
+abbrev pub looked_at : Run → ℕ → ℕ
+looked_at v i = at_place 0 (λ w. w.looked) v i
 
-abbrev pub steps_at : World → Run → ℕ → ℕ
-steps_at w v i = (world_at w v i).steps
+abbrev pub steps_at : Run → ℕ → ℕ
+steps_at v i = at_place 0 (λ w. w.steps) v i

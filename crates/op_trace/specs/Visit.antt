@@ -1,17 +1,21 @@
 -- The walk over the search tree of a goal, in the order of Prolog (ISO/IEC 13211-1, 7.7 and 7.8), with the events of the
 -- box model. Success is the rest of a list of items, and failure the return of the recursion. Bindings only grow, and
 -- nothing is undone. Each step is taken before what it pays for; where it isn't there, the walk is Spent.
-use Rattle.std.specs.Prelude.{ℕ, zero, suc, ◌+◌, ◌-◌, ◌==◌, nat_le, Bool, true, false, List, [], ◌∷◌, ◌++◌, length, codes, if◌then◌else◌, Option, Some, None}
+use Rattle.std.specs.Prelude.{ℕ, zero, suc, ◌+◌, ◌-◌, ◌==◌, nat_le, Bool, true, false, List, [], ◌∷◌, ◌++◌, length, codes, if◌then◌else◌}
+use Rattle.std.specs.Prelude.{Option, Some, None}
 use Rattle.op_logic.specs.Term.{Term, node, no_args, arg, atom, shift}
 use Rattle.op_logic.specs.Bind.{Bindings, apply, unify, Solved as Result}
 use Rattle.op_trace.specs.declared.port.Port.{Port}
 use Rattle.op_trace.specs.declared.port.Port.TheVariants as port
 use Rattle.op_trace.specs.declared.barrier.Barrier.{Barrier}
 use Rattle.op_trace.specs.declared.barrier.Barrier.TheVariants.{Call, InCondition, AtSuccess}
-use Rattle.op_trace.specs.World.{Text, text_eq, Clause, World, Setup, same_barrier, Item, Goal, Cut, Exit, open_boxes, head_number, Event, Turn, Shown, Solved, procedure}
+use Rattle.op_trace.specs.Database.{Text, text_eq, Clause, Procedure, Database, procedure_of}
+use Rattle.op_trace.specs.World.{World, same_barrier, Tries, First, Item, Goal, Cut, Exit, Try, open_boxes, head_number, Event}
+use Rattle.op_trace.specs.World.{Turn, Shown, Solved}
+use Rattle.op_trace.specs.Act.{Yield, Fails, Gives, Gives_again, Act, Setup}
 
--- how a walk ends: no solution is left; none is left, and a cut drops all alternatives up to a barrier; the wanted solution was found; or one
--- more step would pass the budget
+-- how a walk ends: no solution is left; none is left, and a cut drops all alternatives up to a barrier; the wanted solution was
+-- found; or one more step would pass the budget
 pub data Verdict : Type 0 where
   Failed : Verdict
   CutTo : Barrier → Verdict
@@ -59,7 +63,14 @@ cut m r w = on_failed (gives (CutTo m)) r w
 -- the event of a box that was called before these items
 abbrev pub event_of : Port → ℕ → Term Text → Bindings Text → List Item → World → Event
 event_of p k g σ J w =
-    record { chrono = w.events + 1; call = k; parent = head_number (open_boxes J); depth = 1 + length (open_boxes J); port = p; goal = apply σ g }
+    record {
+      chrono = w.events + 1;
+      call = k;
+      parent = head_number (open_boxes J);
+      depth = 1 + length (open_boxes J);
+      port = p;
+      goal = apply σ g;
+    }
 
 abbrev pub with_event : World → World
 with_event w = record w { events = w.events + 1 }
@@ -80,7 +91,20 @@ pays false s n w h = spent s w
 abbrev pub spends : Setup → ℕ → World → (World → Visited) → Visited
 spends s n w h = pays (nat_le (w.steps + n) s.budget) s n w h
 
--- what kind of goal a converted term is (7.6.2): one of the control constructs that have no box, by this project's own list, or a goal with a box
+-- the world that an act leaves: the counts of the walk stay as they are
+abbrev pub counted_as : World → World → World
+counted_as w u = record u { calls = w.calls; conditions = w.conditions; steps = w.steps; events = w.events; solutions = w.solutions }
+
+abbrev pub acts : Bool → Setup → Act → World → (Yield → World → Visited) → Visited
+acts true s a w h = h a.yield (record (counted_as w a.after) { steps = w.steps + a.cost })
+acts false s a w h = spent s (counted_as w a.interrupted)
+
+-- an act, and what its yield leads to
+abbrev pub performs : Setup → Act → World → (Yield → World → Visited) → Visited
+performs s a w h = acts (nat_le (w.steps + a.cost) s.budget) s a w h
+
+-- what kind of goal a converted term is (7.6.2): one of the control constructs that have no box, by this project's own list, or a
+-- goal with a box
 pub data Control : Type 0 where
   TrueGoal : Control
   FailGoal : Control
@@ -100,7 +124,8 @@ control_of_atom f =
 
 -- a disjunction, or an if-then-else where its first part is an if-then
 abbrev pub control_of_disjunction : Term Text → Term Text → Control
-control_of_disjunction (node f (arg c (arg t no_args))) b = if text_eq f (codes "->") then IfThenElse c t b else Disjunction (node f (arg c (arg t no_args))) b
+control_of_disjunction (node f (arg c (arg t no_args))) b =
+    if text_eq f (codes "->") then IfThenElse c t b else Disjunction (node f (arg c (arg t no_args))) b
 control_of_disjunction a b = Disjunction a b
 
 abbrev pub control_of_pair : Text → Term Text → Term Text → Control
@@ -119,6 +144,18 @@ abbrev pub is_true : Term Text → Bool
 is_true (node f no_args) = text_eq f (codes "true")
 is_true _ = false
 
+-- what is in the box of a goal: the clauses of its procedure, or its tries, where there is no procedure
+pub data Inside : Type 0 where
+  Clauses : List Clause → Inside
+  Tried : Inside
+
+abbrev pub inside_procedure : Option Procedure → Inside
+inside_procedure None = Tried
+inside_procedure (Some p) = Clauses p.clauses
+
+abbrev pub inside : Database → Term Text → Inside
+inside d g = inside_procedure (procedure_of d g)
+
 -- what is to be done in a box once a clause's head has matched: its body, then the exit; nothing but the exit for a fact
 abbrev pub entered : ℕ → Clause → ℕ → Term Text → List Item → List Item
 entered first c k g J =
@@ -128,12 +165,13 @@ abbrev pub Visitor : Type 0
 Visitor = List Item → Bindings Text → World → Visited
 
 -- what is left to do on backtracking, and after each other result, by a row of the walk that was entered:
--- an exit is redone; a disjunction has a second branch; a box has further clauses; a box has no further alternative; a condition with this
--- number has an else branch
+-- an exit is redone; a disjunction has a second branch; a box has further clauses, or further tries; a box has no further alternative; a
+-- condition with this number has an else branch
 pub data Choice : Type 0 where
   Redo : ℕ → Term Text → Bindings Text → List Item → Choice
   Branch : Term Text → Barrier → Bindings Text → List Item → Choice
   More : List Clause → ℕ → Term Text → Bindings Text → List Item → Choice
+  Again : Tries → ℕ → Term Text → Bindings Text → List Item → Choice
   Fail : ℕ → Term Text → Bindings Text → List Item → Choice
   Condition : ℕ → Term Text → Barrier → Bindings Text → List Item → Choice
 
@@ -142,27 +180,34 @@ abbrev pub matched : Visitor → Setup → Clause → ℕ → Term Text → List
 matched visit s c k g J w None = spent s w
 matched visit s c k g J w (Some (None, left)) = gives Failed (record w { steps = s.budget - left })
 matched visit s c k g J w (Some (Some τ, left)) =
-    spends s c.variables (record w { steps = s.budget - left }) (λ u. visit (entered w.variables c k g J) τ (record u { variables = u.variables + c.variables }))
+    spends s c.variables (record w { steps = s.budget - left })
+    (λ u. visit (entered w.variables c k g J) τ (record u { variables = u.variables + c.variables }))
 
 -- a clause that is tried: one step, and those of the head's unification with the goal; one for each variable once it matched
-abbrev pub tries : Visitor → Setup → Clause → ℕ → Term Text → Bindings Text → List Item → World → Visited
-tries visit s c k g σ J w =
+abbrev pub try_clause : Visitor → Setup → Clause → ℕ → Term Text → Bindings Text → List Item → World → Visited
+try_clause visit s c k g σ J w =
     spends s 1 w (λ u. matched visit s c k g J u (unify text_eq (s.budget - u.steps) σ ((g, shift u.variables c.head) ∷ [])))
 
 -- the clauses one after the other, each from the same bindings, until a result isn't Failed
 abbrev pub alternatives : Visitor → Setup → List Clause → ℕ → Term Text → Bindings Text → List Item → Verdict → World → Visited
 alternatives visit s [] k g σ J r w = gives r w
 alternatives visit s (c ∷ cs) k g σ J r w =
-    on_failed (λ u. and_then (tries visit s c k g σ J u) (alternatives visit s cs k g σ J)) r w
+    on_failed (λ u. and_then (try_clause visit s c k g σ J u) (alternatives visit s cs k g σ J)) r w
 
 -- another branch: one step, and its goal
 abbrev pub branches : Visitor → Setup → Term Text → Barrier → Bindings Text → List Item → World → Visited
 branches visit s t m σ J w = spends s 1 w (visit (Goal t m ∷ J) σ)
 
--- a condition that has no solution is followed by the else branch, also where a cut inside it left none; the cut that its success made ends here
+-- a further try: one step, and the try
+abbrev pub tries_again : Visitor → Setup → Tries → ℕ → Term Text → Bindings Text → List Item → World → Visited
+tries_again visit s t k g σ J w = spends s 1 w (visit (Try t k g ∷ J) σ)
+
+-- a condition that has no solution is followed by the else branch, also where a cut inside it left none; the cut that its success
+-- made ends here
 abbrev pub on_condition : ℕ → (World → Visited) → Verdict → World → Visited
 on_condition n h Failed w = h w
-on_condition n h (CutTo m) w = reaches (same_barrier m (InCondition n)) h (reaches (same_barrier m (AtSuccess n)) (gives Failed) (gives (CutTo m))) w
+on_condition n h (CutTo m) w =
+    reaches (same_barrier m (InCondition n)) h (reaches (same_barrier m (AtSuccess n)) (gives Failed) (gives (CutTo m))) w
 on_condition n h Stopped w = gives Stopped w
 on_condition n h Spent w = gives Spent w
 
@@ -171,21 +216,39 @@ abbrev pub after : Visitor → Setup → Choice → Verdict → World → Visite
 after visit s (Redo k g σ J) r w = on_failed (λ u. shows port.Redo k g σ J u (gives Failed)) r w
 after visit s (Branch t m σ J) r w = on_failed (branches visit s t m σ J) r w
 after visit s (More cs k g σ J) r w = alternatives visit s cs k g σ J r w
+after visit s (Again t k g σ J) r w = on_failed (tries_again visit s t k g σ J) r w
 after visit s (Fail k g σ J) r w = on_end (Call k) (λ u. shows port.Fail k g σ J u (gives Failed)) r w
 after visit s (Condition n t m σ J) r w = on_condition n (branches visit s t m σ J) r w
+
+-- the alternatives of a box
+abbrev pub entered_box : Visitor → Setup → Inside → ℕ → Term Text → Bindings Text → List Item → World → Visited
+entered_box visit s (Clauses cs) k g σ J w = alternatives visit s cs k g σ J Failed w
+entered_box visit s Tried k g σ J w = visit (Try First k g ∷ J) σ w
 
 -- a goal with a box: the next call number, the event call, its alternatives, and the event fail after them
 abbrev pub boxed : Visitor → Setup → Term Text → List Item → Bindings Text → World → Visited
 boxed visit s g J σ w =
     let k : ℕ = w.calls + 1 in
     shows port.Call k g σ J (record w { calls = k }) (λ u.
-    and_then (alternatives visit s (procedure u.clauses g) k g σ J Failed u) (after visit s (Fail k g σ J)))
+    and_then (entered_box visit s (inside u.database g) k g σ J u) (after visit s (Fail k g σ J)))
+
+-- the exit of a box, and the items behind it
+abbrev pub exits : Visitor → Setup → (Bindings Text → World → Visited) → ℕ → Term Text → List Item → Bindings Text → World → Visited
+exits visit s rest k g J σ w = shows port.Exit k g σ J w (λ u. and_then (rest σ u) (after visit s (Redo k g σ J)))
+
+-- what the yield of a try leads to: it fails, or its box exits, and a further try may be left
+abbrev pub yields : Visitor → Setup → (Bindings Text → World → Visited) → ℕ → Term Text → List Item → Bindings Text → Yield → World
+    → Visited
+yields visit s rest k g J σ Fails w = gives Failed w
+yields visit s rest k g J σ (Gives τ) w = exits visit s rest k g J τ w
+yields visit s rest k g J σ (Gives_again τ t) w = and_then (exits visit s rest k g J τ w) (after visit s (Again t k g σ J))
 
 -- the condition, the cut of its success and what follows it; on failure the else branch
 abbrev pub if_then_else : Visitor → Setup → Term Text → Term Text → Term Text → Barrier → List Item → Bindings Text → World → Visited
 if_then_else visit s c t e m J σ w =
     let n : ℕ = w.conditions + 1 in
-    and_then (visit (Goal c (InCondition n) ∷ Cut (AtSuccess n) ∷ Goal t m ∷ J) σ (record w { conditions = n })) (after visit s (Condition n e m σ J))
+    and_then (visit (Goal c (InCondition n) ∷ Cut (AtSuccess n) ∷ Goal t m ∷ J) σ (record w { conditions = n }))
+    (after visit s (Condition n e m σ J))
 
 abbrev pub selected : Visitor → Setup → Control → Term Text → Barrier → List Item → Bindings Text → World → Visited
 selected visit s TrueGoal t m J σ w = visit J σ w
@@ -202,15 +265,17 @@ solved s σ w =
     let u : World = record w { solutions = w.solutions + 1 } in
     with_turns (Solved σ u ∷ []) (gives (if u.solutions == s.wanted then Stopped else Failed) u)
 
--- one row for each kind of first item; `visit` is called after a step
+-- One row for each kind of first item. A row that has paid a step may go on by `visit`; one that hasn't goes on with the items behind its
+-- own.
 unfoldable pub visit_with : Visitor → Setup → List Item → Bindings Text → World → Visited
 visit_with visit s [] σ w = solved s σ w
-visit_with visit s (Exit k g ∷ J) σ w =
-    shows port.Exit k g σ J w (λ u. and_then (visit_with visit s J σ u) (after visit s (Redo k g σ J)))
+visit_with visit s (Exit k g ∷ J) σ w = exits visit s (visit_with visit s J) k g J σ w
 visit_with visit s (Cut m ∷ J) σ w = and_then (visit_with visit s J σ w) (cut m)
+visit_with visit s (Try t k g ∷ J) σ w = performs s (s.act (s.budget - w.steps) t g σ w) w (yields visit s (visit_with visit s J) k g J σ)
 visit_with visit s (Goal t m ∷ J) σ w = spends s 1 w (selected visit s (control t) t m J σ)
 
--- the walk, given up where it calls itself at a greater depth than this
+-- The walk, given up where it calls itself at a greater depth than this. Each such call has paid a step, so that the depth below, one
+-- more than there are steps left, is enough (`laws::visit_rows`).
 unfoldable pub visit_by : ℕ → Setup → List Item → Bindings Text → World → Visited
 visit_by zero s I σ w = gives Spent w
 visit_by (suc f) s I σ w = visit_with (visit_by f s) s I σ w

@@ -3,7 +3,9 @@
 ghost use Rattle.std.specs.Prelude.{◌≡◌, ◌≤◌, List};
 ghost use Rattle.op_logic.specs.Bind.{Bindings};
 ghost use Rattle.op_trace.specs.declared.barrier.Barrier.{Barrier};
-ghost use Rattle.op_trace.specs.World.{Text, World, Setup, Item, Has};
+ghost use Rattle.op_trace.specs.Database.{Text};
+ghost use Rattle.op_trace.specs.World.{World, Item, Has};
+ghost use Rattle.op_trace.specs.Act.{Setup};
 ghost use Rattle.op_trace.specs.Visit.{CutTo, visit, visit_with};
 
 /// The walk is what its rows say: how many steps are left decides nothing but where it is spent.

@@ -2,8 +2,10 @@
 #![tactic(auto)]
 
 mod barrier;
+mod flags;
 pub mod laws;
 mod port;
 
 pub use barrier::Barrier;
+pub use flags::Flags;
 pub use port::Port;

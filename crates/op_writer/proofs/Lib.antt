@@ -1,8 +1,8 @@
-mod Names
-mod Terms
-mod Forms
-mod Letters
-mod Expanding
-mod Fronts
-mod Quotes
-mod Cutting
+mod CompoundForms
+mod CutTexts
+mod ExpandedCompounds
+mod LetterTerms
+mod NonemptyNames
+mod QuotedNames
+mod TermArguments
+mod TextFronts

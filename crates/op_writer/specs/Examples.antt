@@ -36,11 +36,13 @@ pub an_operator_alone : written (node (codes "t") (one (node (codes ".") (two (a
 unfolding iso_table iso_rows digits
 an_operator_alone = refl
 
-pub an_operator_as_an_operand : written (node (codes "t") (one (node (codes "=") (two (atom (codes "-")) (atom (codes "x")))))) ≡ codes "t((-)=x)"
+pub an_operator_as_an_operand : written (node (codes "t") (one (node (codes "=") (two (atom (codes "-")) (atom (codes "x"))))))
+    ≡ codes "t((-)=x)"
 unfolding iso_table iso_rows digits
 an_operator_as_an_operand = refl
 
-pub a_new_operator : text_of (with_op iso_table 700 Xfx (codes "===>")) Quoted (node (codes "p") (one (node (codes "===>") (two (atom (codes "a")) (atom (codes "b")))))) 1200 ≡ codes "p(a===>b)"
+pub a_new_operator : text_of (with_op iso_table 700 Xfx (codes "===>")) Quoted
+    (node (codes "p") (one (node (codes "===>") (two (atom (codes "a")) (atom (codes "b")))))) 1200 ≡ codes "p(a===>b)"
 unfolding iso_table iso_rows digits
 a_new_operator = refl
 
@@ -73,6 +75,7 @@ pub a_letter : written (node (codes "$VAR") (one (int (pos 27)))) ≡ codes "B1"
 unfolding iso_table iso_rows digits
 a_letter = refl
 
-pub canonical : text_of iso_table Canonical (node (codes "+") (two (node (codes "$VAR") (one (int (pos 27)))) (node (codes "{}") (one (atom (codes "-")))))) 1200 ≡ codes "+('$VAR'(27),{-})"
+pub canonical : text_of iso_table Canonical (node (codes "+") (two (node (codes "$VAR") (one (int (pos 27))))
+    (node (codes "{}") (one (atom (codes "-")))))) 1200 ≡ codes "+('$VAR'(27),{-})"
 unfolding iso_table iso_rows chars digits encode
 canonical = refl

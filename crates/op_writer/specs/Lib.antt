@@ -1,6 +1,6 @@
-pub mod Spelling
-pub mod Pieces
-pub mod Text
 pub mod Cut
-pub mod Stack
 pub mod Examples
+pub mod Pieces
+pub mod Spelling
+pub mod Text
+pub mod inner

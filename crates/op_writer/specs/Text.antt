@@ -1,6 +1,7 @@
 -- The text of a term (this project's own rules for spaces, brackets and lists; ISO/IEC 13211-1, 7.10.5, for quotes, operators and
 -- '$VAR'(N)).
-use Rattle.std.specs.Prelude.{ℕ, pos, ◌≤◌, ◌+◌, ◌-◌, ◌/◌, ◌%◌, ◌==◌, ◌||◌, ◌&&◌, nat_lt, nat_le, Bool, true, false, not, List, [], ◌∷◌, ◌++◌, if◌then◌else◌, Option, Some, None, is_some, codes, bytes_eq, decimal}
+use Rattle.std.specs.Prelude.{ℕ, pos, ◌≤◌, ◌+◌, ◌-◌, ◌/◌, ◌%◌, ◌==◌, ◌||◌, ◌&&◌, nat_lt, nat_le, Bool, true, false, not, List, [], ◌∷◌}
+use Rattle.std.specs.Prelude.{◌++◌, if◌then◌else◌, Option, Some, None, is_some, codes, bytes_eq, decimal}
 use Rattle.std.specs.Fmt.{signed_decimal}
 use Rattle.op_logic.specs.Term.{Term, var, int, node, Args, no_args, arg, arity}
 use Rattle.op_term.specs.declared.ops.Meaning.{Meaning}
@@ -10,7 +11,8 @@ use Rattle.op_writer.specs.declared.style.Style.TheVariants.{Canonical}
 use Rattle.op_writer.specs.declared.bound.Bound.{Bound}
 use Rattle.op_writer.specs.declared.bound.Bound.TheVariants.{Whole, Operand, Left, Right}
 use Rattle.op_writer.specs.declared.notation.Notation.{Notation}
-use Rattle.op_writer.specs.declared.notation.Notation.TheVariants.{List as Listed, Braces, Infix, Prefix as Before, Postfix as Behind, Functional}
+use Rattle.op_writer.specs.declared.notation.Notation.TheVariants.{List as Listed, Braces, Infix, Prefix as Before, Postfix as Behind}
+use Rattle.op_writer.specs.declared.notation.Notation.TheVariants.{Functional}
 use Rattle.op_writer.specs.declared.edge.Edge.TheVariants.{Other}
 use Rattle.op_writer.specs.Spelling.{is_symbolic, name_text}
 use Rattle.op_writer.specs.Pieces.{Piece, plain, prefix_operator, spaced}
@@ -56,8 +58,8 @@ is_operator ops f = is_some (prefix_in ops f) || is_some (infix_in ops f) || is_
 abbrev pub atom_pieces : Table → Style → List ℕ → Bound → List Piece
 atom_pieces ops style f bound = bracketed (is_operand bound && is_operator ops f) (sign (name_text style f))
 
--- an infix operator: the comma is written as it is in every style, and , and ; and what is written in symbol characters alone have no spaces
--- of their own; every other one stands between two spaces, also one with an empty name or in quotes
+-- an infix operator: the comma is written as it is in every style, and , and ; and what is written in symbol characters alone
+-- have no spaces of their own; every other one stands between two spaces, also one with an empty name or in quotes
 abbrev pub infix_pieces : Style → List ℕ → List Piece
 infix_pieces style f =
     if bytes_eq f (codes ",") then sign f else
@@ -166,7 +168,8 @@ leaf t rest = sign (codes "|") ++ sign t ++ sign (codes "]")
 -- an atom; as the rest of a list [] ends it, and every other atom stands behind a bar as an argument does
 abbrev pub atom_form : Table → Style → List ℕ → Form
 atom_form ops style f (within bound) = atom_pieces ops style f bound
-atom_form ops style f rest = if bytes_eq f (codes "[]") then sign (codes "]") else sign (codes "|") ++ atom_pieces ops style f argument ++ sign (codes "]")
+atom_form ops style f rest =
+    if bytes_eq f (codes "[]") then sign (codes "]") else sign (codes "|") ++ atom_pieces ops style f argument ++ sign (codes "]")
 
 -- a compound within a bound, or as the rest of a list
 abbrev pub compound_form : Style → List ℕ → List Form → Notation → Form

@@ -3,7 +3,7 @@ ghost use Rattle.op_logic.specs.Term.{args_of, arity, nth_arg};
 ghost use Rattle.op_logic.specs.Names.{name_at};
 ghost use Rattle.op_term.specs.Head.{head};
 ghost use Rattle.op_term.specs.declared.node.Node.TheVariants.{Struct as struct};
-ghost use Rattle.op_writer.specs.Stack.{IsGoodPlace, ways_of, letter, natural_of};
+ghost use Rattle.op_writer.specs.inner.Stack.{IsGoodPlace, ways_of, letter, natural_of};
 ghost use Rattle.op_writer.specs.Text.{is_canonical as canonical};
 
 use crate::notation::is_canonical;

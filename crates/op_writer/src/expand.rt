@@ -5,9 +5,11 @@ ghost use Rattle.op_term.specs.Head.{head};
 ghost use Rattle.op_term.specs.declared.node.Node.TheVariants.{Atom as atom, Struct as struct};
 ghost use Rattle.op_writer.specs.Text.{notation_of, infix_pieces, prefix_pieces};
 ghost use Rattle.op_writer.specs.Spelling.{is_symbolic as symbolic, name_text};
-ghost use Rattle.op_writer.specs.Stack.{Replaces, AreGood, IsGoodPlace, ways_of, pieces, weights, letter};
+ghost use Rattle.op_writer.specs.inner.Stack.{Replaces, AreGood, IsGoodPlace, ways_of, pieces, weights, letter};
 ghost use Rattle.op_writer.specs.declared.item.Item.TheVariants.{Term as whole_item, Rest as rest_item, Further as further_item};
-ghost use Rattle.op_writer.specs.declared.notation.Notation.TheVariants.{Infix as infix_notation, Prefix as prefix_notation, Postfix as postfix_notation, List as list_notation, Braces as braces_notation, Functional as functional_notation};
+ghost use Rattle.op_writer.specs.declared.notation.Notation.TheVariants.{Infix as infix_notation, Prefix as prefix_notation};
+ghost use Rattle.op_writer.specs.declared.notation.Notation.TheVariants.{Postfix as postfix_notation, List as list_notation};
+ghost use Rattle.op_writer.specs.declared.notation.Notation.TheVariants.{Braces as braces_notation, Functional as functional_notation};
 
 use crate::argument::{letter_number, part};
 use crate::bound::Bound;
@@ -34,7 +36,8 @@ fn atom<T: Tree>(
     requires place { IsGoodPlace (T.term tree.now) (T.IsPlace tree.now) (length setting.now.symbols.now) at.now }
     requires node { head (T.term tree.now at.now) ≡ atom name }
     requires good { AreGood (T.term tree.now) (T.IsPlace tree.now) (length setting.now.symbols.now) (reverse stack.old.items) }
-    ensures { OnOk result (Replaces (T.term tree.now) (ways_of setting.now) (T.IsPlace tree.now) (whole_item at.now bound) (reverse stack.old.items) (reverse stack.new.items)) }
+    ensures { OnOk result (Replaces (T.term tree.now) (ways_of setting.now) (T.IsPlace tree.now) (whole_item at.now bound)
+        (reverse stack.old.items) (reverse stack.new.items)) }
 {
     let brackets = bound.is_operand() && is_operator(setting.ops, setting.symbols.name_of(name));
     push_bracket(stack, brackets, b')')?;
@@ -59,8 +62,11 @@ fn infix_name<T: Tree>(
 ) -> Result<(), Memory>
     requires named { name.0 < length setting.now.symbols.now }
     requires good { AreGood (T.term tree.now) (T.IsPlace tree.now) (length setting.now.symbols.now) (reverse stack.old.items) }
-    ensures pieces { OnOk result (pieces (T.term tree.now) (ways_of setting.now) (reverse stack.new.items) ≡ infix_pieces setting.now.style (name_at setting.now.symbols.now name.0) ++ pieces (T.term tree.now) (ways_of setting.now) (reverse stack.old.items)) }
-    ensures weights { OnOk result (weights (T.term tree.now) (reverse stack.new.items) ≤ 3 + weights (T.term tree.now) (reverse stack.old.items)) }
+    ensures pieces { OnOk result (pieces (T.term tree.now) (ways_of setting.now) (reverse stack.new.items)
+        ≡ infix_pieces setting.now.style (name_at setting.now.symbols.now name.0)
+        ++ pieces (T.term tree.now) (ways_of setting.now) (reverse stack.old.items)) }
+    ensures weights { OnOk result (weights (T.term tree.now) (reverse stack.new.items)
+        ≤ 3 + weights (T.term tree.now) (reverse stack.old.items)) }
     ensures good { OnOk result (AreGood (T.term tree.now) (T.IsPlace tree.now) (length setting.now.symbols.now) (reverse stack.new.items)) }
 {
     let text = setting.symbols.name_of(name);
@@ -82,8 +88,11 @@ fn prefix_name<T: Tree>(
 ) -> Result<(), Memory>
     requires named { name.0 < length setting.now.symbols.now }
     requires good { AreGood (T.term tree.now) (T.IsPlace tree.now) (length setting.now.symbols.now) (reverse stack.old.items) }
-    ensures pieces { OnOk result (pieces (T.term tree.now) (ways_of setting.now) (reverse stack.new.items) ≡ prefix_pieces setting.now.style (name_at setting.now.symbols.now name.0) ++ pieces (T.term tree.now) (ways_of setting.now) (reverse stack.old.items)) }
-    ensures weights { OnOk result (weights (T.term tree.now) (reverse stack.new.items) ≤ 3 + weights (T.term tree.now) (reverse stack.old.items)) }
+    ensures pieces { OnOk result (pieces (T.term tree.now) (ways_of setting.now) (reverse stack.new.items)
+        ≡ prefix_pieces setting.now.style (name_at setting.now.symbols.now name.0)
+        ++ pieces (T.term tree.now) (ways_of setting.now) (reverse stack.old.items)) }
+    ensures weights { OnOk result (weights (T.term tree.now) (reverse stack.new.items)
+        ≤ 3 + weights (T.term tree.now) (reverse stack.old.items)) }
     ensures good { OnOk result (AreGood (T.term tree.now) (T.IsPlace tree.now) (length setting.now.symbols.now) (reverse stack.new.items)) }
 {
     if is_narrow(setting, setting.symbols.name_of(name)) {
@@ -109,7 +118,8 @@ fn infix<T: Tree>(
     requires notation { notation_of setting.now.ops.now setting.now.style (name_at setting.now.symbols.now name.0) 2 ≡ infix_notation m }
     requires meaning { 1 ≤ m.priority }
     requires good { AreGood (T.term tree.now) (T.IsPlace tree.now) (length setting.now.symbols.now) (reverse stack.old.items) }
-    ensures { OnOk result (Replaces (T.term tree.now) (ways_of setting.now) (T.IsPlace tree.now) (whole_item at.now bound) (reverse stack.old.items) (reverse stack.new.items)) }
+    ensures { OnOk result (Replaces (T.term tree.now) (ways_of setting.now) (T.IsPlace tree.now) (whole_item at.now bound)
+        (reverse stack.old.items) (reverse stack.new.items)) }
 {
     let brackets = bound.is_passed(m);
     let left = part(setting, tree, at, 0);
@@ -138,7 +148,8 @@ fn prefix<T: Tree>(
     requires notation { notation_of setting.now.ops.now setting.now.style (name_at setting.now.symbols.now name.0) 1 ≡ prefix_notation m }
     requires meaning { 1 ≤ m.priority }
     requires good { AreGood (T.term tree.now) (T.IsPlace tree.now) (length setting.now.symbols.now) (reverse stack.old.items) }
-    ensures { OnOk result (Replaces (T.term tree.now) (ways_of setting.now) (T.IsPlace tree.now) (whole_item at.now bound) (reverse stack.old.items) (reverse stack.new.items)) }
+    ensures { OnOk result (Replaces (T.term tree.now) (ways_of setting.now) (T.IsPlace tree.now) (whole_item at.now bound)
+        (reverse stack.old.items) (reverse stack.new.items)) }
 {
     let brackets = bound.is_passed(m);
     let right = part(setting, tree, at, 0);
@@ -165,7 +176,8 @@ fn postfix<T: Tree>(
     requires notation { notation_of setting.now.ops.now setting.now.style (name_at setting.now.symbols.now name.0) 1 ≡ postfix_notation m }
     requires meaning { 1 ≤ m.priority }
     requires good { AreGood (T.term tree.now) (T.IsPlace tree.now) (length setting.now.symbols.now) (reverse stack.old.items) }
-    ensures { OnOk result (Replaces (T.term tree.now) (ways_of setting.now) (T.IsPlace tree.now) (whole_item at.now bound) (reverse stack.old.items) (reverse stack.new.items)) }
+    ensures { OnOk result (Replaces (T.term tree.now) (ways_of setting.now) (T.IsPlace tree.now) (whole_item at.now bound)
+        (reverse stack.old.items) (reverse stack.new.items)) }
 {
     let brackets = bound.is_passed(m);
     let left = part(setting, tree, at, 0);
@@ -191,7 +203,8 @@ fn braces<T: Tree>(
     requires letter { letter (ways_of setting.now) (T.term tree.now at.now) name.0 ≡ None }
     requires notation { notation_of setting.now.ops.now setting.now.style (name_at setting.now.symbols.now name.0) 1 ≡ braces_notation }
     requires good { AreGood (T.term tree.now) (T.IsPlace tree.now) (length setting.now.symbols.now) (reverse stack.old.items) }
-    ensures { OnOk result (Replaces (T.term tree.now) (ways_of setting.now) (T.IsPlace tree.now) (whole_item at.now bound) (reverse stack.old.items) (reverse stack.new.items)) }
+    ensures { OnOk result (Replaces (T.term tree.now) (ways_of setting.now) (T.IsPlace tree.now) (whole_item at.now bound)
+        (reverse stack.old.items) (reverse stack.new.items)) }
 {
     let inside = part(setting, tree, at, 0);
     push_sign(stack, b'}')?;
@@ -214,7 +227,8 @@ fn list<T: Tree>(
     requires letter { letter (ways_of setting.now) (T.term tree.now at.now) name.0 ≡ None }
     requires notation { notation_of setting.now.ops.now setting.now.style (name_at setting.now.symbols.now name.0) 2 ≡ list_notation }
     requires good { AreGood (T.term tree.now) (T.IsPlace tree.now) (length setting.now.symbols.now) (reverse stack.old.items) }
-    ensures { OnOk result (Replaces (T.term tree.now) (ways_of setting.now) (T.IsPlace tree.now) (whole_item at.now bound) (reverse stack.old.items) (reverse stack.new.items)) }
+    ensures { OnOk result (Replaces (T.term tree.now) (ways_of setting.now) (T.IsPlace tree.now) (whole_item at.now bound)
+        (reverse stack.old.items) (reverse stack.new.items)) }
 {
     let first = part(setting, tree, at, 0);
     let rest = part(setting, tree, at, 1);
@@ -239,7 +253,8 @@ fn functional<T: Tree>(
     requires letter { letter (ways_of setting.now) (T.term tree.now at.now) name.0 ≡ None }
     requires notation { notation_of setting.now.ops.now setting.now.style (name_at setting.now.symbols.now name.0) n ≡ functional_notation }
     requires good { AreGood (T.term tree.now) (T.IsPlace tree.now) (length setting.now.symbols.now) (reverse stack.old.items) }
-    ensures { OnOk result (Replaces (T.term tree.now) (ways_of setting.now) (T.IsPlace tree.now) (whole_item at.now bound) (reverse stack.old.items) (reverse stack.new.items)) }
+    ensures { OnOk result (Replaces (T.term tree.now) (ways_of setting.now) (T.IsPlace tree.now) (whole_item at.now bound)
+        (reverse stack.old.items) (reverse stack.new.items)) }
 {
     let first = part(setting, tree, at, 0);
     push(stack, Item::Further(*at, 1))?;
@@ -262,7 +277,8 @@ fn compound<T: Tree>(
     requires place { IsGoodPlace (T.term tree.now) (T.IsPlace tree.now) (length setting.now.symbols.now) at.now }
     requires node { head (T.term tree.now at.now) ≡ struct name n }
     requires good { AreGood (T.term tree.now) (T.IsPlace tree.now) (length setting.now.symbols.now) (reverse stack.old.items) }
-    ensures { OnOk result (Replaces (T.term tree.now) (ways_of setting.now) (T.IsPlace tree.now) (whole_item at.now bound) (reverse stack.old.items) (reverse stack.new.items)) }
+    ensures { OnOk result (Replaces (T.term tree.now) (ways_of setting.now) (T.IsPlace tree.now) (whole_item at.now bound)
+        (reverse stack.old.items) (reverse stack.new.items)) }
 {
     if let Some(k) = letter_number(setting, tree, at, name, n) {
         return push(stack, Item::Token(Token::Letter(k)));
@@ -287,7 +303,8 @@ pub fn term<T: Tree>(
 ) -> Result<(), Memory>
     requires place { IsGoodPlace (T.term tree.now) (T.IsPlace tree.now) (length setting.now.symbols.now) at.now }
     requires good { AreGood (T.term tree.now) (T.IsPlace tree.now) (length setting.now.symbols.now) (reverse stack.old.items) }
-    ensures { OnOk result (Replaces (T.term tree.now) (ways_of setting.now) (T.IsPlace tree.now) (whole_item at.now bound) (reverse stack.old.items) (reverse stack.new.items)) }
+    ensures { OnOk result (Replaces (T.term tree.now) (ways_of setting.now) (T.IsPlace tree.now) (whole_item at.now bound)
+        (reverse stack.old.items) (reverse stack.new.items)) }
 {
     match tree.node(at) {
         Node::Var(n) => {

@@ -1,5 +1,6 @@
 ghost use Rattle.std.specs.Prelude.{◌≡◌, ◌≤◌, IfSome};
-ghost use Rattle.op_writer.specs.Text.{notation_of, is_canonical as canonical, is_operator as the_operator, unary as the_unary, binary as the_binary, HasPriority};
+ghost use Rattle.op_writer.specs.Text.{notation_of, is_canonical as canonical, is_operator as the_operator, unary as the_unary};
+ghost use Rattle.op_writer.specs.Text.{binary as the_binary, HasPriority};
 
 use crate::style::Style;
 use op_term::{Meaning, Ops};

@@ -4,7 +4,7 @@ ghost use Rattle.op_logic.specs.Names.{name_at};
 ghost use Rattle.op_term.specs.Head.{head};
 ghost use Rattle.op_term.specs.declared.node.Node.TheVariants.{Atom as atom_node, Struct as struct};
 ghost use Rattle.op_writer.specs.Text.{notation_of};
-ghost use Rattle.op_writer.specs.Stack.{Replaces, AreGood, IsGoodPlace, IsBarred, ways_of};
+ghost use Rattle.op_writer.specs.inner.Stack.{Replaces, AreGood, IsGoodPlace, IsBarred, ways_of};
 ghost use Rattle.op_writer.specs.declared.item.Item.TheVariants.{Rest as rest_item, Further as further_item};
 ghost use Rattle.op_writer.specs.declared.notation.Notation.TheVariants.{List as list_notation};
 
@@ -27,7 +27,8 @@ fn barred<T: Tree>(
     requires place { IsGoodPlace (T.term tree.now) (T.IsPlace tree.now) (length setting.now.symbols.now) at.now }
     requires barred { IsBarred (ways_of setting.now) (T.term tree.now at.now) }
     requires good { AreGood (T.term tree.now) (T.IsPlace tree.now) (length setting.now.symbols.now) (reverse stack.old.items) }
-    ensures { OnOk result (Replaces (T.term tree.now) (ways_of setting.now) (T.IsPlace tree.now) (rest_item at.now) (reverse stack.old.items) (reverse stack.new.items)) }
+    ensures { OnOk result (Replaces (T.term tree.now) (ways_of setting.now) (T.IsPlace tree.now) (rest_item at.now)
+        (reverse stack.old.items) (reverse stack.new.items)) }
 {
     push_sign(stack, b']')?;
     push(stack, Item::Term(*at, ARGUMENT))?;
@@ -47,7 +48,8 @@ fn element<T: Tree>(
     requires node { head (T.term tree.now at.now) ≡ struct name 2 }
     requires notation { notation_of setting.now.ops.now setting.now.style (name_at setting.now.symbols.now name.0) 2 ≡ list_notation }
     requires good { AreGood (T.term tree.now) (T.IsPlace tree.now) (length setting.now.symbols.now) (reverse stack.old.items) }
-    ensures { OnOk result (Replaces (T.term tree.now) (ways_of setting.now) (T.IsPlace tree.now) (rest_item at.now) (reverse stack.old.items) (reverse stack.new.items)) }
+    ensures { OnOk result (Replaces (T.term tree.now) (ways_of setting.now) (T.IsPlace tree.now) (rest_item at.now)
+        (reverse stack.old.items) (reverse stack.new.items)) }
 {
     let first = part(setting, tree, at, 0);
     let rest = part(setting, tree, at, 1);
@@ -69,7 +71,8 @@ fn compound_rest<T: Tree>(
     requires place { IsGoodPlace (T.term tree.now) (T.IsPlace tree.now) (length setting.now.symbols.now) at.now }
     requires node { head (T.term tree.now at.now) ≡ struct name n }
     requires good { AreGood (T.term tree.now) (T.IsPlace tree.now) (length setting.now.symbols.now) (reverse stack.old.items) }
-    ensures { OnOk result (Replaces (T.term tree.now) (ways_of setting.now) (T.IsPlace tree.now) (rest_item at.now) (reverse stack.old.items) (reverse stack.new.items)) }
+    ensures { OnOk result (Replaces (T.term tree.now) (ways_of setting.now) (T.IsPlace tree.now) (rest_item at.now)
+        (reverse stack.old.items) (reverse stack.new.items)) }
 {
     match Notation::of(setting.ops, setting.style, setting.symbols.name_of(name), n) {
         Notation::List => element(setting, tree, at, name, stack),
@@ -88,7 +91,8 @@ fn atom_rest<T: Tree>(
     requires place { IsGoodPlace (T.term tree.now) (T.IsPlace tree.now) (length setting.now.symbols.now) at.now }
     requires node { head (T.term tree.now at.now) ≡ atom_node name }
     requires good { AreGood (T.term tree.now) (T.IsPlace tree.now) (length setting.now.symbols.now) (reverse stack.old.items) }
-    ensures { OnOk result (Replaces (T.term tree.now) (ways_of setting.now) (T.IsPlace tree.now) (rest_item at.now) (reverse stack.old.items) (reverse stack.new.items)) }
+    ensures { OnOk result (Replaces (T.term tree.now) (ways_of setting.now) (T.IsPlace tree.now) (rest_item at.now)
+        (reverse stack.old.items) (reverse stack.new.items)) }
 {
     if setting.symbols.name_of(name) == "[]" {
         push_sign(stack, b']')?;
@@ -106,7 +110,8 @@ pub fn rest<T: Tree>(
 ) -> Result<(), Memory>
     requires place { IsGoodPlace (T.term tree.now) (T.IsPlace tree.now) (length setting.now.symbols.now) at.now }
     requires good { AreGood (T.term tree.now) (T.IsPlace tree.now) (length setting.now.symbols.now) (reverse stack.old.items) }
-    ensures { OnOk result (Replaces (T.term tree.now) (ways_of setting.now) (T.IsPlace tree.now) (rest_item at.now) (reverse stack.old.items) (reverse stack.new.items)) }
+    ensures { OnOk result (Replaces (T.term tree.now) (ways_of setting.now) (T.IsPlace tree.now) (rest_item at.now)
+        (reverse stack.old.items) (reverse stack.new.items)) }
 {
     match tree.node(at) {
         Node::Var(_) => barred(setting, tree, at, stack),
@@ -136,7 +141,8 @@ pub fn further<T: Tree>(
 ) -> Result<(), Memory>
     requires place { IsGoodPlace (T.term tree.now) (T.IsPlace tree.now) (length setting.now.symbols.now) at.now }
     requires good { AreGood (T.term tree.now) (T.IsPlace tree.now) (length setting.now.symbols.now) (reverse stack.old.items) }
-    ensures { OnOk result (Replaces (T.term tree.now) (ways_of setting.now) (T.IsPlace tree.now) (further_item at.now i) (reverse stack.old.items) (reverse stack.new.items)) }
+    ensures { OnOk result (Replaces (T.term tree.now) (ways_of setting.now) (T.IsPlace tree.now) (further_item at.now i)
+        (reverse stack.old.items) (reverse stack.new.items)) }
 {
     if i >= arity_of(tree, at) {
         push_sign(stack, b')')?;

@@ -2,7 +2,8 @@ ghost use Rattle.std.specs.Prelude.{◌≡◌, ◌<◌, ◌≤◌, ◌++◌, OnO
 ghost use Rattle.std.specs.List.{list_all};
 ghost use Rattle.op_writer.specs.Cut.{front_of};
 ghost use Rattle.op_base.specs.Characters.{is_symbol as symbol, is_word as word};
-ghost use Rattle.op_writer.specs.Spelling.{is_symbolic as symbolic, is_word_name as word_name, is_solo as solo, is_unquoted as unquoted, is_control as control, hexadecimal, escaped, quoted, digit as hexadecimal_digit, name_text};
+ghost use Rattle.op_writer.specs.Spelling.{is_symbolic as symbolic, is_word_name as word_name, is_solo as solo, is_unquoted as unquoted};
+ghost use Rattle.op_writer.specs.Spelling.{is_control as control, hexadecimal, escaped, quoted, digit as hexadecimal_digit, name_text};
 
 use crate::front::Front;
 use crate::style::Style;

@@ -27,7 +27,8 @@ pub fn push_bracket<P: Copy>(
     brackets: bool,
     byte: u8,
 ) -> Result<(), Memory>
-    ensures { OnOk result (reverse stack.new.items ≡ (if brackets then written (sign byte) ∷ reverse stack.old.items else reverse stack.old.items)) }
+    ensures { OnOk result (reverse stack.new.items
+        ≡ (if brackets then written (sign byte) ∷ reverse stack.old.items else reverse stack.old.items)) }
 {
     if brackets {
         return push_sign(stack, byte);

@@ -31,7 +31,8 @@ pub fn write_text<T: Tree>(
     requires names { HasNames (length symbols.now) (T.term tree.now at.now) }
     ensures ok { OnOk result (out.new ≡ out.old ++ text_of ops.now style (named symbols.now (T.term tree.now at.now)) priority) }
     ensures within { OnOk result (length (text_of ops.now style (named symbols.now (T.term tree.now at.now)) priority) ≤ limit) }
-    ensures too_long { result ≡ Err too_long → limit < length (text_of ops.now style (named symbols.now (T.term tree.now at.now)) priority) }
+    ensures too_long { result ≡ Err too_long → limit
+        < length (text_of ops.now style (named symbols.now (T.term tree.now at.now)) priority) }
     ensures err { OnErr result (out.new ≡ out.old) }
 {
     let setting = Setting {

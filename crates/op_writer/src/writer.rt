@@ -3,7 +3,7 @@ ghost use Rattle.op_writer.specs.Cut.{front_of};
 ghost use Rattle.op_writer.specs.Pieces.{spaced};
 ghost use Rattle.op_writer.specs.Text.{text_in};
 ghost use Rattle.op_logic.specs.Names.{named};
-ghost use Rattle.op_writer.specs.Stack.{AreGood, IsGood, IsGoodPlace, ways_of, pieces, pieces_of, weights, weight};
+ghost use Rattle.op_writer.specs.inner.Stack.{AreGood, IsGood, IsGoodPlace, ways_of, pieces, pieces_of, weights, weight};
 
 use crate::bound::Bound;
 use crate::item::Item;
@@ -34,11 +34,15 @@ fn step<T: Tree>(
     requires room { length written.old.front.bytes ≤ written.old.front.limit }
     requires item { IsGood (T.term tree.now) (T.IsPlace tree.now) (length setting.now.symbols.now) item }
     requires good { AreGood (T.term tree.now) (T.IsPlace tree.now) (length setting.now.symbols.now) (reverse stack.old.items) }
-    ensures same { OnOk result (front_of written.old.front.limit (written.new.front.bytes ++ spaced written.new.edge (pieces (T.term tree.now) (ways_of setting.now) (reverse stack.new.items)))
-        ≡ front_of written.old.front.limit (written.old.front.bytes ++ spaced written.old.edge (pieces_of (T.term tree.now) (ways_of setting.now) item ++ pieces (T.term tree.now) (ways_of setting.now) (reverse stack.old.items)))) }
+    ensures same { OnOk result (front_of written.old.front.limit (written.new.front.bytes
+        ++ spaced written.new.edge (pieces (T.term tree.now) (ways_of setting.now) (reverse stack.new.items)))
+        ≡ front_of written.old.front.limit (written.old.front.bytes
+        ++ spaced written.old.edge (pieces_of (T.term tree.now) (ways_of setting.now) item
+        ++ pieces (T.term tree.now) (ways_of setting.now) (reverse stack.old.items)))) }
     ensures within { OnOk result (length written.new.front.bytes ≤ 1 + written.old.front.limit) }
     ensures limit { written.new.front.limit ≡ written.old.front.limit }
-    ensures less { OnOk result (weights (T.term tree.now) (reverse stack.new.items) < weight (T.term tree.now) item + weights (T.term tree.now) (reverse stack.old.items)) }
+    ensures less { OnOk result (weights (T.term tree.now) (reverse stack.new.items)
+        < weight (T.term tree.now) item + weights (T.term tree.now) (reverse stack.old.items)) }
     ensures good { OnOk result (AreGood (T.term tree.now) (T.IsPlace tree.now) (length setting.now.symbols.now) (reverse stack.new.items)) }
 {
     match item {
@@ -63,7 +67,8 @@ pub fn front<T: Tree>(
     limit: usize,
 ) -> Result<Bytes, Memory>
     requires place { IsGoodPlace (T.term tree.now) (T.IsPlace tree.now) (length setting.now.symbols.now) at.now }
-    ensures { IfOk result (λ b. b ≡ front_of limit (text_in setting.now.ops.now setting.now.style bound (named setting.now.symbols.now (T.term tree.now at.now)))) }
+    ensures { IfOk result (λ b. b ≡ front_of limit
+        (text_in setting.now.ops.now setting.now.style bound (named setting.now.symbols.now (T.term tree.now at.now)))) }
 {
     let mut written = Written::new(alloc, limit);
     let mut stack = Vec::new(alloc);

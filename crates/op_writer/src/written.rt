@@ -3,7 +3,7 @@ ghost use Rattle.op_logic.specs.Names.{name_at};
 ghost use Rattle.op_writer.specs.Cut.{front_of};
 ghost use Rattle.op_writer.specs.Pieces.{edge_of, prefix_edge, set_apart, text_of, edge_behind};
 ghost use Rattle.op_writer.specs.Spelling.{name_text, quoted};
-ghost use Rattle.op_writer.specs.Stack.{piece_of, IsGoodToken, ways_of};
+ghost use Rattle.op_writer.specs.inner.Stack.{piece_of, IsGoodToken, ways_of};
 ghost use Rattle.op_writer.specs.Text.{letter_text as the_letter};
 
 use crate::edge::Edge;
@@ -66,7 +66,8 @@ impl Written {
     // A piece, set apart where it has to be.
     fn add(&mut self, piece: &[u8]) -> Result<(), Memory>
         requires room { length self.old.front.bytes ≤ self.old.front.limit }
-        ensures bytes { OnOk result (self.new.front.bytes ≡ front_of self.old.front.limit (self.old.front.bytes ++ set_apart self.old.edge piece.now)) }
+        ensures bytes { OnOk result (self.new.front.bytes ≡ front_of self.old.front.limit
+            (self.old.front.bytes ++ set_apart self.old.edge piece.now)) }
         ensures limit { self.new.front.limit ≡ self.old.front.limit }
         ensures edge { self.new.edge ≡ self.old.edge }
     {
@@ -81,7 +82,8 @@ impl Written {
 
     fn piece(&mut self, piece: &[u8], is_prefix: bool) -> Result<(), Memory>
         requires room { length self.old.front.bytes ≤ self.old.front.limit }
-        ensures bytes { OnOk result (self.new.front.bytes ≡ front_of self.old.front.limit (self.old.front.bytes ++ set_apart self.old.edge piece.now)) }
+        ensures bytes { OnOk result (self.new.front.bytes ≡ front_of self.old.front.limit
+            (self.old.front.bytes ++ set_apart self.old.edge piece.now)) }
         ensures limit { self.new.front.limit ≡ self.old.front.limit }
         ensures edge { OnOk result (self.new.edge ≡ (if is_prefix then prefix_edge piece.now else edge_of self.old.edge piece.now)) }
     {
@@ -97,9 +99,11 @@ impl Written {
     // A name in quotes, before which no space stands.
     fn quoted_name(&mut self, name: &str, is_prefix: bool) -> Result<(), Memory>
         requires room { length self.old.front.bytes ≤ self.old.front.limit }
-        ensures bytes { OnOk result (self.new.front.bytes ≡ front_of self.old.front.limit (self.old.front.bytes ++ set_apart self.old.edge (quoted name.now))) }
+        ensures bytes { OnOk result (self.new.front.bytes ≡ front_of self.old.front.limit
+            (self.old.front.bytes ++ set_apart self.old.edge (quoted name.now))) }
         ensures limit { self.new.front.limit ≡ self.old.front.limit }
-        ensures edge { OnOk result (self.new.edge ≡ (if is_prefix then prefix_edge (quoted name.now) else edge_of self.old.edge (quoted name.now))) }
+        ensures edge { OnOk result (self.new.edge ≡ (if is_prefix then prefix_edge (quoted name.now)
+            else edge_of self.old.edge (quoted name.now))) }
     {
         in_quotes(self.alloc, &mut self.front, name)?;
         self.edge = Edge::of_quotes(is_prefix);
@@ -108,9 +112,11 @@ impl Written {
 
     fn name(&mut self, style: Style, name: &str, is_prefix: bool) -> Result<(), Memory>
         requires room { length self.old.front.bytes ≤ self.old.front.limit }
-        ensures bytes { OnOk result (self.new.front.bytes ≡ front_of self.old.front.limit (self.old.front.bytes ++ set_apart self.old.edge (name_text style name.now))) }
+        ensures bytes { OnOk result (self.new.front.bytes ≡ front_of self.old.front.limit
+            (self.old.front.bytes ++ set_apart self.old.edge (name_text style name.now))) }
         ensures limit { self.new.front.limit ≡ self.old.front.limit }
-        ensures edge { OnOk result (self.new.edge ≡ (if is_prefix then prefix_edge (name_text style name.now) else edge_of self.old.edge (name_text style name.now))) }
+        ensures edge { OnOk result (self.new.edge ≡ (if is_prefix then prefix_edge (name_text style name.now)
+            else edge_of self.old.edge (name_text style name.now))) }
     {
         if has_quotes(style, name) {
             self.quoted_name(name, is_prefix)
@@ -121,7 +127,8 @@ impl Written {
 
     fn variable(&mut self, n: u64) -> Result<(), Memory>
         requires room { length self.old.front.bytes ≤ self.old.front.limit }
-        ensures bytes { OnOk result (self.new.front.bytes ≡ front_of self.old.front.limit (self.old.front.bytes ++ set_apart self.old.edge (codes "_" ++ decimal n))) }
+        ensures bytes { OnOk result (self.new.front.bytes ≡ front_of self.old.front.limit
+            (self.old.front.bytes ++ set_apart self.old.edge (codes "_" ++ decimal n))) }
         ensures limit { self.new.front.limit ≡ self.old.front.limit }
         ensures edge { OnOk result (self.new.edge ≡ edge_of self.old.edge (codes "_" ++ decimal n)) }
     {
@@ -133,7 +140,8 @@ impl Written {
 
     fn letter(&mut self, n: u64) -> Result<(), Memory>
         requires room { length self.old.front.bytes ≤ self.old.front.limit }
-        ensures bytes { OnOk result (self.new.front.bytes ≡ front_of self.old.front.limit (self.old.front.bytes ++ set_apart self.old.edge (the_letter n))) }
+        ensures bytes { OnOk result (self.new.front.bytes ≡ front_of self.old.front.limit
+            (self.old.front.bytes ++ set_apart self.old.edge (the_letter n))) }
         ensures limit { self.new.front.limit ≡ self.old.front.limit }
         ensures edge { OnOk result (self.new.edge ≡ edge_of self.old.edge (the_letter n)) }
     {
@@ -145,7 +153,8 @@ impl Written {
     pub fn token(&mut self, setting: &Setting<'_>, token: Token) -> Result<(), Memory>
         requires named { IsGoodToken (length setting.now.symbols.now) token }
         requires room { length self.old.front.bytes ≤ self.old.front.limit }
-        ensures bytes { OnOk result (self.new.front.bytes ≡ front_of self.old.front.limit (self.old.front.bytes ++ set_apart self.old.edge (text_of (piece_of (ways_of setting.now) token)))) }
+        ensures bytes { OnOk result (self.new.front.bytes ≡ front_of self.old.front.limit
+            (self.old.front.bytes ++ set_apart self.old.edge (text_of (piece_of (ways_of setting.now) token)))) }
         ensures limit { self.new.front.limit ≡ self.old.front.limit }
         ensures edge { OnOk result (self.new.edge ≡ edge_behind self.old.edge (piece_of (ways_of setting.now) token)) }
     {

@@ -2,8 +2,8 @@
 use Rattle.std.specs.Prelude.{◌≡◌, ℕ, ◌≤◌, List, [], ◌∷◌}
 use Rattle.op_trace.specs.declared.barrier.Barrier.{Barrier}
 use Rattle.op_trace.specs.declared.barrier.Barrier.TheVariants.{Call, InCondition, AtSuccess}
-use Rattle.op_trace.specs.World.{Item, Goal, Cut, Exit, Has}
-use Rattle.op_trace.specs.Visit.{Choice, Redo, Branch, More, Fail, Condition}
+use Rattle.op_trace.specs.World.{Item, Goal, Cut, Exit, Try, Has}
+use Rattle.op_trace.specs.Visit.{Choice, Redo, Branch, More, Again, Fail, Condition}
 use Rattle.op_machine.specs.Resume.{keep, State, Forward, Backward, Over}
 
 -- a cut to m drops nothing that a cut of the items behind it keeps
@@ -16,6 +16,7 @@ Scoped K [] = Unit {0}
 Scoped K (Goal t m ∷ J) = Behind m K J × Scoped K J
 Scoped K (Cut m ∷ J) = Behind m K J × Scoped K J
 Scoped K (Exit k g ∷ J) = Scoped K J
+Scoped K (Try t k g ∷ J) = Scoped K J
 
 -- a barrier's number was given out, of so many calls and conditions
 abbrev pub IsGiven : ℕ → ℕ → Barrier → Type 0
@@ -34,12 +35,14 @@ AreGiven c d [] = Unit {0}
 AreGiven c d (Goal t m ∷ J) = IsGoalBarrier c d m × AreGiven c d J
 AreGiven c d (Cut m ∷ J) = IsGiven c d m × AreGiven c d J
 AreGiven c d (Exit k g ∷ J) = AreGiven c d J
+AreGiven c d (Try t k g ∷ J) = AreGiven c d J
 
 -- a choice point goes on over the choice points below it: a cut to the box of further clauses leaves all of these
 abbrev pub IsScopedChoicePoint : ℕ → ℕ → Choice → List Choice → Type 0
 IsScopedChoicePoint c d (Redo k g σ J) K = Unit {0}
 IsScopedChoicePoint c d (Branch t m σ J) K = Scoped K (Goal t m ∷ J) × AreGiven c d (Goal t m ∷ J)
 IsScopedChoicePoint c d (More cs k g σ J) K = (keep (Call k) K ≡ K) × Scoped K J × (k ≤ c) × AreGiven c d J
+IsScopedChoicePoint c d (Again t k g σ J) K = Scoped K J × AreGiven c d J
 IsScopedChoicePoint c d (Fail k g σ J) K = Unit {0}
 IsScopedChoicePoint c d (Condition n t m σ J) K = Scoped K (Goal t m ∷ J) × AreGiven c d (Goal t m ∷ J)
 

@@ -1,7 +1,8 @@
 -- Bounds on what a machine counts: between two steps each box that is open or can be entered again shows few events.
 use Rattle.std.specs.Prelude.{ℕ, suc, ◌+◌, ◌*◌, ◌<◌, ◌≤◌, List, [], ◌∷◌, length}
-use Rattle.op_trace.specs.World.{World, Setup, Item, Goal, Cut, Exit, open_boxes}
-use Rattle.op_trace.specs.Visit.{Choice, Redo, Branch, More, Fail, Condition}
+use Rattle.op_trace.specs.World.{World, Item, Goal, Cut, Exit, Try, open_boxes}
+use Rattle.op_trace.specs.Act.{Setup}
+use Rattle.op_trace.specs.Visit.{Choice, Redo, Branch, More, Again, Fail, Condition}
 use Rattle.op_machine.specs.Resume.{State, Forward, Backward, Over}
 
 -- how many events the choice points show by themselves
@@ -9,6 +10,7 @@ abbrev pub pending : List Choice → ℕ
 pending [] = 0
 pending (Redo k g σ J ∷ K) = suc (pending K)
 pending (More cs k g σ J ∷ K) = pending K
+pending (Again t k g σ J ∷ K) = pending K
 pending (Branch t m σ J ∷ K) = pending K
 pending (Fail k g σ J ∷ K) = suc (pending K)
 pending (Condition n t m σ J ∷ K) = pending K
@@ -18,17 +20,19 @@ abbrev pub IsGoalFirst : List Item → Type 0
 IsGoalFirst (Goal t m ∷ J) = Unit {0}
 IsGoalFirst I = ⊥
 
--- of the boxes that exit, each has a number that was given out, and fewer are open behind it; behind a cut comes a goal
+-- of the boxes that exit, or whose goal is tried, each has a number that was given out, and fewer are open behind it; behind a cut comes a goal
 abbrev pub IsNested : ℕ → List Item → Type 0
 IsNested n [] = Unit {0}
 IsNested n (Goal t m ∷ J) = IsNested n J
 IsNested n (Cut m ∷ J) = IsGoalFirst J × IsNested n J
 IsNested n (Exit k g ∷ J) = (length (open_boxes J) < k) × (k ≤ n) × IsNested n J
+IsNested n (Try t k g ∷ J) = (length (open_boxes J) < k) × (k ≤ n) × IsNested n J
 
 abbrev pub AreNested : ℕ → List Choice → Type 0
 AreNested n [] = Unit {0}
 AreNested n (Redo k g σ J ∷ K) = IsNested n (Exit k g ∷ J) × AreNested n K
 AreNested n (More cs k g σ J ∷ K) = IsNested n (Exit k g ∷ J) × AreNested n K
+AreNested n (Again t k g σ J ∷ K) = IsNested n (Exit k g ∷ J) × AreNested n K
 AreNested n (Branch t m σ J ∷ K) = IsNested n J × AreNested n K
 AreNested n (Condition c t m σ J ∷ K) = IsNested n J × AreNested n K
 AreNested n (Fail k g σ J ∷ K) = IsNested n (Exit k g ∷ J) × AreNested n K

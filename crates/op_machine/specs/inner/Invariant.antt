@@ -6,10 +6,8 @@ use Rattle.op_term.specs.Places.{term_at}
 use Rattle.op_bind.specs.State.{resolved, oldest}
 use Rattle.op_machine.specs.declared.continuations.Item.{Item}
 use Rattle.op_machine.specs.declared.continuations.Item.TheVariants as item
-use Rattle.op_frames.specs.declared.choice.ChoiceKind.{ChoiceKind}
-use Rattle.op_frames.specs.declared.choice.ChoiceKind.TheVariants as kind
-use Rattle.op_store.specs.Snapshots.{snapshot_clauses}
-use Rattle.op_machine.specs.declared.choice_points.Held.{Held}
+use Rattle.op_machine.specs.declared.choice_points.ChoiceKind.{ChoiceKind}
+use Rattle.op_machine.specs.declared.choice_points.ChoiceKind.TheVariants as kind
 use Rattle.op_machine.specs.declared.core_state.Core.{Core}
 use Rattle.op_machine.specs.declared.core_state.Mode.{Mode}
 use Rattle.op_machine.specs.declared.core_state.Mode.TheVariants as mode
@@ -29,6 +27,7 @@ abbrev pub IsItem : ℕ → List (Term ℕ) → Item → Type 0
 IsItem n ts (item.Goal r m) = IsGoal n ts r
 IsItem n ts (item.Cut m) = Unit {0}
 IsItem n ts (item.Exit k r) = IsGoal n ts r
+IsItem n ts (item.Try k r) = IsGoal n ts r
 
 abbrev pub AreItems : ℕ → List (Term ℕ) → List Item → Type 0
 AreItems n ts [] = Unit {0}
@@ -51,20 +50,18 @@ pub record IsEarlier (f : Frame) (v : Level) : Type 0 where
   pub continuations_there : f.kept.continuations ≤ length v.continuations
 
 -- some clause is left of those that are tried
-abbrev pub IsKind : ℕ → ChoiceKind → Held → Type 0
-IsKind n (kind.Redo k) h = Unit {0}
-IsKind n (kind.Branch p) h = Unit {0}
-IsKind n (kind.More k) h = (h.next < length (snapshot_clauses h.snapshot)) × AreKnown n (snapshot_clauses h.snapshot)
-IsKind n (kind.Fail k) h = Unit {0}
-IsKind n (kind.Condition p) h = Unit {0}
-IsKind n (kind.Catch k) h = ⊥
-IsKind n (kind.Findall k) h = ⊥
+abbrev pub IsKind : ℕ → ChoiceKind → Type 0
+IsKind n (kind.Redo k) = Unit {0}
+IsKind n (kind.Branch m) = Unit {0}
+IsKind n (kind.More k rs i) = (i < length rs) × AreKnown n rs
+IsKind n (kind.Fail k) = Unit {0}
+IsKind n (kind.Condition c m) = Unit {0}
 
 -- a choice point leads to what was there when it was made
 pub record IsFrame (t : Stored) (v : Level) (f : Frame) : Type 0 where
   pub rest : f.rest < length v.continuations
   pub goal : IsGoal (length t.names) v.terms f.kept.goal
-  pub kind : IsKind (length t.names) f.kind f.kept
+  pub kind : IsKind (length t.names) f.kept.kind
 
 -- the last first
 abbrev pub AreFrames : Stored → ℕ → Level → List Frame → Type 0

@@ -6,8 +6,9 @@ use Rattle.op_logic.specs.Bind.{unify, Solved as Result}
 use Rattle.op_trace.specs.World as world
 use Rattle.op_trace.specs.declared.barrier.Barrier.{Barrier}
 use Rattle.op_trace.specs.declared.barrier.Barrier.TheVariants.{Call}
-use Rattle.op_trace.specs.World.{Text, text_eq, World, Clause, Turn, Shown, Solved}
-use Rattle.op_trace.specs.Visit.{control, is_true}
+use Rattle.op_trace.specs.Database.{Text, text_eq, Clause}
+use Rattle.op_trace.specs.World.{World, Turn, Shown, Solved}
+use Rattle.op_trace.specs.Visit.{control, inside, is_true}
 use Rattle.op_trace.specs.Visit as visit
 use Rattle.op_bind.specs.declared.places.Clause.{Clause as NumberedClause}
 use Rattle.op_machine.specs.Program.{clause_in, clauses_from, goal_named}
@@ -16,7 +17,8 @@ use Rattle.op_machine.specs.declared.core_state.Step.{Step}
 use Rattle.op_machine.specs.declared.core_state.Step.TheVariants as step
 use Rattle.op_machine.specs.Meaning.{setup_of, world_in, items_now, goal_now, bindings_now, choice_points_in, state_of, event_seen}
 use Rattle.op_machine.specs.inner.Invariant.{IsGood, IsSeen}
-use Rattle.op_machine.specs.Resume.{Moved, Forward, Backward, silent, pay, keep, if_then_else_chosen, chosen, invoked, head_unified, tried}
+use Rattle.op_store.specs.Stored.{database_of}
+use Rattle.op_machine.specs.Resume.{State, entered_state, Moved, Forward, Backward, silent, pay, keep, if_then_else_chosen, chosen, invoked, head_unified, tried}
 use Rattle.op_machine.specs.Resume.{branched, move}
 
 -- the turn that a machine shows after a step
@@ -45,6 +47,11 @@ exit_moved c k g n = move (setup_of c) (Forward (world.Exit k (goal_now c g) ∷
 -- a box is invoked
 abbrev pub box_invoked : Core → ℕ → ℕ → Moved
 box_invoked c g n = invoked (goal_now c g) (items_now c n) (choice_points_in c) (bindings_now c) (world_in c)
+
+-- a box was entered, at the present moment
+abbrev pub box_entered : Core → ℕ → ℕ → ℕ → State
+box_entered c k g n =
+    entered_state (inside (database_of c.store) (goal_now c g)) k (goal_now c g) (items_now c n) (choice_points_in c) (bindings_now c) (world_in c)
 
 -- the body of a clause before items, with this barrier: nothing for a fact
 abbrev pub body_before : Core → ℕ → ℕ → List world.Item → List world.Item

@@ -2,6 +2,7 @@
 use Rattle.std.specs.Prelude.{◌≡◌, ℕ, ◌+◌, ◌≤◌, List, [], ◌∷◌}
 use Rattle.op_trace.specs.declared.barrier.Barrier.TheVariants.{Call}
 use Rattle.op_trace.specs.World.{Turn, Shown, Solved, Goal, loaded}
+use Rattle.op_trace.specs.Act.{setup_for}
 use Rattle.op_trace.specs.Run.{started}
 use Rattle.op_trace.specs.Visit.{gives, with_turns}
 use Rattle.op_machine.specs.declared.core_state.Core.{Core}
@@ -12,8 +13,8 @@ use Rattle.op_logic.specs.Term.{Term}
 use Rattle.op_machine.specs.Meaning.{setup_of, world_in, state_of, event_seen, bindings_now, verdict_of}
 use Rattle.op_machine.specs.inner.Invariant.{IsSound, IsSeen}
 use Rattle.op_machine.specs.Resume.{owed, Forward}
-use Rattle.op_store.specs.Stored.{Stored}
-use Rattle.op_machine.specs.Program.{clauses, goal_named}
+use Rattle.op_store.specs.Stored.{Stored, database_of}
+use Rattle.op_machine.specs.Program.{goal_named}
 
 -- how many turns a machine has answered
 abbrev pub turns_in : Core → ℕ
@@ -52,8 +53,8 @@ Turned old new (turn.Ended e) = Ended old new e
 
 -- nothing was done yet
 pub record IsBegun (t : Stored) (g : Term ℕ) (n : ℕ) (query_names : List (List ℕ × ℕ)) (budget wanted : ℕ) (c : Core) : Type 0 where
-  pub state : state_of c ≡ Forward (Goal (goal_named t g) (Call 0) ∷ []) [] [] (started n (loaded (clauses t)))
+  pub state : state_of c ≡ Forward (Goal (goal_named t g) (Call 0) ∷ []) [] [] (started n (loaded (database_of t)))
   pub names : c.names ≡ query_names
-  pub setup : setup_of c ≡ record { budget = budget; wanted = wanted }
+  pub setup : setup_of c ≡ setup_for budget wanted
   pub steps : c.steps ≡ 0
   pub turns : turns_in c ≡ 0

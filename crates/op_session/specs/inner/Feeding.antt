@@ -1,7 +1,6 @@
 -- What the feed of a run's events keeps.
-use Rattle.std.specs.Prelude.{◌≡◌, ◌+◌, ◌≤◌, true, [], ◌∷◌, drop, Option, Some, None}
+use Rattle.std.specs.Prelude.{◌≡◌, ℕ, ◌+◌, ◌≤◌, true, [], ◌∷◌, drop, max, Option, Some, None}
 use Rattle.op_session.specs.inner.Reader.{IsReader}
-use Rattle.op_trace.specs.World.{loaded}
 use Rattle.op_trace.specs.Run.{Run, events_of, worlds_of, steps_at}
 use Rattle.op_machine.specs.declared.core_state.Ending.{Ending}
 use Rattle.op_machine.specs.declared.core_state.Ending.TheVariants as outcome
@@ -11,7 +10,7 @@ use Rattle.op_session.specs.declared.feed.Next.{Next}
 use Rattle.op_session.specs.declared.feed.Next.TheVariants as found
 use Rattle.op_session.specs.Traced.{Traced}
 use Rattle.op_session.specs.Line.{event_line}
-use Rattle.op_session.specs.Moves.{Stand, Found, At, No_event, Past_budget, next_from, moved, event_count}
+use Rattle.op_session.specs.Moves.{Stand, Found, At, No_event, Past_budget, next_from, moved, event_count, most_steps}
 use Rattle.op_session.specs.Session.{line_at}
 
 -- the end was looked at, or it wasn't
@@ -35,11 +34,15 @@ pub record Feeds (traced : Traced) (s : Stand) (feed : Feed) : Type 0 where
   pub ending : traced.run.ending ≡ (to_come feed.machine).ending
   pub world : traced.run.world ≡ (to_come feed.machine).world
   pub within : s.place ≤ event_count traced.run
-  pub steps : feed.machine.steps ≡ steps_at (loaded []) traced.run s.furthest
-  pub least : steps_at (loaded []) traced.run s.place ≤ feed.machine.steps
+  pub steps : feed.machine.steps ≡ steps_at traced.run s.furthest
+  pub least : steps_at traced.run s.place ≤ feed.machine.steps
   pub looked : Looked traced.run s feed.ended
   pub operators : feed.machine.tables.table ≡ traced.table
   pub reads : IsReader feed.commands
+
+-- the most steps that a machine has made or has still to show
+abbrev pub most_of : Kept → ℕ
+most_of k = max k.steps (most_steps (to_come k))
 
 -- a machine went on to its next event
 pub record ShowsEvent (old new : Kept) : Type 0 where

@@ -7,12 +7,13 @@ use Rattle.op_session.specs.declared.feed.Feed.{Feed}
 use Rattle.op_session.specs.declared.feed.Next.{Next}
 use Rattle.op_session.specs.declared.feed.Next.TheVariants as found
 use Rattle.op_session.specs.declared.status.Status.{Status}
+use Rattle.op_session.specs.declared.status.Status.TheVariants as status
 use Rattle.op_session.specs.Line.{event_line}
 use Rattle.op_session.specs.Moves.{Stand}
 use Rattle.op_session.specs.Session.{answer_to}
 use Rattle.op_session.specs.Sight.{Sight}
 use Rattle.op_session.specs.inner.Steps.{SaysAll, SaysFront}
-use Rattle.op_session.specs.inner.Feeding.{Feeds}
+use Rattle.op_session.specs.inner.Feeding.{Feeds, most_of}
 
 -- the answer to `next`
 abbrev pub text_of : Table → Next → Event → List ℕ
@@ -29,13 +30,21 @@ pub record Told (traced : Traced) (s : Stand) (text answer : List ℕ) (feed : F
 pub record Pays (old new : Feed) (before after : ℕ) : Type 0 where
   pub cost : after ≡ before + (new.machine.steps - old.machine.steps)
   pub later : old.machine.steps ≤ new.machine.steps
+  pub within : new.machine.steps ≤ most_of old.machine
 
 -- the answer was said
 pub record GivesAll (traced : Traced) (s : Stand) (text : List ℕ) (old new : Feed) (before after : ℕ) (a b : Sight) : Type 0 where
   pub says : SaysAll a b (answer_to traced s text).text
   pub feeds : Feeds traced (answer_to traced s text).stand new
   pub pays : Pays old new before after
+  pub rises : most_of new.machine ≤ most_of old.machine
+
+-- a front of it was; it was whole where it could not be written
+pub record GivesFront (traced : Traced) (s : Stand) (text : List ℕ) (old new : Feed) (st : Status) (m n : ℕ) (a b : Sight) : Type 0 where
+  pub says : SaysFront st a b (answer_to traced s text).text
+  pub feeds : st ≡ status.Write → Feeds traced (answer_to traced s text).stand new
+  pub pays : Pays old new m n
 
 abbrev pub Gives : Traced → Stand → List ℕ → Feed → Feed → ℕ → ℕ → Sight → Sight → Result (Unit {0}) Status → Type 0
 Gives traced s text old new before after a b (Ok x) = GivesAll traced s text old new before after a b
-Gives traced s text old new before after a b (Err st) = SaysFront st a b (answer_to traced s text).text
+Gives traced s text old new before after a b (Err st) = GivesFront traced s text old new st before after a b

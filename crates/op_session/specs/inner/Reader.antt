@@ -1,7 +1,7 @@
 -- The store that commands are read with.
 use Rattle.std.specs.Prelude.{◌≡◌}
 use Rattle.op_term.specs.Ops.{iso_table}
-use Rattle.op_reader.specs.declared.quotes.DoubleQuotes.TheVariants.{Codes}
+use Rattle.op_term.specs.declared.quotes.DoubleQuotes.TheVariants.{Codes}
 use Rattle.op_store.specs.Stored.{Stored}
 
 -- a store that reads commands: with the operators of the standard, and text in double quotes as codes

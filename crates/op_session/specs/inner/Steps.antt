@@ -1,7 +1,9 @@
 -- What small steps do to what a desk shows.
 use Rattle.std.specs.Prelude.{◌≡◌, ◌≤◌, ℕ, IsTrue, List, [], ◌∷◌, length, Option, Some, None, Result, Ok, Err}
 use Rattle.std.specs.Io.KnownBytes.{Appends, Consumes, IsAtEnd}
+use Rattle.op_desk.specs.declared.chan.Chan.TheVariants.{Commands, Talk}
 use Rattle.op_desk.specs.Contents.{AppendsFront, IsFile, IsLonger, IsMissing}
+use Rattle.op_desk.specs.Frame.{SameBut}
 use Rattle.op_session.specs.declared.status.Status.{Status}
 use Rattle.op_session.specs.declared.status.Status.TheVariants as status
 use Rattle.op_session.specs.Promise.{CountsAs, IsBroken, IsFaultless, IsUnread, IsUnwritten}
@@ -9,9 +11,8 @@ use Rattle.op_session.specs.Sight.{Sight}
 
 -- what only the commands and the answers can change
 pub record Quiet (a b : Sight) : Type 0 where
-  pub input : b.input ≡ a.input
-  pub output : b.output ≡ a.output
-  pub note : b.note ≡ a.note
+  pub left : SameBut Commands a.left b.left
+  pub written : SameBut Talk a.written b.written
   pub shelf : b.shelf ≡ a.shelf
   pub steady : IsTrue a.steady → IsTrue b.steady
 
@@ -31,21 +32,21 @@ pub record Fault (s : Status) (a b : Sight) : Type 0 where
 -- a byte of the commands was taken, or none is left
 pub record TakesByte (a b : Sight) (byte : ℕ) : Type 0 where
   pub calm : Calm a b
-  pub talk : b.talk ≡ a.talk
-  pub front : Consumes a.commands b.commands (byte ∷ [])
+  pub talk : b.written Talk ≡ a.written Talk
+  pub front : Consumes (a.left Commands) (b.left Commands) (byte ∷ [])
 
 pub record TakesNone (a b : Sight) : Type 0 where
   pub calm : Calm a b
-  pub talk : b.talk ≡ a.talk
-  pub none : Consumes a.commands b.commands []
-  pub end : IsAtEnd b.commands
+  pub talk : b.written Talk ≡ a.written Talk
+  pub none : Consumes (a.left Commands) (b.left Commands) []
+  pub end : IsAtEnd (b.left Commands)
 
 -- neither commands nor answers changed
 pub record TakesNothing (s : Status) (a b : Sight) : Type 0 where
   pub fault : Fault s a b
   pub unread : IsUnread s
-  pub talk : b.talk ≡ a.talk
-  pub commands : b.commands ≡ a.commands
+  pub talk : b.written Talk ≡ a.written Talk
+  pub commands : b.left Commands ≡ a.left Commands
 
 abbrev pub Takes : Sight → Sight → Result (Option ℕ) Status → Type 0
 Takes a b (Ok (Some byte)) = TakesByte a b byte
@@ -55,15 +56,15 @@ Takes a b (Err s) = TakesNothing s a b
 -- bytes were written to Talk
 pub record SaysAll (a b : Sight) (bytes : List ℕ) : Type 0 where
   pub calm : Calm a b
-  pub talk : Appends a.talk b.talk bytes
-  pub commands : b.commands ≡ a.commands
+  pub talk : Appends (a.written Talk) (b.written Talk) bytes
+  pub commands : b.left Commands ≡ a.left Commands
 
 -- a front of them was
 pub record SaysFront (s : Status) (a b : Sight) (bytes : List ℕ) : Type 0 where
   pub fault : Fault s a b
   pub unwritten : IsUnwritten s
-  pub talk : AppendsFront a.talk b.talk bytes
-  pub commands : b.commands ≡ a.commands
+  pub talk : AppendsFront (a.written Talk) (b.written Talk) bytes
+  pub commands : b.left Commands ≡ a.left Commands
 
 abbrev pub Says : Sight → Sight → List ℕ → Result (Unit {0}) Status → Type 0
 Says a b bytes (Ok x) = SaysAll a b bytes
@@ -77,8 +78,8 @@ ended_as s (Err t) = t
 -- neither commands nor answers changed, and there was no fault
 pub record Untouched (a b : Sight) : Type 0 where
   pub calm : Calm a b
-  pub talk : b.talk ≡ a.talk
-  pub commands : b.commands ≡ a.commands
+  pub talk : b.written Talk ≡ a.written Talk
+  pub commands : b.left Commands ≡ a.left Commands
 
 -- a file could not be read: a steady desk fails only where it is missing
 pub record Unread (name : List ℕ) (s : Status) (a b : Sight) : Type 0 where
@@ -86,8 +87,8 @@ pub record Unread (name : List ℕ) (s : Status) (a b : Sight) : Type 0 where
   pub quiet : Quiet a b
   pub counts : CountsAs s a.reads b.reads a.writes b.writes
   pub missing : IsTrue a.steady → s ≡ status.Read → IsMissing a.shelf name
-  pub talk : b.talk ≡ a.talk
-  pub commands : b.commands ≡ a.commands
+  pub talk : b.written Talk ≡ a.written Talk
+  pub commands : b.left Commands ≡ a.left Commands
 
 -- a whole file, or it is too long
 pub record ReadsFile (name bytes : List ℕ) (a b : Sight) : Type 0 where

@@ -1,5 +1,5 @@
 use Rattle.std.proofs.Common.{length}
-use Rattle.op_bind.proofs.Copying.{IsBuilding}
+use Rattle.op_bind.proofs.TermCopies.{IsBuilding}
 use Rattle.op_bind.proofs.copy.build.Given as goal
 
 abbrev pub invariant-back : goal.invariant-back

@@ -1,5 +1,5 @@
 use Rattle.std.proofs.Common.{◌≡◌, ◌+◌, All, length}
-use Rattle.op_bind.proofs.Copying.{IsMeeting}
+use Rattle.op_bind.proofs.TermCopies.{IsMeeting}
 use Rattle.op_bind.proofs.copy.nodes_within.Given as goal
 
 abbrev pub invariant-walk : goal.invariant-walk

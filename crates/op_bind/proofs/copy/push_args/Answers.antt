@@ -1,7 +1,7 @@
 use Rattle.std.proofs.Common.{◌<◌, List, subst, sym, All, arith}
 use Rattle.std.proofs.lemmas.List.Elements.{All-push}
 use Rattle.op_logic.specs.Term.{args_of, arity}
-use Rattle.op_bind.proofs.Copying.{pushed-more, pushed-all}
+use Rattle.op_bind.proofs.TermCopies.{pushed-more, pushed-all}
 use Rattle.op_bind.proofs.copy.push_args.Goals as goal
 
 pub push-preserved : goal.push-preserved
@@ -10,8 +10,10 @@ push-preserved g c =
     let t = g.T.Tree.term c.args.tree.now c.args.at.now in
     let h : c.push.i < arity (args_of t) = omega (arith, c.requires.count) in
     record {
-      pushed = pushed-more term t c.args.todo.now.items c.push.todo.items c.push-in-push.new.self.items c.push.i c.part.result h c.in_ok-push.ensures.items c.part.ensures.value c.push.invariant.pushed;
-      there = subst (λ (ps : List _). All (g.T.Tree.IsPlace c.args.tree.now) ps) (sym c.in_ok-push.ensures.items) (All-push (g.T.Tree.IsPlace c.args.tree.now) c.push.todo.items c.part.result c.push.invariant.there c.part.ensures.place);
+      pushed = pushed-more term t c.args.todo.now.items c.push.todo.items c.push-in-push.new.self.items c.push.i c.part.result h
+          c.in_ok-push.ensures.items c.part.ensures.value c.push.invariant.pushed;
+      there = subst (λ (ps : List _). All (g.T.Tree.IsPlace c.args.tree.now) ps) (sym c.in_ok-push.ensures.items)
+          (All-push (g.T.Tree.IsPlace c.args.tree.now) c.push.todo.items c.part.result c.push.invariant.there c.part.ensures.place);
     }
 
 pub returns-clause-terms : goal.returns-clause-terms

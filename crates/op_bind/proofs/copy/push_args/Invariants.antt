@@ -1,5 +1,5 @@
 use Rattle.std.proofs.Common.{All}
-use Rattle.op_bind.proofs.Copying.{Pushed}
+use Rattle.op_bind.proofs.TermCopies.{Pushed}
 use Rattle.op_bind.proofs.copy.push_args.Given as goal
 
 abbrev pub invariant-push : goal.invariant-push

@@ -1,5 +1,5 @@
 use Rattle.std.proofs.Common.{◌≡◌, ◌≤◌, ◌++◌, length, drop, reverse}
-use Rattle.op_bind.specs.Pairs.{zip}
+use Rattle.op_bind.specs.inner.Pairs.{zip}
 use Rattle.op_bind.proofs.unify.push_pairs.Given as goal
 
 abbrev pub decreases-down : goal.decreases-down

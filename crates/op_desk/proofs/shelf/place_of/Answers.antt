@@ -1,4 +1,4 @@
-use Rattle.op_desk.proofs.EntryLemmas.{absent_more}
+use Rattle.op_desk.proofs.EntryLaws.{absent_more}
 use Rattle.op_desk.proofs.shelf.place_of.Goals as goal
 
 pub loop-i-preserved : goal.loop-i-preserved

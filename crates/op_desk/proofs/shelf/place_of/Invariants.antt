@@ -1,6 +1,6 @@
 use Rattle.std.proofs.Common.{◌≡◌, take, None}
 use Rattle.op_desk.specs.Contents.{bytes_of}
-use Rattle.op_desk.specs.Entries.{files_of}
+use Rattle.op_desk.specs.inner.Entries.{files_of}
 use Rattle.op_desk.proofs.shelf.place_of.Given as goal
 
 -- no entry so far has the name

@@ -1,5 +1,5 @@
-use Rattle.op_desk.proofs.EntryLemmas.{files_of-set_at_place, files_of-push_new}
-use Rattle.op_desk.proofs.ShelfLemmas.{IsNamedOnce-with_file}
+use Rattle.op_desk.proofs.EntryLaws.{files_of-set_at_place, files_of-push_new}
+use Rattle.op_desk.proofs.ShelfLaws.{IsNamedOnce-with_file}
 use Rattle.op_desk.proofs.shelf.put_entry.Goals as goal
 
 pub returns-in-Some-clause-ok : goal.returns-in-Some-clause-ok

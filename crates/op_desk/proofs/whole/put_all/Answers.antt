@@ -1,7 +1,7 @@
 use Rattle.std.proofs.Common.{◌-◌, ◌<◌, length, take, drop, length-drop, ◌∙◌, arith, rules}
 use Rattle.std.proofs.lemmas.List.{take_rest}
-use Rattle.op_desk.proofs.FrameLemmas.{Same-then, SameBut-then, SameBut-from_Becomes, Becomes-at}
-use Rattle.op_desk.proofs.WholeLemmas.{Appends-more}
+use Rattle.op_desk.proofs.FrameLaws.{Same-then, SameBut-then, SameBut-from_Becomes, Becomes-at}
+use Rattle.op_desk.proofs.PieceLaws.{Appends-more}
 use Rattle.op_desk.proofs.whole.put_all.Goals as goal
 
 pub loop-done-preserved : goal.loop-done-preserved
@@ -18,7 +18,8 @@ loop-done-preserved g c =
       same_fresh = SameBut-then c.args.chan _ _ _ was.same_fresh (SameBut-from_Becomes c.args.chan _ _ _ put.used);
       used = λ h. Becomes-at c.args.chan _ _ _ put.used;
       unused = λ h.
-          let room : 0 < length (take (length c.args.bytes.now - c.loop-done.done) (drop c.loop-done.done c.args.bytes.now)) = rw (take_rest, length-drop) (omega arith) in
+          let room : 0 < length (take (length c.args.bytes.now - c.loop-done.done) (drop c.loop-done.done c.args.bytes.now)) =
+          rw (take_rest, length-drop) (omega arith) in
           let more = some room in
           absurd (omega arith);
       same_shelf = put.same_shelf ∙ was.same_shelf;

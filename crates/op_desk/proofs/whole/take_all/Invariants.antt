@@ -1,6 +1,6 @@
 use Rattle.std.proofs.Common.{◌≡◌, ◌≤◌, ◌<◌, ◌-◌, IsTrue, length, vec_len}
 use Rattle.op_desk.specs.Frame.{Same}
-use Rattle.op_desk.proofs.WholeLemmas.{Begins}
+use Rattle.op_desk.proofs.PieceLaws.{Begins}
 use Rattle.op_desk.proofs.whole.take_all.Given as goal
 
 abbrev pub invariant-loop-bytes : goal.invariant-loop-bytes

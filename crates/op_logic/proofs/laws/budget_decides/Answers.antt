@@ -1,4 +1,4 @@
-use Rattle.op_logic.proofs.Counting.{unify-within}
+use Rattle.op_logic.proofs.StepCounts.{unify-within}
 use Rattle.std.proofs.Common.{nat_eq}
 use Rattle.op_logic.proofs.laws.budget_decides.Goals as goal
 

@@ -1,4 +1,4 @@
-use Rattle.op_logic.proofs.Followed.{apply-follow}
+use Rattle.op_logic.proofs.FollowedTerms.{apply-follow}
 use Rattle.op_logic.proofs.laws.followed_has_value.Goals as goal
 
 pub returns : goal.returns

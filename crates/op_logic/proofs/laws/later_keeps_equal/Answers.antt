@@ -1,4 +1,4 @@
-use Rattle.op_logic.proofs.Applied.{apply-append-same}
+use Rattle.op_logic.proofs.AppliedBindings.{apply-append-same}
 use Rattle.op_logic.proofs.laws.later_keeps_equal.Goals as goal
 
 pub returns : goal.returns

@@ -1,4 +1,4 @@
-use Rattle.op_logic.proofs.Naming.{names-same}
+use Rattle.op_logic.proofs.NameTables.{names-same}
 use Rattle.op_logic.proofs.laws.names_differ.Goals as goal
 
 pub returns : goal.returns

@@ -1,4 +1,4 @@
-use Rattle.op_logic.proofs.Naming.{named-more}
+use Rattle.op_logic.proofs.NameTables.{named-more}
 use Rattle.op_logic.proofs.laws.names_stay.Goals as goal
 
 pub returns : goal.returns

@@ -1,4 +1,4 @@
-use Rattle.op_logic.proofs.Applied.{occurs-apply}
+use Rattle.op_logic.proofs.AppliedBindings.{occurs-apply}
 use Rattle.op_logic.proofs.laws.no_bound_is_left.Goals as goal
 
 pub returns : goal.returns

@@ -1,4 +1,4 @@
-use Rattle.op_logic.proofs.Counting.{solve-unique}
+use Rattle.op_logic.proofs.StepCounts.{solve-unique}
 use Rattle.std.proofs.Common.{nat_eq}
 use Rattle.op_logic.proofs.laws.one_result.Goals as goal
 

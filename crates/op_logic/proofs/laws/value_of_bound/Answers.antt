@@ -1,4 +1,4 @@
-use Rattle.op_logic.proofs.Applied.{apply-bound}
+use Rattle.op_logic.proofs.AppliedBindings.{apply-bound}
 use Rattle.op_logic.proofs.laws.value_of_bound.Goals as goal
 
 pub returns : goal.returns

@@ -1,8 +1,8 @@
 use Rattle.std.proofs.Common.{◌≡◌, ◌+◌, ℕ, List, sym, ap, ◌∙◌, subst, arith}
 use Rattle.op_logic.specs.Term.{IsWithin, shift}
-use Rattle.op_logic.proofs.Shifting.{shift-none}
+use Rattle.op_logic.proofs.ShiftedTerms.{shift-none}
 use Rattle.op_bind.specs.State.{State}
-use Rattle.op_store.specs.declared.goal.Goal.{Goal}
+use Rattle.op_store.specs.declared.goals.goal.Goal.{Goal}
 use Rattle.op_machine.specs.inner.Invariant.{AreValues}
 use Rattle.op_machine.proofs.StartLaws.{parts-made}
 use Rattle.op_machine.proofs.start.parts_of.Goals as goal

@@ -1,4 +1,4 @@
-use Rattle.op_readback.proofs.Again.{quoted-is-read-back, canonical-is-read-back}
+use Rattle.op_readback.proofs.ReadBackLaw.{quoted-is-read-back, canonical-is-read-back}
 use Rattle.op_readback.proofs.laws.read_back.Goals as goal
 
 pub returns : goal.returns

@@ -1,5 +1,5 @@
 use Rattle.std.proofs.Common.{◌≡◌, drop}
-use Rattle.op_reader.specs.Marks.{first_excess}
+use Rattle.op_reader.specs.inner.Marks.{first_excess}
 use Rattle.op_reader.proofs.role.first_excess.Given as goal
 
 abbrev pub invariant-loop-mark : goal.invariant-loop-mark

@@ -2,7 +2,7 @@ use Rattle.std.proofs.Common.{◌≡◌, drop, [], ℕ}
 use Rattle.std.specs.Prelude.{map, All}
 use Rattle.op_reader.specs.declared.within.Within.TheVariants.{Clause}
 use Rattle.op_reader.specs.Roles.{levels_of, an_operand}
-use Rattle.op_reader.specs.Marks.{WordBelow, MarkBelow, View, word_in, with_marks, on_layers, roles_left, left_at}
+use Rattle.op_reader.specs.inner.Marks.{WordBelow, MarkBelow, View, word_in, with_marks, on_layers, roles_left, left_at}
 use Rattle.op_reader.proofs.role.roles_of.Given as goal
 
 abbrev pub invariant-loop-word : goal.invariant-loop-word

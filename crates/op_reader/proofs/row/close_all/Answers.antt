@@ -1,9 +1,10 @@
 use Rattle.std.proofs.Common.{◌∙◌}
-use Rattle.op_reader.proofs.Closing.{kept_both, popped_there, step_there, step_term, step_priority}
+use Rattle.op_reader.proofs.ClosedSpines.{kept_both, popped_there, step_there, step_term, step_priority}
 use Rattle.op_reader.proofs.row.close_all.Goals as goal
 
 pub close-requires-clause-left : goal.close-requires-clause-left
-close-requires-clause-left c = popped_there _ c.close.branches.items c.pop.new.self.items c.in-Some.branch c.in-Some.ensures.items c.close.invariant.branches_there
+close-requires-clause-left c =
+    popped_there _ c.close.branches.items c.pop.new.self.items c.in-Some.branch c.in-Some.ensures.items c.close.invariant.branches_there
 
 pub close-preserved : goal.close-preserved
 close-preserved c =

@@ -1,10 +1,11 @@
 use Rattle.std.proofs.Common.{◌≡◌, true, sym, ap, ◌∙◌}
-use Rattle.op_reader.specs.Adding.{last_is_below}
-use Rattle.op_reader.proofs.Closing.{kept_both, popped_there, step_there, step_same, same_both}
+use Rattle.op_reader.specs.inner.Adding.{last_is_below}
+use Rattle.op_reader.proofs.ClosedSpines.{kept_both, popped_there, step_there, step_same, same_both}
 use Rattle.op_reader.proofs.row.close_below.Goals as goal
 
 pub close-requires-clause-left : goal.close-requires-clause-left
-close-requires-clause-left c = popped_there _ c.close.branches.items c.pop.new.self.items c.in-Some.branch c.in-Some.ensures.items c.close.invariant.branches_there
+close-requires-clause-left c =
+    popped_there _ c.close.branches.items c.pop.new.self.items c.in-Some.branch c.in-Some.ensures.items c.close.invariant.branches_there
 
 pub close-preserved-in-Some : goal.close-preserved-in-Some
 close-preserved-in-Some c =
@@ -18,7 +19,8 @@ close-preserved-in-Some c =
     let i = c.close.invariant in
     let k = c.in_ok-right.ensures.kept in
     let p = c.in_ok-right.ensures.part in
-    let below : last_is_below c.args.priority xs ≡ true = ap (last_is_below c.args.priority) (sym c.deref.ensures.value) ∙ (sym c.ends_below.ensures ∙ c.close-test.true) in
+    let below : last_is_below c.args.priority xs ≡ true = ap (last_is_below c.args.priority) (sym c.deref.ensures.value)
+    ∙ (sym c.ends_below.ensures ∙ c.close-test.true) in
     record {
       branches_there = step_there ts us xs bs c.in-Some.branch right part e k i.branches_there p;
       part_there = c.in_ok-right.ensures.there;

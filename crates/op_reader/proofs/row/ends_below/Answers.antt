@@ -1,5 +1,5 @@
 use Rattle.std.proofs.Common.{ℕ, ltb, sym, ◌∙◌, ap}
-use Rattle.op_reader.proofs.Closing.{last_found}
+use Rattle.op_reader.proofs.ClosedSpines.{last_found}
 use Rattle.op_reader.proofs.row.ends_below.Goals as goal
 
 pub returns-in-Some : goal.returns-in-Some

@@ -1,4 +1,4 @@
-use Rattle.op_reader.proofs.Refused.{infix_keeps, postfix_keeps, prefix_keeps}
+use Rattle.op_reader.proofs.RefusedRows.{infix_keeps, postfix_keeps, prefix_keeps}
 use Rattle.op_reader.proofs.row_laws.refused_for_good.Goals as goal
 
 pub returns : goal.returns

@@ -1,4 +1,4 @@
-use Rattle.op_reader.proofs.Refused.{trees_of_rows}
+use Rattle.op_reader.proofs.RefusedRows.{trees_of_rows}
 use Rattle.op_reader.proofs.row_laws.trees_are_of_rows.Goals as goal
 
 pub returns : goal.returns

@@ -1,4 +1,4 @@
-use Rattle.op_reader.proofs.Popping.{popped_some}
+use Rattle.op_reader.proofs.PendingLevels.{popped_some}
 use Rattle.op_reader.proofs.terms.pop.Goals as goal
 
 pub returns-in-Some-clause-popped : goal.returns-in-Some-clause-popped

@@ -1,20 +1,25 @@
 use Rattle.std.proofs.Common.{length, drop, subst, sym, arith, List, []}
 use Rattle.std.proofs.Math.Seq.{drop-length}
 use Rattle.op_reader.specs.declared.mark.Mark.{Mark}
-use Rattle.op_reader.specs.Marks.{Layers, with_marks, no_layers}
+use Rattle.op_reader.specs.inner.Marks.{Layers, with_marks, no_layers}
 use Rattle.std.proofs.lemmas.List.Elements.{All-same, All-nil}
 use Rattle.op_reader.specs.declared.terms.Pending.{Pending}
-use Rattle.op_reader.specs.Level.{Reads, LevelBelow}
-use Rattle.op_reader.proofs.Showing.{kept_all, kept_kept}
-use Rattle.op_reader.proofs.Popping.{reads_none, marks_back}
+use Rattle.op_reader.specs.inner.Level.{Reads, LevelBelow}
+use Rattle.op_reader.proofs.ShownNodes.{kept_all, kept_kept}
+use Rattle.op_reader.proofs.PendingLevels.{reads_none, marks_back}
 use Rattle.op_reader.proofs.terms.term_node.Goals as goal
 
 pub marks-init : goal.marks-init
 marks-init c =
     let p : Pending = record { inner = c.new.result; outer = c.new-2.result } in record {
       inside = omega arith;
-      reads = λ v k. subst (λ (ms : List Mark). Reads v c.args.known p (with_marks v ms no_layers)) (sym (drop-length c.args.marks.now)) (reads_none v c.args.known p (c.new.ensures.empty v) c.new-2.ensures.items);
-      below = record { inner = c.new.ensures.below (length c.args.nodes.now); outer = All-same (LevelBelow (length c.args.nodes.now)) c.new-2.result.items [] c.new-2.ensures.items (All-nil (LevelBelow (length c.args.nodes.now))) };
+      reads = λ v k. subst (λ (ms : List Mark). Reads v c.args.known p (with_marks v ms no_layers)) (sym (drop-length c.args.marks.now))
+          (reads_none v c.args.known p (c.new.ensures.empty v) c.new-2.ensures.items);
+      below = record {
+        inner = c.new.ensures.below (length c.args.nodes.now);
+        outer = All-same (LevelBelow (length c.args.nodes.now))
+            c.new-2.result.items [] c.new-2.ensures.items (All-nil (LevelBelow (length c.args.nodes.now)));
+      };
       kept = kept_all c.args.nodes.now;
     }
 

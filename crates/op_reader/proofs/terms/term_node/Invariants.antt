@@ -1,6 +1,6 @@
 use Rattle.std.proofs.Common.{◌≡◌, ◌≤◌, length, take, drop}
-use Rattle.op_reader.specs.Marks.{View, with_marks, no_layers}
-use Rattle.op_reader.specs.Level.{Extends, Reads, PendingBelow}
+use Rattle.op_reader.specs.inner.Marks.{View, with_marks, no_layers}
+use Rattle.op_reader.specs.inner.Level.{Extends, Reads, PendingBelow}
 use Rattle.op_reader.proofs.terms.term_node.Given as goal
 
 abbrev pub invariant-marks : goal.invariant-marks

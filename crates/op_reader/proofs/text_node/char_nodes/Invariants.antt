@@ -1,7 +1,7 @@
 use Rattle.std.proofs.Common.{◌≡◌, length, take}
 use Rattle.std.specs.Prelude.{map}
 use Rattle.op_reader.specs.Words.{char_term}
-use Rattle.op_reader.specs.Shown.{ShowsTerms}
+use Rattle.op_reader.specs.inner.Shown.{ShowsTerms}
 use Rattle.op_reader.proofs.text_node.char_nodes.Given as goal
 
 abbrev pub invariant-loop-character : goal.invariant-loop-character

@@ -1,7 +1,7 @@
 use Rattle.std.proofs.Common.{sym, subst}
 use Rattle.op_token.specs.declared.token.TokenKind.{TokenKind}
 use Rattle.op_reader.specs.Words.{word_by}
-use Rattle.op_reader.specs.Shown.{ShowsWord}
+use Rattle.op_reader.specs.inner.Shown.{ShowsWord}
 use Rattle.op_reader.proofs.words.word_of.Goals as goal
 
 pub returns-in_ok-word-in-Variable-clause-shown : goal.returns-in_ok-word-in-Variable-clause-shown

@@ -1,6 +1,6 @@
 use Rattle.std.proofs.Common.{◌≡◌, ◌≤◌, ◌-◌, length, take}
 use Rattle.op_reader.specs.Words.{source}
-use Rattle.op_reader.specs.Shown.{Worded}
+use Rattle.op_reader.specs.inner.Shown.{Worded}
 use Rattle.op_reader.proofs.words.words_of.Given as goal
 
 abbrev pub invariant-words : goal.invariant-words

@@ -1,6 +1,7 @@
 use Rattle.std.proofs.Common.{◌≡◌, ◌+◌, ◌-◌, ◌≤◌, length}
 use Rattle.op_trace.specs.Run.{events_of, worlds_of}
 use Rattle.op_machine.specs.Machine.{to_come}
+use Rattle.op_session.specs.inner.Feeding.{most_of}
 use Rattle.op_session.proofs.feed.next_event.Given as goal
 
 abbrev pub invariant-loop-ending : goal.invariant-loop-ending
@@ -12,6 +13,7 @@ invariant-loop-ending g l = record {
   cost : l.steps ≡ l.fn.steps + (l.machine.steps - l.fn.machine.steps);
   later : l.fn.machine.steps ≤ l.machine.steps;
   tables : l.machine.tables ≡ l.fn.machine.tables;
+  most : most_of l.machine ≤ most_of l.fn.machine;
 }
 
 abbrev pub decreases-loop-ending : goal.decreases-loop-ending

@@ -2,8 +2,8 @@ use Rattle.std.proofs.Common.{◌≡◌, Bool, sym, ap, ◌∙◌, subst, All, I
 use Rattle.std.specs.List.{list_all}
 use Rattle.op_logic.specs.Names.{HasNames, named}
 use Rattle.op_bind.specs.declared.places.Clause.{Clause as NumberedClause}
-use Rattle.op_trace.specs.World.{Clause}
-use Rattle.op_store.specs.Stored.{world_of}
+use Rattle.op_trace.specs.Database.{Clause}
+use Rattle.op_store.specs.Stored.{database_of}
 use Rattle.op_store.specs.Rows.{clause_named}
 use Rattle.op_session.specs.Runnable.{is_runnable, are_runnable}
 use Rattle.op_session.proofs.RunnableBodies.{rows-bodies, list_all-map}
@@ -17,7 +17,7 @@ are_runnable_clauses-requires c =
 pub returns : goal.returns
 returns c =
     let s = c.args.store.now in
-    let e : list_all (λ (r : NumberedClause). is_runnable (world_of s) (named s.names r.body)) c.in_ok-clauses.clauses ≡ are_runnable (world_of s) =
-    sym (list_all-map (λ (k : Clause). is_runnable (world_of s) k.body) (clause_named s.names) c.in_ok-clauses.clauses)
-    ∙ ap (list_all (λ (k : Clause). is_runnable (world_of s) k.body)) c.in_ok-clauses.ensures.world in
+    let e : list_all (λ (r : NumberedClause). is_runnable (database_of s) (named s.names r.body)) c.in_ok-clauses.clauses ≡ are_runnable (database_of s) =
+    sym (list_all-map (λ (k : Clause). is_runnable (database_of s) k.body) (clause_named s.names) c.in_ok-clauses.clauses)
+    ∙ ap (list_all (λ (k : Clause). is_runnable (database_of s) k.body)) c.in_ok-clauses.ensures.world in
     subst (λ (x : Bool). IfOk c.are_runnable_clauses.result (λ b. b ≡ x)) e c.are_runnable_clauses.ensures

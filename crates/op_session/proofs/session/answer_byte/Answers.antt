@@ -18,13 +18,15 @@ returns-in_err-give_answer g c = λ run a n before short h.
     let p = err_from_is_err_and c.from_residual-in_err-give_answer.result c.from_residual-in_err-give_answer.ensures.1 in
     let t = rw c.in-Some.is at c.in_ok-byte.ensures in
     let f = c.in_ok-push.ensures.ended.0 c.if-branch.true in
-    rw (p.1, p.2) (stops_text run _ a _ _ _ n before _ c.in-Some.byte _ _ _ _ short h t c.in_ok-push.ensures.taken f c.text.ensures (c.in_err-give_answer.ensures run _ h.feeds))
+    rw (p.1, p.2) (stops_text run _ a _ _ _ n before _ _ c.in-Some.byte _ _ _ _ _ short h t c.in_ok-push.ensures.taken f c.text.ensures
+    (c.in_err-give_answer.ensures run _ h.feeds))
 
 pub returns-in_ok-give_answer : goal.returns-in_ok-give_answer
 returns-in_ok-give_answer g c = λ run a n before short h.
     let t = rw c.in-Some.is at c.in_ok-byte.ensures in
     let f = c.in_ok-push.ensures.ended.0 c.if-branch.true in
-    goes_text run a _ _ _ n before _ _ c.in-Some.byte _ _ _ _ _ _ h t c.in_ok-push.ensures.taken f c.text.ensures c.restart.ensures.rest c.restart.ensures.ready (c.in_ok-give_answer.ensures run _ h.feeds)
+    goes_text run a _ _ _ n before _ _ c.in-Some.byte _ _ _ _ _ _ h t c.in_ok-push.ensures.taken f c.text.ensures
+    c.restart.ensures.rest c.restart.ensures.ready (c.in_ok-give_answer.ensures run _ h.feeds)
 
 pub returns-else-branch : goal.returns-else-branch
 returns-else-branch g c = λ run a n before short h.

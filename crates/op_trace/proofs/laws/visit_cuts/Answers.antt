@@ -1,4 +1,4 @@
-use Rattle.op_trace.proofs.Only.{visit_cuts}
+use Rattle.op_trace.proofs.WalkBarriers.{visit_cuts}
 use Rattle.op_trace.proofs.laws.visit_cuts.Goals as goal
 
 pub returns : goal.returns

@@ -1,4 +1,4 @@
-use Rattle.op_trace.proofs.Agree.{visit_rows}
+use Rattle.op_trace.proofs.WalkRows.{visit_rows}
 use Rattle.op_trace.proofs.laws.visit_rows.Goals as goal
 
 pub returns : goal.returns

@@ -2,12 +2,14 @@ use Rattle.std.proofs.Common.{◌≡◌, ℕ, List, codes, ◌&&◌, not, sym, �
 use Rattle.op_term.specs.Head.{head}
 use Rattle.op_term.specs.declared.node.Node.TheVariants.{Struct}
 use Rattle.op_writer.specs.Text.{is_canonical}
-use Rattle.op_writer.specs.Stack.{ways_of, natural_of}
-use Rattle.op_writer.proofs.Letters.{letter-many, letter-one}
+use Rattle.op_writer.specs.inner.Stack.{ways_of, natural_of}
+use Rattle.op_writer.proofs.LetterTerms.{letter-many, letter-one}
 use Rattle.op_writer.proofs.argument.letter_number.Goals as goal
 
 pub returns-then-n-ne1 : goal.returns-then-n-ne1
-returns-then-n-ne1 g c = letter-many (ways_of c.args.setting.now) (g.T.Tree.term c.args.tree.now c.args.at.now) c.args.name c.args.n c.requires.node c.if-n-ne1.true
+returns-then-n-ne1 g c =
+    letter-many (ways_of c.args.setting.now) (g.T.Tree.term c.args.tree.now c.args.at.now) c.args.name c.args.n
+    c.requires.node c.if-n-ne1.true
 
 pub returns : goal.returns
 returns g c =

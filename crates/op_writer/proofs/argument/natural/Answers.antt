@@ -2,8 +2,8 @@ use Rattle.std.proofs.Common.{◌≡◌, ℤ, sym, ◌∙◌, ap, arith, w64}
 use Rattle.std.proofs.lemmas.Int.{to_z-of_z}
 use mir.Val.{to_z, of_z}
 use Rattle.op_term.specs.declared.node.Node.TheVariants.{Int}
-use Rattle.op_writer.specs.Stack.{natural_of}
-use Rattle.op_writer.proofs.Letters.{natural-int}
+use Rattle.op_writer.specs.inner.Stack.{natural_of}
+use Rattle.op_writer.proofs.LetterTerms.{natural-int}
 use Rattle.op_writer.proofs.argument.natural.Goals as goal
 
 pub returns-else-i-lt0 : goal.returns-else-i-lt0

@@ -1,12 +1,14 @@
 use Rattle.std.proofs.Common.{◌≡◌, ℕ, sym, ◌∙◌, ap, arith}
 use Rattle.op_writer.specs.Cut.{boundary as the_boundary}
-use Rattle.op_writer.proofs.Cutting.{boundary-back, boundary-here, boundary-zero}
+use Rattle.op_writer.proofs.CutTexts.{boundary-back, boundary-here, boundary-zero}
 use Rattle.op_writer.proofs.cut.boundary.Goals as goal
 
 pub back-preserved : goal.back-preserved
 back-preserved c =
-    let t = c.args.text.now in
-    (omega (arith, c.back.invariant.0), boundary-back t c.back.at c.back-test.true (sym c.continues.ensures ∙ c.if-continues.true) ∙ c.back.invariant.1)
+    let t = c.args.text.now in (
+      omega (arith, c.back.invariant.0),
+      boundary-back t c.back.at c.back-test.true (sym c.continues.ensures ∙ c.if-continues.true) ∙ c.back.invariant.1,
+    )
 
 pub returns-else-continues-clause-value : goal.returns-else-continues-clause-value
 returns-else-continues-clause-value c =

@@ -1,16 +1,18 @@
 use Rattle.std.proofs.Common.{reverse, ◌∷◌, ◌∙◌, ap}
 use Rattle.op_writer.specs.declared.item.Item.TheVariants as Item
-use Rattle.op_writer.specs.Stack.{ways_of}
-use Rattle.op_writer.proofs.Terms.{named-head}
-use Rattle.op_writer.proofs.Expanding
+use Rattle.op_writer.specs.inner.Stack.{ways_of}
+use Rattle.op_writer.proofs.TermArguments.{named-head}
+use Rattle.op_writer.proofs.ExpandedCompounds
 use Rattle.op_writer.proofs.expand.postfix.Goals as goal
 
 pub returns : goal.returns
 returns g c =
-    Expanding.postfix-replaces (g.T.Tree.term c.args.tree.now) (ways_of c.args.setting.now) (g.T.Tree.IsPlace c.args.tree.now)
+    ExpandedCompounds.postfix-replaces (g.T.Tree.term c.args.tree.now) (ways_of c.args.setting.now) (g.T.Tree.IsPlace c.args.tree.now)
     c.args.at.now c.part-left.result c.args.name c.args.bound c.args.m c.is_passed-brackets.result
-    (reverse c.args.stack.now.items) (reverse c.push_bracket.new.stack.items) (reverse c.push.new.stack.items) (reverse c.push_sign.new.stack.items) (reverse c.push-2.new.stack.items) (reverse c.push_bracket-2.new.stack.items)
-    c.requires.node c.part-left.ensures.value c.requires.letter c.requires.notation c.is_passed-brackets.ensures c.in_ok-push_bracket.ensures
+    (reverse c.args.stack.now.items) (reverse c.push_bracket.new.stack.items) (reverse c.push.new.stack.items)
+    (reverse c.push_sign.new.stack.items) (reverse c.push-2.new.stack.items) (reverse c.push_bracket-2.new.stack.items)
+    c.requires.node c.part-left.ensures.value c.requires.letter c.requires.notation c.is_passed-brackets.ensures
+    c.in_ok-push_bracket.ensures
     c.in_ok-push.ensures c.in_ok-push_sign.ensures
     (c.in_ok-push-2.ensures ∙ ap (λ x. Item.Term c.part-left.result x ∷ (reverse c.push_sign.new.stack.items)) c.left_of.ensures)
     c.in_ok-push_bracket-2.ensures c.requires.good c.part-left.ensures.place (named-head _ _ _ _ c.requires.node c.requires.place.1)

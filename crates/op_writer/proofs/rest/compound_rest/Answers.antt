@@ -1,7 +1,7 @@
 use Rattle.std.proofs.Common.{ℕ, List, ◌∙◌, ap}
 use Rattle.op_writer.specs.Text.{notation_of}
-use Rattle.op_writer.specs.Stack.{ways_of}
-use Rattle.op_writer.proofs.Forms.{barred-struct}
+use Rattle.op_writer.specs.inner.Stack.{ways_of}
+use Rattle.op_writer.proofs.CompoundForms.{barred-struct}
 use Rattle.op_writer.proofs.rest.compound_rest.Goals as goal
 
 pub barred-requires : goal.barred-requires
@@ -11,6 +11,7 @@ barred-requires g c =
     record {
       place = c.requires.place;
       barred = barred-struct w t c.args.name c.args.n c.requires.node
-          (λ e. c.in_default.not-List (c.of.ensures.value ∙ (ap (λ (x : List ℕ). notation_of w.ops w.style x c.args.n) c.name_of.ensures ∙ e)));
+          (λ e. c.in_default.not-List (c.of.ensures.value ∙ (ap (λ (x : List ℕ). notation_of w.ops w.style x c.args.n) c.name_of.ensures
+          ∙ e)));
       good = c.requires.good;
     }

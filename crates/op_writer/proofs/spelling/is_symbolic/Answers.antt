@@ -1,6 +1,6 @@
 use Rattle.std.proofs.Common.{◌≡◌, ◌<◌, false, nat_eq, length, sym, ◌∙◌, arith}
 use Rattle.std.proofs.lemmas.Bool.{eqb-false}
-use Rattle.op_writer.proofs.Names.{symbolic-some}
+use Rattle.op_writer.proofs.NonemptyNames.{symbolic-some}
 use Rattle.op_writer.proofs.spelling.is_symbolic.Goals as goal
 
 pub returns-then-not-is_empty : goal.returns-then-not-is_empty

@@ -4,7 +4,7 @@ use Rattle.op_writer.specs.declared.bound.Bound.{Bound}
 use Rattle.op_writer.specs.declared.style.Style.TheVariants.{Quoted}
 use Rattle.op_writer.specs.Cut.{cut}
 use Rattle.op_writer.specs.Text.{text_in}
-use Rattle.op_writer.proofs.Cutting.{cut-front}
+use Rattle.op_writer.proofs.CutTexts.{cut-front}
 use Rattle.op_writer.proofs.text.write_cut.Goals as goal
 
 pub returns-clause-ok : goal.returns-clause-ok

@@ -1,8 +1,8 @@
 use Rattle.std.proofs.Common.{◌++◌, reverse, sym, ◌∙◌, ap}
 use Rattle.op_writer.specs.Cut.{front_of}
 use Rattle.op_writer.specs.Pieces.{spaced}
-use Rattle.op_writer.specs.Stack.{ways_of, pieces, pieces_of, piece_of}
-use Rattle.op_writer.proofs.Fronts.{front-piece}
+use Rattle.op_writer.specs.inner.Stack.{ways_of, pieces, pieces_of, piece_of}
+use Rattle.op_writer.proofs.TextFronts.{front-piece}
 use Rattle.op_writer.proofs.writer.step.Goals as goal
 
 pub returns-in_ok-token-in-Token-clause-same : goal.returns-in_ok-token-in-Token-clause-same

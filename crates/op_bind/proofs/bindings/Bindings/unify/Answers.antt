@@ -2,9 +2,9 @@ use Rattle.std.proofs.Common.{◌≡◌, ℕ, ◌-◌, List, [], subst, arith, B
 use Rattle.op_term.specs.Places.{term_at}
 use Rattle.op_bind.specs.State.{State, bindings}
 use Rattle.op_logic.specs.Laws.{Acyclic}
-use Rattle.op_bind.proofs.Facts
-use Rattle.op_bind.proofs.Unifying
-use Rattle.op_bind.specs.Pairs.{turn_of, turned}
+use Rattle.op_bind.proofs.BindingsInvariant
+use Rattle.op_bind.proofs.UnificationLoop
+use Rattle.op_bind.specs.inner.Pairs.{reduction_of, reduced}
 use Rattle.op_bind.proofs.bindings.Bindings.unify.Goals as goal
 
 pub pairs-preserved : goal.pairs-preserved
@@ -16,9 +16,12 @@ pairs-preserved c =
     let next = c.take_pair.new.self in
     let rest = c.pop.new.self.items in
     let more = c.take_pair.new.todo.items in
-    let w = subst (λ (xs : List (ℕ × ℕ)). Unifying.IsUnifying s now t u c.args.fuel.now c.pairs.fuel xs) c.in-Some.ensures.items c.pairs.invariant in
-    let turn = subst (λ (b : Bool). turn_of now rest c.in-Some.x c.in-Some.y ≡ turned b next more (c.pairs.fuel - c.take_pair.new.fuel)) c.if-not-branch.false c.in_ok-take_pair.ensures.turn in
-    Unifying.unifying-goes s now t u c.args.fuel.now c.pairs.fuel rest c.in-Some.x c.in-Some.y w next more c.take_pair.new.fuel c.in_ok-take_pair.ensures.paid turn
+    let w = subst (λ (xs : List (ℕ × ℕ)). UnificationLoop.IsUnifying s now t u c.args.fuel.now c.pairs.fuel xs)
+    c.in-Some.ensures.items c.pairs.invariant in
+    let reduction = subst (λ (b : Bool). reduction_of now rest c.in-Some.x c.in-Some.y ≡ reduced b next more
+    (c.pairs.fuel - c.take_pair.new.fuel)) c.if-not-branch.false c.in_ok-take_pair.ensures.reduction in
+    UnificationLoop.unifying-goes s now t u c.args.fuel.now c.pairs.fuel rest c.in-Some.x c.in-Some.y w next more c.take_pair.new.fuel
+    c.in_ok-take_pair.ensures.paid reduction
     c.in_ok-take_pair.ensures.later c.in_ok-take_pair.ensures.todo_there
 
 pub returns-then-not-branch-clause-none : goal.returns-then-not-branch-clause-none
@@ -30,11 +33,15 @@ returns-then-not-branch-clause-none c = λ _ θ respects same.
     let next = c.take_pair.new.self in
     let rest = c.pop.new.self.items in
     let more = c.take_pair.new.todo.items in
-    let y : Acyclic (bindings s) = subst (λ (x : State). Acyclic (bindings x)) c.self.view_is (Facts.acyclic _ _ _ c.self.invariant.are_bound) in
-    let w = subst (λ (xs : List (ℕ × ℕ)). Unifying.IsUnifying s now t u c.args.fuel.now c.pairs.fuel xs) c.in-Some.ensures.items c.pairs.invariant in
-    let turn = subst (λ (b : Bool). turn_of now rest c.in-Some.x c.in-Some.y ≡ turned b next more (c.pairs.fuel - c.take_pair.new.fuel)) c.if-not-branch.true c.in_ok-take_pair.ensures.turn in
-    let end = Unifying.unifying-clashes s now t u c.args.fuel.now c.pairs.fuel rest c.in-Some.x c.in-Some.y w next more c.take_pair.new.fuel c.in_ok-take_pair.ensures.paid turn in
-    Unifying.unified-none s t u c.args.fuel.now c.take_pair.new.fuel y end θ respects same
+    let y : Acyclic (bindings s) = subst (λ (x : State). Acyclic (bindings x)) c.self.view_is
+    (BindingsInvariant.acyclic _ _ _ c.self.invariant.are_bound) in
+    let w = subst (λ (xs : List (ℕ × ℕ)). UnificationLoop.IsUnifying s now t u c.args.fuel.now c.pairs.fuel xs)
+    c.in-Some.ensures.items c.pairs.invariant in
+    let reduction = subst (λ (b : Bool). reduction_of now rest c.in-Some.x c.in-Some.y ≡ reduced b next more
+    (c.pairs.fuel - c.take_pair.new.fuel)) c.if-not-branch.true c.in_ok-take_pair.ensures.reduction in
+    let end = UnificationLoop.unifying-clashes s now t u c.args.fuel.now c.pairs.fuel rest c.in-Some.x c.in-Some.y w next more
+    c.take_pair.new.fuel c.in_ok-take_pair.ensures.paid reduction in
+    UnificationLoop.unified-none s t u c.args.fuel.now c.take_pair.new.fuel y end θ respects same
 
 pub returns-clause-equal : goal.returns-clause-equal
 returns-clause-equal c = λ _.
@@ -42,7 +49,10 @@ returns-clause-equal c = λ _.
     let t = term_at s.terms c.args.a.now in
     let u = term_at s.terms c.args.b.now in
     let now = c.pairs.self in
-    let y : Acyclic (bindings s) = subst (λ (x : State). Acyclic (bindings x)) c.self.view_is (Facts.acyclic _ _ _ c.self.invariant.are_bound) in
-    let empty : c.pairs.todo.items ≡ [] = Unifying.none-left c.pairs.todo.items (omega (arith, c.in_default.ensures.cases.0, c.pairs.todo.ok.0)) in
-    let w = subst (λ (xs : List (ℕ × ℕ)). Unifying.IsUnifying s now t u c.args.fuel.now c.pairs.fuel xs) empty c.pairs.invariant in
-    Unifying.unified-equal s now c.args.a.now c.args.b.now c.args.fuel.now c.pairs.fuel y w.later (Unifying.unifying-ends s now t u c.args.fuel.now c.pairs.fuel w)
+    let y : Acyclic (bindings s) = subst (λ (x : State). Acyclic (bindings x)) c.self.view_is
+    (BindingsInvariant.acyclic _ _ _ c.self.invariant.are_bound) in
+    let empty : c.pairs.todo.items ≡ [] = UnificationLoop.none-left c.pairs.todo.items
+    (omega (arith, c.in_default.ensures.cases.0, c.pairs.todo.ok.0)) in
+    let w = subst (λ (xs : List (ℕ × ℕ)). UnificationLoop.IsUnifying s now t u c.args.fuel.now c.pairs.fuel xs) empty c.pairs.invariant in
+    UnificationLoop.unified-equal s now c.args.a.now c.args.b.now c.args.fuel.now c.pairs.fuel y w.later
+    (UnificationLoop.unifying-ends s now t u c.args.fuel.now c.pairs.fuel w)

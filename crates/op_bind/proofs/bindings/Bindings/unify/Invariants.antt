@@ -1,5 +1,5 @@
 use Rattle.op_term.specs.Places.{term_at}
-use Rattle.op_bind.proofs.Unifying
+use Rattle.op_bind.proofs.UnificationLoop
 use Rattle.op_bind.proofs.bindings.Bindings.unify.Given as goal
 
 abbrev pub decreases-pairs : goal.decreases-pairs
@@ -7,4 +7,5 @@ decreases-pairs l = l.fuel
 
 abbrev pub invariant-pairs : goal.invariant-pairs
 invariant-pairs l =
-    Unifying.IsUnifying l.fn.self l.self (term_at l.fn.self.terms l.fn.a) (term_at l.fn.self.terms l.fn.b) l.fn.fuel l.fuel l.todo.items
+    UnificationLoop.IsUnifying l.fn.self l.self (term_at l.fn.self.terms l.fn.a)
+    (term_at l.fn.self.terms l.fn.b) l.fn.fuel l.fuel l.todo.items

@@ -1,7 +1,7 @@
 use Rattle.std.proofs.Common.{ap, ◌∙◌}
 use Rattle.op_term.specs.Places.{term_at}
-use Rattle.op_bind.specs.Loaded.{shifted_node}
-use Rattle.op_bind.proofs.Loading.{head-shift}
+use Rattle.op_bind.specs.inner.Loaded.{shifted_node}
+use Rattle.op_bind.proofs.LoadedTerms.{head-shift}
 use Rattle.op_bind.proofs.load.ShiftedTree.node.Goals as goal
 
 pub returns : goal.returns

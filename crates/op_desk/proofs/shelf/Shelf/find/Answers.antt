@@ -1,4 +1,4 @@
-use Rattle.op_desk.proofs.EntryLemmas.{bytes_at_place}
+use Rattle.op_desk.proofs.EntryLaws.{bytes_at_place}
 use Rattle.op_desk.proofs.shelf.Shelf.find.Goals as goal
 
 pub returns : goal.returns

@@ -3,7 +3,7 @@ use Rattle.op_machine.specs.declared.core_state.Core.{Core}
 use Rattle.op_machine.specs.Meaning.{level_in}
 use Rattle.op_machine.specs.inner.Invariant.{IsFrame, IsGood, Fits}
 use Rattle.op_machine.specs.inner.Boxes.{IsTried}
-use Rattle.op_machine.proofs.StepLaws.{fits-frames, fits-elsewhere}
+use Rattle.op_machine.proofs.StepLaws.{fits-at}
 use Rattle.op_machine.proofs.InvariantLaws.{restored-good, popped-frame, popped-tried, popped-calls}
 use Rattle.op_machine.proofs.core_state.Core.backward.Goals as goal
 
@@ -45,13 +45,16 @@ resume-requires-clause-calls c =
 pub resume-requires-clause-tried : goal.resume-requires-clause-tried
 resume-requires-clause-tried c =
     let f = c.in-Some.choice in
-    let P : Core → Type 0 = λ x. IsTried x.frames.boxes x.continuations f.kind f.kept f.rest in
+    let P : Core → Type 0 = λ x. IsTried x.frames.boxes f.kept.calls x.continuations f.kept.kind f.kept.goal f.rest in
     subst P (sym c.restore.ensures.back)
     (popped-tried c.args.self.now c.pop_choice_point.new.self f c.requires.good c.in-Some.ensures.frames c.in-Some.ensures.rest
     c.in-Some.ensures.boxes c.restore.ensures.stays).1
 
 pub resume-requires-clause-fits : goal.resume-requires-clause-fits
 resume-requires-clause-fits c =
+    let old : Core = c.args.self.now in
     let popped : Core = c.pop_choice_point.new.self in
-    let fits : Fits popped = subst Fits (sym c.in-Some.ensures.rest) (fits-frames c.args.self.now popped.frames c.requires.fits) in
-    subst Fits (sym c.restore.ensures.back) (fits-elsewhere popped _ _ _ fits)
+    let fits : Fits popped =
+    subst Fits (sym c.in-Some.ensures.rest)
+    (fits-at old old.steps old.bindings old.continuations popped.frames c.requires.fits c.requires.fits.steps) in
+    subst Fits (sym c.restore.ensures.back) (fits-at popped popped.steps _ _ _ fits fits.steps)

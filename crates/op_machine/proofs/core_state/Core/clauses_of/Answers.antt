@@ -1,12 +1,18 @@
-use Rattle.std.proofs.Common.{sym, ◌∙◌}
+use Rattle.std.proofs.Common.{List, Some, None, sym, ap, ◌∙◌}
 use Rattle.op_term.specs.Places.{term_at}
-use Rattle.op_store.proofs.GoalClauses.{procedure-none}
 use Rattle.op_machine.specs.declared.core_state.Core.{Core}
-use Rattle.op_machine.specs.Program.{clauses}
+use Rattle.op_machine.proofs.ProcedureOf.{inside-found, inside-none}
 use Rattle.op_machine.proofs.core_state.Core.clauses_of.Goals as goal
 
-pub returns-in-None-clause-clauses : goal.returns-in-None-clause-clauses
-returns-in-None-clause-clauses c =
+pub returns-in_ok-snapshot-in-Some-clause-inside : goal.returns-in_ok-snapshot-in-Some-clause-inside
+returns-in_ok-snapshot-in-Some-clause-inside c =
     let old : Core = c.args.self.now in
-    procedure-none old.store.names (term_at old.bindings.terms c.args.goal) (clauses old.store)
-    (sym (c.pi_of.ensures (term_at old.bindings.terms c.args.goal) (sym c.outline.ensures)) ∙ c.in-None.is)
+    let t = term_at old.bindings.terms c.args.goal in
+    inside-found old.store t c.in_ok-snapshot-in-Some.field-0
+    (c.in_ok-snapshot-in-Some.ensures.procedure t (sym (c.pi_of.ensures t (sym c.outline.ensures)) ∙ c.in-Some.is))
+
+pub returns-in-None-clause-inside : goal.returns-in-None-clause-inside
+returns-in-None-clause-inside c =
+    let old : Core = c.args.self.now in
+    let t = term_at old.bindings.terms c.args.goal in
+    inside-none old.store t (sym (c.pi_of.ensures t (sym c.outline.ensures)) ∙ c.in-None.is)

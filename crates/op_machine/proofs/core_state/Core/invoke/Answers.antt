@@ -2,17 +2,17 @@ use Rattle.std.proofs.Common.{List, sym, ◌∙◌, subst, ap}
 use Rattle.op_frames.specs.declared.boxes.BoxFrame.{BoxFrame}
 use Rattle.op_machine.specs.declared.core_state.Core.{Core}
 use Rattle.op_machine.specs.inner.Boxes.{IsCalled}
-use Rattle.op_machine.proofs.AdvanceLaws.{invoked-choice_points}
+use Rattle.op_machine.proofs.AdvanceLaws.{invoked-advances}
 use Rattle.op_machine.proofs.core_state.Core.invoke.Goals as goal
 
-pub push_clauses-requires-clause-called : goal.push_clauses-requires-clause-called
-push_clauses-requires-clause-called c =
+pub enter_box-requires-clause-called : goal.enter_box-requires-clause-called
+enter_box-requires-clause-called c =
     let boxed : Core = c.call_box.new.self in
     let shown : Core = c.show_event.new.self in
-    let pushed : Core = c.push_fail.new.self in
+    let pushed : Core = c.push_choice_point.new.self in
     let at : Core → List BoxFrame → Type 0 = λ x B. IsCalled B x.calls x.continuations c.in_ok-call.call c.args.goal c.args.rest in
-    let same = c.in_ok-push_fail.ensures.boxes ∙ ap (λ (x : Core). x.frames.boxes) c.show_event.ensures.rest in
-    subst (λ (x : Core). at x pushed.frames.boxes) (sym c.in_ok-push_fail.ensures.rest)
+    let same = c.in_ok-push_choice_point.ensures.boxes ∙ ap (λ (x : Core). x.frames.boxes) c.show_event.ensures.rest in
+    subst (λ (x : Core). at x pushed.frames.boxes) (sym c.in_ok-push_choice_point.ensures.rest)
     (subst (λ (x : Core). at x pushed.frames.boxes) (sym c.show_event.ensures.rest)
     (subst (λ (B : List BoxFrame). at boxed B) (sym same) c.in_ok-call.ensures.called))
 
@@ -21,10 +21,10 @@ returns-clause-advances c =
     let old : Core = c.args.self.now in
     let boxed : Core = c.call_box.new.self in
     let shown : Core = c.show_event.new.self in
-    let pushed : Core = c.push_fail.new.self in
-    let more : Core = c.push_clauses.new.self in
-    invoked-choice_points old boxed shown pushed more c.args.goal c.args.rest c.in_ok-call.call c.in_ok-call.ensures.number
+    let pushed : Core = c.push_choice_point.new.self in
+    let new : Core = c.enter_box.new.self in
+    invoked-advances old boxed shown pushed new c.args.goal c.args.rest c.in_ok-call.call c.in_ok-call.ensures.number
     c.in_ok-call.ensures.rest c.in_ok-call.ensures.calls c.in_ok-call.ensures.choices
-    c.show_event.ensures.rest c.in_ok-push_fail.ensures.rest c.in_ok-push_clauses.ensures.rest
-    c.show_event.ensures.seen c.in_ok-push_fail.ensures.choices c.in_ok-push_clauses.ensures.choices c.in_ok-push_clauses.ensures.good
+    c.show_event.ensures.rest c.in_ok-push_choice_point.ensures.rest c.in_ok-enter_box.ensures.rest
+    c.show_event.ensures.seen c.in_ok-push_choice_point.ensures.choices c.in_ok-enter_box.ensures.state c.in_ok-enter_box.ensures.good
     c.show_event.ensures.goal c.requires.goal

@@ -1,4 +1,5 @@
 use Rattle.std.proofs.Common.{◌≡◌, ℕ, suc, ◌+◌, List, length, arith, sym, ap, subst, ◌∙◌}
+use Rattle.std.proofs.lemmas.Result.{IfOk-weaker}
 use Rattle.op_bind.specs.declared.places.Clause.{Clause as NumberedClause}
 use Rattle.op_machine.specs.declared.core_state.Core.{Core}
 use Rattle.op_machine.specs.Meaning.{goal_now, bindings_now, items_now, choice_points_in}
@@ -6,7 +7,7 @@ use Rattle.op_frames.specs.declared.boxes.BoxFrame.{BoxFrame}
 use Rattle.op_machine.specs.inner.Boxes.{IsCalled}
 use Rattle.op_machine.specs.Program.{clauses_from, IsKnown}
 use Rattle.op_machine.specs.Resume.{with_more}
-use Rattle.op_machine.proofs.AdvanceLaws.{IfOk-then, clauses-tried, clauses-tried-advances}
+use Rattle.op_machine.proofs.AdvanceLaws.{clauses-tried, clauses-tried-advances}
 use Rattle.op_machine.specs.inner.Moves.{clause_tried, clauses_tried}
 use Rattle.op_machine.proofs.core_state.Core.try_clauses.Goals as goal
 
@@ -21,7 +22,7 @@ returns-clause-advances c =
     ∙ ap (λ (i : ℕ). with_more (clauses_from old.store c.args.snapshot.now i) c.args.call (goal_now old c.args.goal) (bindings_now old)
     (items_now old c.args.rest) (choice_points_in old)) one)
     c.requires.here c.clause.ensures in
-    IfOk-then c.try_clause.result _ _
+    IfOk-weaker c.try_clause.result _ _
     (λ s a. clauses-tried-advances old mid c.try_clause.new.self (clause_tried mid c.clause.result.now c.args.call c.args.goal c.args.rest)
     (clauses_tried old c.args.snapshot.now c.args.next c.args.call c.args.goal c.args.rest) s c.in_ok-push_more.ensures.rest moved a)
     c.try_clause.ensures.advances

@@ -1,10 +1,10 @@
-use Rattle.std.proofs.Common.{◌≡◌, ℕ, ◌+◌, ◌-◌, ◌<◌, length, Option, IfSome, sym, ap, subst, Ok, Err, Some}
+use Rattle.std.proofs.Common.{◌≡◌, ℕ, ◌+◌, ◌-◌, ◌<◌, length, Option, IfSome, refl, sym, ap, subst, Ok, Err, Some}
 use Rattle.op_logic.specs.Term.{shift}
 use Rattle.op_logic.specs.Bind.{Solved}
 use Rattle.op_logic.specs.Names.{IsTable, HasNames}
-use Rattle.op_logic.proofs.Shifting.{shift-names}
+use Rattle.op_logic.proofs.ShiftedTerms.{shift-names}
 use Rattle.op_bind.specs.State.{State, bindings}
-use Rattle.op_bind.specs.Pairs.{with_variables, unified}
+use Rattle.op_bind.specs.Unified.{with_variables, unified}
 use Rattle.op_bind.specs.declared.places.Clause.{Clause}
 use Rattle.op_bind.specs.declared.places.Ref.{Ref}
 use Rattle.op_term.specs.Places.{term_at}
@@ -12,7 +12,8 @@ use Rattle.op_machine.specs.declared.core_state.Core.{Core}
 use Rattle.op_machine.specs.declared.core_state.Step.TheVariants as step
 use Rattle.op_machine.specs.inner.Moves.{Advances, body_entered}
 use Rattle.op_machine.proofs.NamedTerms.{paid-found, paid-none, found}
-use Rattle.op_machine.proofs.HeadUnification.{bound_on, bound-good, bound-names, numbered_unifier, head-matches, matches-advances}
+use Rattle.op_machine.proofs.AdvanceLaws.{advances-from}
+use Rattle.op_machine.proofs.HeadUnification.{bound_on, bound-good, bound-names, numbered_unifier, head-matches}
 use Rattle.op_machine.proofs.HeadUnification.{differs-advances, head-spent-advances}
 use Rattle.op_machine.proofs.core_state.Core.unify_head.Goals as goal
 
@@ -83,7 +84,8 @@ returns-in_ok-enter_body-in-Ok-Some-clause-advances c =
     subst (λ (n : ℕ). Advances (bound_on old s (old.budget - n)) c.enter_body.new.self
     (body_entered (bound_on old s (old.budget - n)) c.in-Ok-Some.body c.args.call c.args.goal c.args.rest) step.Silent)
     c.left.ensures c.in_ok-enter_body-in-Ok-Some.ensures.advances in
-    matches-advances old s (old.budget - c.rename.new.fuel) c.enter_body.new.self _ _ same entered
+    advances-from old (bound_on old s (old.budget - c.rename.new.fuel)) c.enter_body.new.self _ _ step.Silent refl refl refl refl (sym same)
+    entered
 
 pub returns-in-Ok-None-clause-advances : goal.returns-in-Ok-None-clause-advances
 returns-in-Ok-None-clause-advances c =

@@ -1,6 +1,6 @@
 use Rattle.std.proofs.Common.{length, subst}
 use Rattle.op_logic.specs.Names.{HasNames}
-use Rattle.op_logic.proofs.Having.{apply-names}
+use Rattle.op_logic.proofs.UnifierNames.{apply-names}
 use Rattle.op_bind.specs.State.{value_of}
 use Rattle.op_machine.specs.View.{Showing}
 use Rattle.op_machine.proofs.view.EventView.goal.Goals as goal

@@ -1,7 +1,7 @@
 use Rattle.std.proofs.Common.{◌≡◌, ◌<◌, ℕ, [], length, get_or, sym, ap, ◌∙◌, subst, arith}
 use Rattle.op_logic.specs.Term.{var}
 use Rattle.op_logic.specs.Names.{HasNames}
-use Rattle.op_logic.proofs.Having.{apply-names}
+use Rattle.op_logic.proofs.UnifierNames.{apply-names}
 use Rattle.op_term.specs.Places.{term_at}
 use Rattle.op_bind.specs.State.{value_of}
 use Rattle.op_machine.specs.View.{Solving}

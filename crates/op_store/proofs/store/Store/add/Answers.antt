@@ -12,7 +12,11 @@ invariant_of-self-2 c =
     let i = c.self.inside in
     let s : Stored = record { locked = i.locked; names = i.symbols; table = i.ops; flags = i.flags; rows = i.procedures; next = i.next } in
     let r : NumberedClause = record { id = i.next; head = c.args.head; body = c.args.body; vars = c.args.vars } in
-    let clause : IsNumberedClause (length i.symbols) c.args.pi r = subst (λ (x : Stored). IsNumberedClause (length x.names) c.args.pi (record { id = x.next; head = c.args.head; body = c.args.body; vars = c.args.vars })) (sym c.self.view_is) c.requires in
-    let joined : IsSound (record s { rows = with_row i.procedures c.args.pi (extended_row (row_in i.procedures c.args.pi) r); next = c.in_ok-next.next }) =
-    let j = sound-joins s c.args.pi r c.self.invariant clause in record { names = j.names; begins = j.begins; table = j.table; rows = j.rows } in
+    let clause : IsNumberedClause (length i.symbols) c.args.pi r =
+    subst (λ (x : Stored). IsNumberedClause (length x.names) c.args.pi
+    (record { id = x.next; head = c.args.head; body = c.args.body; vars = c.args.vars })) (sym c.self.view_is) c.requires in
+    let joined : IsSound
+    (record s { rows = with_row i.procedures c.args.pi (extended_row (row_in i.procedures c.args.pi) r); next = c.in_ok-next.next }) =
+    let j = sound-joins s c.args.pi r c.self.invariant clause in
+    record { names = j.names; begins = j.begins; table = j.table; rows = j.rows } in
     subst (λ (rows : Rows). IsSound (record s { rows = rows; next = c.in_ok-next.next })) (sym c.in_ok-add.ensures.ok) joined

@@ -2,7 +2,7 @@ use Rattle.std.proofs.Common.{List, map, ap, ◌∙◌}
 use Rattle.op_bind.specs.declared.places.Clause.{Clause as NumberedClause}
 use Rattle.op_store.specs.Stored.{Stored, numbered_clauses}
 use Rattle.op_store.specs.Rows.{clause_named}
-use Rattle.op_store.proofs.Naming.{clauses-of}
+use Rattle.op_store.proofs.NamedProcedures.{clauses-of}
 use Rattle.op_store.proofs.RowLaws.{if-ok}
 use Rattle.op_store.proofs.store.Store.all_clauses.Goals as goal
 

@@ -1,7 +1,7 @@
 use Rattle.std.proofs.Common.{take, length, sym, subst}
 use Rattle.op_store.specs.Rows.{Rows}
 use Rattle.op_store.specs.Stored.{Stored, IsSound}
-use Rattle.op_store.proofs.Declaring.{rows-front}
+use Rattle.op_store.proofs.DirectiveLaws.{rows-front}
 use Rattle.op_store.proofs.store.Store.forget_procedures.Goals as goal
 
 pub invariant_of-self : goal.invariant_of-self

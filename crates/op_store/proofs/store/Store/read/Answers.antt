@@ -1,5 +1,5 @@
 use Rattle.std.proofs.Common.{ap, ◌∙◌}
-use Rattle.op_store.specs.Stored.{world_of}
+use Rattle.op_store.specs.Stored.{database_of}
 use Rattle.op_store.proofs.Soundness.{joined-sound, joined-world}
 use Rattle.op_store.proofs.store.Store.read.Goals as goal
 
@@ -7,4 +7,4 @@ pub invariant_of-self : goal.invariant_of-self
 invariant_of-self c = joined-sound _ _ _ _ _ _ _ c.self.invariant c.count-count.ensures.table c.read_term-reading.ensures.kept
 
 pub returns-clause-world : goal.returns-clause-world
-returns-clause-world c = joined-world _ _ _ _ _ _ _ c.self.invariant c.read_term-reading.ensures.kept ∙ ap world_of c.self.view_is
+returns-clause-world c = joined-world _ _ _ _ _ _ _ c.self.invariant c.read_term-reading.ensures.kept ∙ ap database_of c.self.view_is

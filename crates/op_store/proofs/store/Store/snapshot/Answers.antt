@@ -1,24 +1,22 @@
 use Rattle.std.proofs.Common.{◌≡◌, ℕ, List, map, length, Option, Some, None, All, sym, ap, ◌∙◌, subst}
 use Rattle.std.specs.Prelude.{option_map}
-use Rattle.op_trace.specs.World.{Clause, procedure}
+use Rattle.op_trace.specs.Database.{Clause, procedure_by, procedure_of}
 use Rattle.op_bind.specs.declared.places.Clause.{Clause as NumberedClause}
-use Rattle.op_store.specs.World.{Procedure, procedure_in}
-use Rattle.op_store.specs.declared.procedure.Procedure.{Procedure as Row}
-use Rattle.op_store.specs.declared.pi.Pi.{Pi}
-use Rattle.op_store.specs.Stored.{Stored, world_of}
+use Rattle.op_trace.specs.Database.{Procedure, procedure_in}
+use Rattle.op_store.specs.declared.procedures.procedure.Procedure.{Procedure as Row}
+use Rattle.op_store.specs.declared.procedures.pi.Pi.{Pi}
+use Rattle.op_store.specs.Stored.{Stored, database_of}
 use Rattle.op_store.specs.Rows.{indicator_named, clause_named, row_named}
-use Rattle.op_store.proofs.Naming.{found-named}
+use Rattle.op_store.proofs.NamedProcedures.{found-named}
 use Rattle.op_store.proofs.Soundness.{row-at}
 use Rattle.op_store.specs.Rows.{IsNumberedClause, pi_of, row_in}
-use Rattle.op_store.specs.World.{clauses_of_world}
-use Rattle.op_store.specs.Snapshots.{snapshot_clauses}
-use Rattle.op_store.proofs.GoalClauses.{procedure-found}
+use Rattle.op_store.proofs.AddedClauses.{indicator-of-named}
 use Rattle.op_logic.specs.Term.{Term}
 use Rattle.op_logic.specs.Names.{named}
 use Rattle.op_store.proofs.store.Store.snapshot.Goals as goal
 
 abbrev clauses_in : Stored → Pi → Option (List Clause)
-clauses_in s k = option_map (λ (p : Procedure). p.clauses) (procedure_in (world_of s).procedures (indicator_named s.names k))
+clauses_in s k = option_map (λ (p : Procedure). p.clauses) (procedure_in (database_of s).procedures (indicator_named s.names k))
 
 pub returns-in_ok-copy-in-Some-clause-world : goal.returns-in_ok-copy-in-Some-clause-world
 returns-in_ok-copy-in-Some-clause-world c =
@@ -44,24 +42,17 @@ returns-in_ok-copy-in-Some-clause-sound c =
     (subst (λ (rs : List NumberedClause). All (λ r. IsNumberedClause (length i.symbols) c.args.pi r) rs) (sym c.in_ok-copy-in-Some.ensures)
     (row-at (length i.symbols) c.args.pi i.procedures p c.self.invariant.rows (sym c.in-Some.ensures)).clauses)
 
--- the clauses of a goal's procedure in a store are these
-abbrev Gives : Stored → Pi → Option (List NumberedClause) → Type 0
-Gives s k o = (g : Term ℕ) → pi_of g ≡ Some k → procedure (clauses_of_world (world_of s)) (named s.names g) ≡ map (clause_named s.names) (snapshot_clauses o)
+-- the clauses of the procedure of a goal
+clauses-of-goal : (s : Stored) (k : Pi) (o : Option (List NumberedClause)) → option_map (map (clause_named s.names)) o ≡ clauses_in s k → (g : Term ℕ)
+    → pi_of g ≡ Some k → option_map (λ (p : Procedure). p.clauses) (procedure_of (database_of s) (named s.names g)) ≡ option_map (map (clause_named s.names)) o
+clauses-of-goal s k o h g e =
+    ap (λ x. option_map (λ (p : Procedure). p.clauses) (procedure_by (database_of s).procedures x))
+    (indicator-of-named s.names g ∙ ap (option_map (indicator_named s.names)) e)
+    ∙ sym h
 
 pub returns-in_ok-copy-in-Some-clause-procedure : goal.returns-in_ok-copy-in-Some-clause-procedure
 returns-in_ok-copy-in-Some-clause-procedure c =
-    let i = c.self.inside in
-    let s : Stored = record { locked = i.locked; names = i.symbols; table = i.ops; flags = i.flags; rows = i.procedures; next = i.next } in
-    let o : Option (List NumberedClause) = Some c.in_ok-copy-in-Some.field-0 in
-    let is : option_map (λ (p : Row). p.clauses) (row_in s.rows c.args.pi) ≡ o =
-    ap (option_map (λ (p : Row). p.clauses)) (sym c.in-Some.ensures) ∙ ap Some (sym c.in_ok-copy-in-Some.ensures) in
-    let h : Gives s c.args.pi o = λ g e. procedure-found s c.self.invariant c.len-procedures.ensures.distinct g c.args.pi e ∙ ap (λ (x : Option (List NumberedClause)). map (clause_named s.names) (snapshot_clauses x)) is in
-    subst (λ (x : Stored). Gives x c.args.pi o) c.self.view_is h
+    clauses-of-goal c.args.self.now c.args.pi (Some c.in_ok-copy-in-Some.field-0) (returns-in_ok-copy-in-Some-clause-world c)
 
 pub returns-in-None-clause-procedure : goal.returns-in-None-clause-procedure
-returns-in-None-clause-procedure c =
-    let i = c.self.inside in
-    let s : Stored = record { locked = i.locked; names = i.symbols; table = i.ops; flags = i.flags; rows = i.procedures; next = i.next } in
-    let is : option_map (λ (p : Row). p.clauses) (row_in s.rows c.args.pi) ≡ None = ap (option_map (λ (p : Row). p.clauses)) (sym c.in-None.ensures) in
-    let h : Gives s c.args.pi None = λ g e. procedure-found s c.self.invariant c.len-procedures.ensures.distinct g c.args.pi e ∙ ap (λ (x : Option (List NumberedClause)). map (clause_named s.names) (snapshot_clauses x)) is in
-    subst (λ (x : Stored). Gives x c.args.pi None) c.self.view_is h
+returns-in-None-clause-procedure c = clauses-of-goal c.args.self.now c.args.pi None (returns-in-None-clause-world c)

@@ -1,6 +1,6 @@
 use Rattle.std.proofs.Common.{◌∙◌, ap, unwrap_or}
 use Rattle.op_term.specs.Ops.{Table, meanings_in, no_meaning}
-use Rattle.op_term.proofs.Tables.{meanings-lookup}
+use Rattle.op_term.proofs.MeaningMaps.{meanings-lookup}
 use Rattle.op_term.proofs.meanings.MeaningMap.at.Goals as goal
 
 pub returns-in-Some : goal.returns-in-Some

@@ -1,5 +1,5 @@
 use Rattle.std.proofs.Common.{◌∙◌}
-use Rattle.op_term.proofs.Tables.{entries-copied}
+use Rattle.op_term.proofs.MeaningMaps.{entries-copied}
 use Rattle.op_term.proofs.meanings.MeaningMap.copy.Goals as goal
 
 pub returns : goal.returns

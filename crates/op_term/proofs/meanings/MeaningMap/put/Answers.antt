@@ -1,6 +1,6 @@
 use Rattle.std.proofs.Common.{ℕ, List, ◌∙◌, ap}
 use Rattle.op_term.specs.Ops.{Table, with_meanings}
-use Rattle.op_term.proofs.Tables.{table_of, inserted}
+use Rattle.op_term.proofs.MeaningMaps.{table_of, inserted}
 use Rattle.op_term.proofs.meanings.MeaningMap.put.Goals as goal
 
 pub returns-clause-ok : goal.returns-clause-ok

@@ -1,6 +1,6 @@
 use Rattle.std.proofs.Common.{sym, ◌∙◌, subst}
 use Rattle.op_logic.specs.Names.{IsTable}
-use Rattle.op_term.proofs.Texts.{texts-copied}
+use Rattle.op_term.proofs.SymbolTexts.{texts-copied}
 use Rattle.op_term.proofs.symbols.Symbols.copy.Goals as goal
 
 pub invariant_of-result : goal.invariant_of-result

@@ -1,6 +1,6 @@
 use Rattle.std.proofs.Common.{All, subst}
 use Rattle.std.specs.Str.{IsUtf8}
-use Rattle.op_term.proofs.Texts.{are-texts}
+use Rattle.op_term.proofs.SymbolTexts.{are-texts}
 use Rattle.op_term.proofs.symbols.Symbols.count.Goals as goal
 
 pub returns-clause-texts : goal.returns-clause-texts

@@ -1,6 +1,6 @@
 use Rattle.std.proofs.Common.{◌≡◌, ℕ, List, sym, ◌∙◌, ap, subst}
 use Rattle.op_logic.specs.Names.{name_at, with_name}
-use Rattle.op_term.proofs.Texts.{position-texts, found-named, found-exact, bytes-fit, joined-exact, joined-table}
+use Rattle.op_term.proofs.SymbolTexts.{position-texts, found-named, found-exact, bytes-fit, joined-exact, joined-table}
 use Rattle.op_term.proofs.symbols.Symbols.intern.Goals as goal
 
 pub returns-in-Some-clause-named : goal.returns-in-Some-clause-named
@@ -23,7 +23,8 @@ invariant_of-self-2 c =
 pub returns-clause-exact : goal.returns-clause-exact
 returns-clause-exact c =
     let name = c.args.name.now in
-    let e = joined-exact name c.in_ok-owned.owned c.in_ok-owned.ensures.ok c.self.inside.names.keys c.insert_full.new.self.keys c.in_default.ensures.found c.in_ok-at.ensures.keys in
+    let e = joined-exact name c.in_ok-owned.owned c.in_ok-owned.ensures.ok c.self.inside.names.keys c.insert_full.new.self.keys
+    c.in_default.ensures.found c.in_ok-at.ensures.keys in
     e ∙ ap (λ (s : List (List ℕ)). with_name s name) c.self.view_is
 
 pub returns-clause-table : goal.returns-clause-table

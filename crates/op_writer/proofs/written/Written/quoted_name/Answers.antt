@@ -1,5 +1,5 @@
 use Rattle.std.proofs.Common.{◌∙◌}
-use Rattle.op_writer.proofs.Quotes.{edge-quoted}
+use Rattle.op_writer.proofs.QuotedNames.{edge-quoted}
 use Rattle.op_writer.proofs.written.Written.quoted_name.Goals as goal
 
 pub returns-clause-edge : goal.returns-clause-edge

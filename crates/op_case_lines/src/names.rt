@@ -1,0 +1,20 @@
+use op_base::Memory;
+use op_term::{Sym, Symbols};
+
+/// The text of a name; `?` where the table doesn't have its number.
+pub fn name_of(symbols: &Symbols, sym: Sym) -> &str {
+    if sym.0 < symbols.count() {
+        symbols.name_of(sym)
+    } else {
+        "?"
+    }
+}
+
+/// Adds the names of a table from a number on, each behind a `|`.
+pub fn add_names(line: &mut String, symbols: &Symbols, first: u64) -> Result<(), Memory> {
+    for number in first..symbols.count() {
+        let name = name_of(symbols, Sym(number));
+        write!(line, "|{name}")?;
+    }
+    Ok(())
+}

@@ -1,0 +1,2 @@
+-- What only proofs need: how the logic stores a term.
+pub mod Code

@@ -1,8 +1,0 @@
-use Rattle.op_store.proofs.Walking.{IsWalk}
-use Rattle.op_store.proofs.convert.nodes_of.Given as goal
-
-abbrev pub invariant-walk : goal.invariant-walk
-invariant-walk g l = IsWalk l.symbols (g.T.Tree.term l.tree) (g.T.Tree.IsPlace l.tree) l.at l.fn.fuel l.fuel l.met.items l.todo.items
-
-abbrev pub decreases-walk : goal.decreases-walk
-decreases-walk g l = l.fuel

@@ -1,9 +1,0 @@
-use Rattle.op_logic.specs.Term.{size}
-use Rattle.op_store.proofs.Listing.{IsListing}
-use Rattle.op_store.proofs.entries.elements_of.Given as goal
-
-abbrev pub invariant-list : goal.invariant-list
-invariant-list g l = IsListing l.symbols (g.T.Tree.term l.tree) (g.T.Tree.IsPlace l.tree) l.at l.items.items l.rest
-
-abbrev pub decreases-list : goal.decreases-list
-decreases-list g l = size (g.T.Tree.term l.tree l.rest)

@@ -1,0 +1,6 @@
+-- What only proofs need: what the code keeps between two steps, and what private functions tell.
+pub mod Converted
+pub mod Parts
+pub mod Shapes
+pub mod Told
+pub mod Walk

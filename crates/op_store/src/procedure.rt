@@ -1,8 +1,0 @@
-use crate::snapshot::Snapshot;
-
-/// A procedure: whether the program may change it, and its clauses.
-#[derive(Drop)]
-pub(crate) struct Procedure {
-    pub dynamic: bool,
-    pub clauses: Snapshot,
-}

@@ -1,0 +1,126 @@
+ghost use Rattle.std.specs.Prelude.{◌≡◌, [], ◌∷◌, length, take, Some, None, option_copied, option_map, IfOk, OnOk, OnErr, MatchOption};
+ghost use Rattle.op_store.specs.Rows.{pi_eq, row_in, with_row, extended_row, all_numbered_clauses, no_numbered_clauses};
+ghost use Rattle.std.specs.List.{IsDistinct};
+ghost use Rattle.std.specs.Map.{keys_of};
+
+use crate::procedures::pi::Pi;
+use crate::procedures::procedure::Procedure;
+use crate::procedures::snapshot::Snapshot;
+use indexmap::IndexMap;
+use op_base::Memory;
+use op_bind::Clause;
+use std::alloc::Global;
+use std::marker::Model;
+
+/// Procedures, found by their names and numbers of arguments. A clause sees the list of them in order of first sight.
+#[derive(Drop)]
+pub(crate) struct Procedures {
+    alloc: Global,
+    rows: IndexMap<Pi, Procedure>,
+}
+
+impl Model for Procedures {
+    ghost use Rattle.std.specs.Coded.{codes};
+    ghost use Rattle.op_logic.specs.inner.Code.{term_code};
+    ghost use Rattle.op_store.specs.Rows.{Rows};
+
+    ghost Value = { Rows };
+
+    ghost coded = { Prim.hlevel (codes, term_code) };
+
+    ghost view = { λ p. p.rows.entries };
+}
+
+impl Procedures {
+    /// No procedures.
+    pub fn new(alloc: Global) -> Procedures
+        ensures { result ≡ [] }
+    {
+        Procedures {
+            alloc,
+            rows: IndexMap::new(alloc),
+        }
+    }
+
+    /// A procedure, in constant time.
+    pub fn find(&self, pi: Pi) -> Option<&Procedure>
+        ensures { option_copied result ≡ row_in self.now pi }
+    {
+        self.rows.get(&pi)
+    }
+
+    /// Whether a procedure is dynamic; None where there is no such procedure.
+    pub fn dynamic(&self, pi: Pi) -> Option<bool>
+        ensures { result ≡ option_map (λ p. p.dynamic) (row_in self.now pi) }
+    {
+        match self.find(pi) {
+            Some(procedure) => Some(procedure.dynamic),
+            None => None,
+        }
+    }
+
+    /// Adds a clause at the end of its procedure. A new procedure is static.
+    pub fn add(&mut self, pi: Pi, clause: Clause) -> Result<(), Memory>
+        ensures ok { OnOk result (self.new ≡ with_row self.old pi (extended_row (row_in self.old pi) clause)) }
+        ensures err { OnErr result (self.new ≡ self.old) }
+    {
+        if let Some(procedure) = self.rows.get_mut(&pi) {
+            return procedure.clauses.push(self.alloc, clause);
+        }
+        let mut clauses = Snapshot::new(self.alloc)?;
+        clauses.push(self.alloc, clause)?;
+        self.rows.insert(
+            pi,
+            Procedure {
+                dynamic: false,
+                clauses,
+            },
+        )?;
+        Ok(())
+    }
+
+    /// Makes a procedure that isn't there, dynamic and without clauses.
+    pub fn make_dynamic(&mut self, pi: Pi) -> Result<(), Memory>
+        requires { row_in self.old pi ≡ None }
+        ensures ok { OnOk result (self.new ≡ with_row self.old pi no_numbered_clauses) }
+        ensures err { OnErr result (self.new ≡ self.old) }
+    {
+        let clauses = Snapshot::new(self.alloc)?;
+        self.rows.insert(
+            pi,
+            Procedure {
+                dynamic: true,
+                clauses,
+            },
+        )?;
+        Ok(())
+    }
+
+    /// How many procedures there are. None of them stands there twice.
+    pub fn len(&self) -> u64
+        ensures count { result ≡ length self.now }
+        ensures distinct { IsDistinct pi_eq (keys_of self.now) }
+    {
+        self.rows.len() as u64
+    }
+
+    /// Drops the procedures that were seen last, but for so many.
+    pub fn truncate(&mut self, count: u64)
+        ensures { self.new ≡ take count self.old }
+    {
+        let count = count.min(self.rows.len() as u64);
+        self.rows.truncate(count as usize);
+    }
+
+    /// The clauses of all procedures, in time linear in their number.
+    pub fn all_clauses(&self) -> Result<Snapshot, Memory>
+        ensures { IfOk result (λ s. s ≡ all_numbered_clauses self.now) }
+    {
+        let mut all = Vec::new(self.alloc);
+        'rows: for i in 0..self.rows.len() {
+            let (_, procedure) = self.rows.get_index(i).unwrap();
+            procedure.clauses.add_to(&mut all)?;
+        }
+        Snapshot::of(self.alloc, all)
+    }
+}

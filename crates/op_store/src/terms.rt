@@ -1,0 +1,4 @@
+//! Terms by their outermost node.
+pub(crate) mod atoms;
+pub(crate) mod pair;
+pub(crate) mod shape;

@@ -1,0 +1,2 @@
+-- What only proofs need: what the nodes of a builder mean.
+pub mod Cells

@@ -1,0 +1,98 @@
+use crate::table::Table;
+use crate::{bindings, desks, frames, names, reading, table, tokens, writing};
+use op_base::Memory;
+use op_case_lines::{Cases, decoded, numbered};
+use std::alloc::Global;
+
+impl Cases for Table {
+    fn add_result(
+        &mut self,
+        rt: HostRuntime,
+        line: &mut String,
+        word: &str,
+        text: &str,
+    ) -> Result<(), Memory> {
+        match word {
+            "files" => desks::file_desk(rt, line),
+            _ => of_table(rt.alloc(), line, self, word, text),
+        }
+    }
+}
+
+// The cases that change the table of operators.
+fn of_table(
+    alloc: Global,
+    line: &mut String,
+    table: &mut Table,
+    word: &str,
+    text: &str,
+) -> Result<(), Memory> {
+    match word {
+        "standard" => table::reset(alloc, line, table),
+        "quotes" => table::quote(line, table, text),
+        "op" => table::set(line, table, text),
+        "meanings" => table::meanings(line, table, text),
+        _ => of_words(alloc, line, table, word, text),
+    }
+}
+
+// The cases whose text is in words.
+fn of_words(
+    alloc: Global,
+    line: &mut String,
+    table: &Table,
+    word: &str,
+    text: &str,
+) -> Result<(), Memory> {
+    match word {
+        "names" => names::numbers(alloc, line, text),
+        "fuel" => names::fuel(line, text),
+        "desk" => desks::memory_desk(alloc, line, text),
+        _ => of_text(alloc, line, table, word, &decoded(alloc, text)?, text),
+    }
+}
+
+// The cases whose text is one field.
+fn of_text(
+    alloc: Global,
+    line: &mut String,
+    table: &Table,
+    word: &str,
+    bytes: &[u8],
+    text: &str,
+) -> Result<(), Memory> {
+    match word {
+        "tokens" => tokens::tokens(line, bytes),
+        "text" => tokens::token_text(alloc, line, bytes),
+        "cut" => tokens::piece(line, bytes),
+        "pieces" => tokens::pieces(alloc, line, bytes),
+        "read" => reading::read(alloc, line, table, bytes),
+        "used" => reading::used(alloc, line, table, bytes),
+        "write" => writing::written(alloc, line, table, bytes),
+        "line" => writing::cut_line(alloc, line, table, false, bytes),
+        "operand" => writing::cut_line(alloc, line, table, true, bytes),
+        _ => of_number(alloc, line, table, word, text),
+    }
+}
+
+// The cases whose text begins with a number.
+fn of_number(
+    alloc: Global,
+    line: &mut String,
+    table: &Table,
+    word: &str,
+    text: &str,
+) -> Result<(), Memory> {
+    let Some((number, behind)) = numbered(text) else {
+        return Ok(line.push_str("no case")?);
+    };
+    match word {
+        "within" => writing::within(alloc, line, table, number, &decoded(alloc, behind)?),
+        "again" => writing::again(alloc, line, table, number, &decoded(alloc, behind)?),
+        "unify" => bindings::unify(alloc, line, table, number, behind),
+        "compound" => bindings::compound(alloc, line, table, number, behind),
+        "choices" => frames::choices(alloc, line, number),
+        "open" => frames::open_boxes(alloc, line, number, behind.parse::<u64>().unwrap_or(0)),
+        _ => Ok(line.push_str("no case")?),
+    }
+}

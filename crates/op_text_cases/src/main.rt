@@ -1,0 +1,24 @@
+//! The cases of the layers that know no program: tokens, names, terms read and written, operators, bindings, boxes and desks.
+#![tactic(auto)]
+
+mod bindings;
+mod case;
+mod desks;
+mod frames;
+mod names;
+mod reading;
+mod show;
+mod table;
+mod tokens;
+mod writing;
+
+use op_case_lines::run_cases;
+use std::io;
+use table::Table;
+
+fn main(rt: HostRuntime) -> io::Result<()> {
+    let Ok(mut table) = Table::new(rt.alloc()) else {
+        return Err(io::Error::from(io::ErrorKind::OutOfMemory));
+    };
+    run_cases(rt, &mut table)
+}

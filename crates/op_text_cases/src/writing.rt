@@ -1,0 +1,205 @@
+ghost use Rattle.std.specs.Prelude.{length};
+ghost use Rattle.op_logic.specs.Names.{HasNames};
+ghost use Rattle.op_reader.specs.Variables.{HasVariables};
+
+use crate::table::Table;
+use op_base::Memory;
+use op_case_lines::escaped;
+use op_desk::Bytes;
+use op_readback::written_and_read;
+use op_reader::{Read, Reading, read_term};
+use op_term::{Symbols, Term, Whole};
+use op_writer::{Style, TextFault, write_cut, write_text};
+use std::alloc::Global;
+
+// Adds a term's text in a style, of at most so many bytes.
+fn add_text(
+    alloc: Global,
+    line: &mut String,
+    table: &Table,
+    style: Style,
+    symbols: &Symbols,
+    term: &Term,
+    limit: u64,
+) -> Result<(), Memory>
+    requires { HasNames (length symbols.now) term.now }
+{
+    let mut out = Bytes::new(alloc);
+    let tree = Whole::new(term);
+    match write_text(
+        alloc,
+        &table.ops,
+        style,
+        symbols,
+        &tree,
+        &tree.root(),
+        1200,
+        limit,
+        &mut out,
+    ) {
+        Ok(()) => line.push_str(escaped(alloc, out.as_slice())?.as_str())?,
+        Err(TextFault::TooLong) => write!(line, "too_long")?,
+        Err(TextFault::Memory) => return Err(Memory),
+    }
+    Ok(())
+}
+
+// Adds the plain, the quoted and the canonical text.
+fn add_texts(
+    alloc: Global,
+    line: &mut String,
+    table: &Table,
+    symbols: &Symbols,
+    term: &Term,
+) -> Result<(), Memory>
+    requires { HasNames (length symbols.now) term.now }
+{
+    add_text(alloc, line, table, Style::Plain, symbols, term, 100)?;
+    line.push_str(" § ")?;
+    add_text(alloc, line, table, Style::Quoted, symbols, term, 100)?;
+    line.push_str(" § ")?;
+    add_text(alloc, line, table, Style::Canonical, symbols, term, 100)
+}
+
+/// A term that is read, in each of the three styles.
+pub fn written(alloc: Global, line: &mut String, table: &Table, text: &[u8]) -> Result<(), Memory> {
+    let mut symbols = Symbols::new(alloc);
+    match read_term(alloc, &table.ops, table.quotes, &mut symbols, text) {
+        Ok(Reading::Term(read)) => add_texts(alloc, line, table, &symbols, &read.term),
+        _ => Ok(line.push_str("no term")?),
+    }
+}
+
+/// The quoted text of a term that is read, if it has at most so many bytes.
+pub fn within(
+    alloc: Global,
+    line: &mut String,
+    table: &Table,
+    limit: u64,
+    text: &[u8],
+) -> Result<(), Memory> {
+    let mut symbols = Symbols::new(alloc);
+    match read_term(alloc, &table.ops, table.quotes, &mut symbols, text) {
+        Ok(Reading::Term(read)) => add_text(
+            alloc,
+            line,
+            table,
+            Style::Quoted,
+            &symbols,
+            &read.term,
+            limit,
+        ),
+        _ => Ok(line.push_str("no term")?),
+    }
+}
+
+// Writes a term that was read in the canonical style and reads it again, and adds the canonical text of what was read.
+fn add_again(
+    alloc: Global,
+    line: &mut String,
+    table: &Table,
+    symbols: &mut Symbols,
+    read: &Read,
+    limit: u64,
+) -> Result<(), Memory>
+    requires names { HasNames (length symbols.old) read.now.term }
+    requires variables { HasVariables read.now.vars read.now.term read.now.names }
+{
+    if read.vars > 0 {
+        return Ok(line.push_str("variables")?);
+    }
+    match written_and_read(
+        alloc,
+        &table.ops,
+        Style::Canonical,
+        table.quotes,
+        symbols,
+        &read.term,
+        1200,
+        limit,
+    ) {
+        Ok(again) => add_text(
+            alloc,
+            line,
+            table,
+            Style::Canonical,
+            symbols,
+            &again.term,
+            limit,
+        ),
+        Err(TextFault::TooLong) => Ok(line.push_str("too_long")?),
+        Err(TextFault::Memory) => Err(Memory),
+    }
+}
+
+/// A term that is read, written within a limit and read again.
+pub fn again(
+    alloc: Global,
+    line: &mut String,
+    table: &Table,
+    limit: u64,
+    text: &[u8],
+) -> Result<(), Memory> {
+    let mut symbols = Symbols::new(alloc);
+    match read_term(alloc, &table.ops, table.quotes, &mut symbols, text) {
+        Ok(Reading::Term(read)) => add_again(alloc, line, table, &mut symbols, &read, limit),
+        _ => Ok(line.push_str("no term")?),
+    }
+}
+
+// Adds a text of at most 100 bytes; of a longer one how many bytes it has, and the last eight characters.
+fn add_short(alloc: Global, line: &mut String, text: &[u8]) -> Result<(), Memory> {
+    let shown = escaped(alloc, text)?;
+    if text.len() <= 100 {
+        return Ok(line.push_str(shown.as_str())?);
+    }
+    let count = text.len();
+    write!(line, "{count} bytes ")?;
+    let characters = shown.as_str().chars().count();
+    for c in shown.as_str().chars().skip(characters.saturating_sub(8)) {
+        line.push(c)?;
+    }
+    Ok(())
+}
+
+// Adds the cut text of a term behind some bytes.
+fn add_cut(
+    alloc: Global,
+    line: &mut String,
+    table: &Table,
+    symbols: &Symbols,
+    term: &Term,
+    operand: bool,
+) -> Result<(), Memory>
+    requires { HasNames (length symbols.now) term.now }
+{
+    let mut out = Bytes::new(alloc);
+    out.append(b"X = ")?;
+    let tree = Whole::new(term);
+    write_cut(
+        alloc,
+        &table.ops,
+        symbols,
+        &tree,
+        &tree.root(),
+        699,
+        operand,
+        &mut out,
+    )?;
+    add_short(alloc, line, out.as_slice())
+}
+
+/// The cut text of a term that is read, as an operand or not.
+pub fn cut_line(
+    alloc: Global,
+    line: &mut String,
+    table: &Table,
+    operand: bool,
+    text: &[u8],
+) -> Result<(), Memory> {
+    let mut symbols = Symbols::new(alloc);
+    match read_term(alloc, &table.ops, table.quotes, &mut symbols, text) {
+        Ok(Reading::Term(read)) => add_cut(alloc, line, table, &symbols, &read.term, operand),
+        _ => Ok(line.push_str("no term")?),
+    }
+}
