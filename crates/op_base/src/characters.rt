@@ -1,7 +1,8 @@
 //! Classes of characters within ASCII (ISO/IEC 13211-1, 6.5). A byte of a character past ASCII is in none of them.
 
 ghost use Rattle.std.specs.Prelude.{◌≡◌};
-ghost use Rattle.op_base.specs.Characters.{is_layout as layout, is_small as small, is_capital as capital, is_digit as digit, is_word as word, is_symbol as symbol};
+ghost use Rattle.op_base.specs.Characters.{is_layout as layout, is_small as small, is_capital as capital, is_digit as digit};
+ghost use Rattle.op_base.specs.Characters.{is_word as word, is_symbol as symbol};
 
 /// Layout: space, tab, newline, vertical tab, form feed and carriage return (6.5.4).
 pub fn is_layout(byte: u8) -> bool

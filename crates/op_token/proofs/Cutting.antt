@@ -1,5 +1,7 @@
 -- Where a text ends, and what more bytes change.
-use Rattle.std.proofs.Common.{◌≡◌, ℕ, zero, suc, ◌+◌, ◌-◌, ◌<◌, ◌≤◌, Bool, true, false, List, [], ◌∷◌, ◌++◌, Option, Some, None, length, take, drop, refl, ap, sym, ◌∙◌, cond, arith, subst, inl, inr, ◌⊎◌, length-append, length-drop, set, get_or, drop-cons, add-one}
+use Rattle.std.proofs.Common.{◌≡◌, ℕ, zero, suc, ◌+◌, ◌-◌, ◌<◌, ◌≤◌, Bool, true, false, List, [], ◌∷◌, ◌++◌, Option, Some, None}
+use Rattle.std.proofs.Common.{length, take, drop, refl, ap, sym, ◌∙◌, cond, arith, subst, inl, inr, ◌⊎◌, length-append, length-drop}
+use Rattle.std.proofs.Common.{set, get_or, drop-cons, add-one}
 use Rattle.std.specs.Prelude.{map, fold, if◌then◌else◌, slice_range, IsTrue, ◌↔◌}
 use Rattle.std.specs.Bool.{OnFalse}
 use Rattle.std.proofs.lemmas.List.Sums.{fold_push}
@@ -12,19 +14,24 @@ use Rattle.op_token.specs.declared.kind.Kind.TheVariants.{Newline, Layout, Perce
 use Rattle.op_token.specs.declared.kind.Mark.TheVariants.{Single, Double}
 use Rattle.op_token.specs.declared.walk.Mode.{Mode}
 use Rattle.op_token.specs.declared.walk.Walk.{Walk}
-use Rattle.op_token.specs.declared.walk.Mode.TheVariants.{Lead, Between, AfterSlash, AfterZero, AfterDot, InLine, InBlock, AfterStar, InQuotes, Escaped, InCode, CodeEscaped, CodeQuote, Ended}
+use Rattle.op_token.specs.declared.walk.Mode.TheVariants.{Lead, Between, AfterSlash, AfterZero, AfterDot, InLine, InBlock}
+use Rattle.op_token.specs.declared.walk.Mode.TheVariants.{AfterStar, InQuotes, Escaped, InCode, CodeEscaped, CodeQuote, Ended}
 use Rattle.op_base.specs.Characters.{is_layout}
 use Rattle.op_token.specs.Kind.{kind_of, is_gap}
-use Rattle.op_token.specs.Cut.{spelled, is_followed, ends, end_from, blank_from, piece, cut_from, cut_of, IsFollowed, IsOpen, EndsBefore, IsUnended, IsBehindGap, behind_layout, rest_in, text_in, IsText, is_text, moved, texts, behind_texts}
+use Rattle.op_token.specs.Cut.{spelled, is_followed, ends, end_from, blank_from, piece, cut_from, cut_of, IsFollowed, IsOpen}
+use Rattle.op_token.specs.Cut.{EndsBefore, IsUnended, IsBehindGap, behind_layout, rest_in, text_in, IsText, is_text, moved, texts}
+use Rattle.op_token.specs.Cut.{behind_texts}
 use Rattle.op_token.specs.Walk.{piece_in, top_of, next_of, step_of, piece_at, walked, start, has_ended}
 use Rattle.op_token.proofs.Walking.{piece_steps}
 
 -- the end of a text is behind its place, and not behind the bytes
-pub end_within : (at inside : ℕ) (before : Kind) (s : List Kind) (e : ℕ) → end_from at inside before s ≡ Some e → (at < e) × (e ≤ at + length s)
+pub end_within : (at inside : ℕ) (before : Kind) (s : List Kind) (e : ℕ) → end_from at inside before s ≡ Some e
+    → (at < e) × (e ≤ at + length s)
 end_within at inside before [] e h = cc
 end_within at (suc n) before (k ∷ s) e h = let i = end_within (suc at) n k s e h in (omega arith, omega arith)
 end_within at zero before (k ∷ s) e h =
-    elim (ends before k s) as (λ b. cond b (Some (suc at)) (end_from (suc at) (spelled before k s) k s) ≡ Some e → (at < e) × (e ≤ at + suc (length s))) [
+    elim (ends before k s) as
+    (λ b. cond b (Some (suc at)) (end_from (suc at) (spelled before k s) k s) ≡ Some e → (at < e) × (e ≤ at + suc (length s))) [
       | true ↦ λ p. let q : suc at ≡ e = cc in (omega arith, omega arith)
       | false ↦ λ p. let i = end_within (suc at) (spelled before k s) k s e p in (omega arith, omega arith)
     ] h
@@ -33,9 +40,11 @@ pub cut_within_from : (at : ℕ) (s : List Kind) (f e : ℕ) → cut_from at s �
 cut_within_from at [] f e h = cc
 cut_within_from at (Newline ∷ s) f e h = let i = cut_within_from (suc at) s f e h in (i.0, omega arith)
 cut_within_from at (Layout ∷ s) f e h = let i = cut_within_from (suc at) s f e h in (i.0, omega arith)
-cut_within_from at (k ∷ s) f e h = piece_within at (end_from at 0 Layout (k ∷ s)) (blank_from 0 (k ∷ s)) (k ∷ s) f e (λ x p. end_within at 0 Layout (k ∷ s) x p) h
+cut_within_from at (k ∷ s) f e h =
+    piece_within at (end_from at 0 Layout (k ∷ s)) (blank_from 0 (k ∷ s)) (k ∷ s) f e (λ x p. end_within at 0 Layout (k ∷ s) x p) h
   where
-    piece_within : (at : ℕ) (o : Option ℕ) (b : Bool) (s : List Kind) (f e : ℕ) → ((x : ℕ) → o ≡ Some x → (at < x) × (x ≤ at + length s)) → piece at o b ≡ Text f e → (f < e) × (e ≤ at + length s)
+    piece_within : (at : ℕ) (o : Option ℕ) (b : Bool) (s : List Kind) (f e : ℕ)
+        → ((x : ℕ) → o ≡ Some x → (at < x) × (x ≤ at + length s)) → piece at o b ≡ Text f e → (f < e) × (e ≤ at + length s)
     piece_within at None true s f e g h = cc
     piece_within at None false s f e g h = cc
     piece_within at (Some x) b s f e g h = let p : at ≡ f = cc in let q : x ≡ e = cc in let i = g x refl in (omega arith, omega arith)
@@ -44,7 +53,8 @@ pub cut_within : (s : List ℕ) (f e : ℕ) → cut_of s ≡ Text f e → (f < e
 cut_within s f e h = let i = cut_within_from 0 (map kind_of s) f e h in (i.0, omega (arith, length-map s kind_of))
 
 -- a walk over bytes
-pub walked_piece : (w : Walk) (bytes : List ℕ) (s : List Kind) → piece_in (fold (λ w b. step_of w (kind_of b)) w bytes) s ≡ piece_in w (map kind_of bytes ++ s)
+pub walked_piece : (w : Walk) (bytes : List ℕ) (s : List Kind)
+    → piece_in (fold (λ w b. step_of w (kind_of b)) w bytes) s ≡ piece_in w (map kind_of bytes ++ s)
 walked_piece w [] s = refl
 walked_piece w (b ∷ bytes) s = walked_piece (step_of w (kind_of b)) bytes s ∙ sym (piece_steps w (kind_of b) (map kind_of bytes ++ s))
 
@@ -56,7 +66,8 @@ pub walked_push : (bytes : List ℕ) (b : ℕ) → walked (bytes ++ b ∷ []) �
 walked_push bytes b = fold_push (λ w c. step_of w (kind_of c)) start bytes b
 
 -- behind an end are layout, % or nothing
-next_behind : (at e : ℕ) (k : Kind) (s : List Kind) → suc at < e → is_followed (drop (e - suc at) s) ≡ true → is_followed (drop (e - at) (k ∷ s)) ≡ true
+next_behind : (at e : ℕ) (k : Kind) (s : List Kind) → suc at < e → is_followed (drop (e - suc at) s) ≡ true
+    → is_followed (drop (e - at) (k ∷ s)) ≡ true
 next_behind at e k s h f = let d : e - at ≡ suc (e - suc at) = omega arith in rw d f
 
 ends_followed : (before k : Kind) (s : List Kind) → ends before k s ≡ true → is_followed s ≡ true
@@ -68,16 +79,22 @@ ends_followed Sign Dot s h = cc
 ends_followed before Dot s h = h
 ends_followed before k s h = cc
 
-first_behind : (b : Bool) (o : Option ℕ) (at e : ℕ) (k : Kind) (s : List Kind) → (b ≡ true → is_followed s ≡ true) → (o ≡ Some e → (suc at < e) × (is_followed (drop (e - suc at) s) ≡ true)) → cond b (Some (suc at)) o ≡ Some e → is_followed (drop (e - at) (k ∷ s)) ≡ true
+first_behind : (b : Bool) (o : Option ℕ) (at e : ℕ) (k : Kind) (s : List Kind) → (b ≡ true → is_followed s ≡ true)
+    → (o ≡ Some e → (suc at < e) × (is_followed (drop (e - suc at) s) ≡ true)) → cond b (Some (suc at)) o ≡ Some e
+    → is_followed (drop (e - at) (k ∷ s)) ≡ true
 first_behind true o at e k s f g h = let q : suc at ≡ e = cc in let d : e - at ≡ suc zero = omega arith in rw d (f refl)
 first_behind false o at e k s f g h = let i = g h in next_behind at e k s i.0 i.1
 
-end_behind : (at inside : ℕ) (before : Kind) (s : List Kind) (e : ℕ) → end_from at inside before s ≡ Some e → is_followed (drop (e - at) s) ≡ true
+end_behind : (at inside : ℕ) (before : Kind) (s : List Kind) (e : ℕ) → end_from at inside before s ≡ Some e
+    → is_followed (drop (e - at) s) ≡ true
 end_behind at inside before [] e h = cc
 end_behind at (suc n) before (k ∷ s) e h = next_behind at e k s (end_within (suc at) n k s e h).0 (end_behind (suc at) n k s e h)
-end_behind at zero before (k ∷ s) e h = first_behind (ends before k s) (end_from (suc at) (spelled before k s) k s) at e k s (ends_followed before k s) (λ p. ((end_within (suc at) (spelled before k s) k s e p).0, end_behind (suc at) (spelled before k s) k s e p)) h
+end_behind at zero before (k ∷ s) e h =
+    first_behind (ends before k s) (end_from (suc at) (spelled before k s) k s) at e k s (ends_followed before k s)
+    (λ p. ((end_within (suc at) (spelled before k s) k s e p).0, end_behind (suc at) (spelled before k s) k s e p)) h
 
-piece_behind : (at : ℕ) (o : Option ℕ) (b : Bool) (s : List Kind) (f e : ℕ) → ((x : ℕ) → o ≡ Some x → is_followed (drop (x - at) s) ≡ true) → piece at o b ≡ Text f e → is_followed (drop (e - at) s) ≡ true
+piece_behind : (at : ℕ) (o : Option ℕ) (b : Bool) (s : List Kind) (f e : ℕ)
+    → ((x : ℕ) → o ≡ Some x → is_followed (drop (x - at) s) ≡ true) → piece at o b ≡ Text f e → is_followed (drop (e - at) s) ≡ true
 piece_behind at None true s f e g h = cc
 piece_behind at None false s f e g h = cc
 piece_behind at (Some x) b s f e g h = let q : x ≡ e = cc in subst (λ y. is_followed (drop (y - at) s) ≡ true) q (g x refl)
@@ -86,7 +103,8 @@ cut_end_above : (at : ℕ) (s : List Kind) (f e : ℕ) → cut_from at s ≡ Tex
 cut_end_above at [] f e h = cc
 cut_end_above at (Newline ∷ s) f e h = let i = cut_end_above (suc at) s f e h in omega arith
 cut_end_above at (Layout ∷ s) f e h = let i = cut_end_above (suc at) s f e h in omega arith
-cut_end_above at (k ∷ s) f e h = piece_above at (end_from at 0 Layout (k ∷ s)) (blank_from 0 (k ∷ s)) f e (λ x p. (end_within at 0 Layout (k ∷ s) x p).0) h
+cut_end_above at (k ∷ s) f e h =
+    piece_above at (end_from at 0 Layout (k ∷ s)) (blank_from 0 (k ∷ s)) f e (λ x p. (end_within at 0 Layout (k ∷ s) x p).0) h
   where
     piece_above : (at : ℕ) (o : Option ℕ) (b : Bool) (f e : ℕ) → ((x : ℕ) → o ≡ Some x → at < x) → piece at o b ≡ Text f e → at < e
     piece_above at None true f e g h = cc
@@ -97,7 +115,8 @@ cut_behind_from : (at : ℕ) (s : List Kind) (f e : ℕ) → cut_from at s ≡ T
 cut_behind_from at [] f e h = cc
 cut_behind_from at (Newline ∷ s) f e h = next_behind at e Newline s (cut_end_above (suc at) s f e h) (cut_behind_from (suc at) s f e h)
 cut_behind_from at (Layout ∷ s) f e h = next_behind at e Layout s (cut_end_above (suc at) s f e h) (cut_behind_from (suc at) s f e h)
-cut_behind_from at (k ∷ s) f e h = piece_behind at (end_from at 0 Layout (k ∷ s)) (blank_from 0 (k ∷ s)) (k ∷ s) f e (λ x p. end_behind at 0 Layout (k ∷ s) x p) h
+cut_behind_from at (k ∷ s) f e h =
+    piece_behind at (end_from at 0 Layout (k ∷ s)) (blank_from 0 (k ∷ s)) (k ∷ s) f e (λ x p. end_behind at 0 Layout (k ∷ s) x p) h
 
 drop_kinds : (n : ℕ) (s : List ℕ) → drop n (map kind_of s) ≡ map kind_of (drop n s)
 drop_kinds zero s = refl
@@ -112,7 +131,8 @@ pub cut_behind : (s : List ℕ) (f e : ℕ) → cut_of s ≡ Text f e → IsBehi
 cut_behind s f e h =
     let d : e - 0 ≡ e = omega arith in
     let i : is_followed (drop (e - 0) (map kind_of s)) ≡ true = cut_behind_from 0 (map kind_of s) f e h in
-    followed_gap (drop e s) (subst (λ k. is_followed k ≡ true) (drop_kinds e s) (subst (λ n. is_followed (drop n (map kind_of s)) ≡ true) d i))
+    followed_gap (drop e s)
+    (subst (λ k. is_followed k ≡ true) (drop_kinds e s) (subst (λ n. is_followed (drop n (map kind_of s)) ≡ true) d i))
 
 -- the walk after these bytes, and the piece
 kinds_nil : (k : List Kind) → k ++ [] ≡ k
@@ -199,14 +219,19 @@ ended_at : (at from : ℕ) (blank : Bool) (m : Mode) (e : ℕ) (s : List Kind) �
 ended_at at from blank m e s h = ap (λ m. piece_at at from blank m s) h
 
 -- an end that was shown stands before the last byte
-pub ended_before : (w : Walk) (bytes : List ℕ) → ((x : ℕ) → w.mode ≡ Ended x → x < w.at) → (e : ℕ) → (fold (λ w b. step_of w (kind_of b)) w bytes).mode ≡ Ended e → e < (fold (λ w b. step_of w (kind_of b)) w bytes).at
+pub ended_before : (w : Walk) (bytes : List ℕ) → ((x : ℕ) → w.mode ≡ Ended x → x < w.at) → (e : ℕ)
+    → (fold (λ w b. step_of w (kind_of b)) w bytes).mode ≡ Ended e → e < (fold (λ w b. step_of w (kind_of b)) w bytes).at
 ended_before w [] g e h = g e h
 ended_before w (b ∷ bytes) g e h = ended_before (step_of w (kind_of b)) bytes (λ x p. step_before w.at w.mode (kind_of b) x g p) e h
   where
     step_before : (at : ℕ) (m : Mode) (k : Kind) (x : ℕ) → ((x : ℕ) → m ≡ Ended x → x < at) → next_of at m k ≡ Ended x → x < suc at
     step_before at m k x g p = elim (mode_cases m) [
       | inl f ↦ let q = next_ended at m k x f p in omega arith
-      | inr y ↦ let r : next_of at (Ended y.0) k ≡ Ended x = subst (λ m. next_of at m k ≡ Ended x) y.1 p in let q : y.0 ≡ x = cc in let z = g y.0 y.1 in omega arith
+      | inr y ↦
+          let r : next_of at (Ended y.0) k ≡ Ended x = subst (λ m. next_of at m k ≡ Ended x) y.1 p in
+          let q : y.0 ≡ x = cc in
+          let z = g y.0 y.1 in
+          omega arith
     ]
 
 pub ended_length : (p : List ℕ) (e : ℕ) → (walked p).mode ≡ Ended e → e < length p
@@ -218,11 +243,18 @@ ended_cut p e h = sym (walk_cut p) ∙ ended_at (walked p).at (walked p).from (w
 pub open_mode : (p : List ℕ) → IsOpen p → has_ended (walked p).mode ≡ false
 open_mode p o = elim (mode_cases (walked p).mode) [
   | inl f ↦ f
-  | inr y ↦ let i = ended_length p y.0 y.1 in let u : IsUnended (Text (walked p).from y.0) (length p) = subst (λ x. IsUnended x (length p)) (ended_cut p y.0 y.1) o in let v : y.0 ≡ length p = u in absurd (omega arith)
+  | inr y ↦
+      let i = ended_length p y.0 y.1 in
+      let u : IsUnended (Text (walked p).from y.0) (length p) = subst (λ x. IsUnended x (length p)) (ended_cut p y.0 y.1) o in
+      let v : y.0 ≡ length p = u in
+      absurd (omega arith)
 ]
 
 pub mode_open : (p : List ℕ) → has_ended (walked p).mode ≡ false → IsOpen p
-mode_open p h = subst (λ n. IsUnended (cut_of p) n) (walk_length p) (subst (λ x. IsUnended x (walked p).at) (walk_cut p) (unended_at (walked p).at (walked p).from (walked p).blank (walked p).mode h))
+mode_open p h =
+    subst (λ n. IsUnended (cut_of p) n) (walk_length p)
+    (subst (λ x. IsUnended x (walked p).at) (walk_cut p)
+    (unended_at (walked p).at (walked p).from (walked p).blank (walked p).mode h))
 
 pub followed_is : (x : Piece) (n : ℕ) → EndsBefore x n → (f : ℕ) × ((t : ℕ) × ((x ≡ Text f t) × (suc t ≡ n)))
 followed_is (Text f t) n h = (f, (t, (refl, h)))
@@ -252,8 +284,15 @@ push_followed p b o h = elim (mode_cases (walked (p ++ b ∷ [])).mode) [
 -- more bytes change nothing of a text with a byte behind its end
 pub cut_any_more : (p r : List ℕ) (f t : ℕ) → cut_of p ≡ Text f t → t < length p → cut_of (p ++ r) ≡ Text f t
 cut_any_more p r f t h l = elim (mode_cases (walked p).mode) [
-  | inl m ↦ let u : IsUnended (Text f t) (length p) = subst (λ x. IsUnended x (length p)) h (mode_open p m) in let v : t ≡ length p = u in absurd (omega arith)
-  | inr y ↦ sym (walk_more p r) ∙ ended_at (walked p).at (walked p).from (walked p).blank (walked p).mode y.0 (map kind_of r) y.1 ∙ sym (ended_cut p y.0 y.1) ∙ h
+  | inl m ↦
+      let u : IsUnended (Text f t) (length p) = subst (λ x. IsUnended x (length p)) h (mode_open p m) in
+      let v : t ≡ length p = u in
+      absurd (omega arith)
+  | inr y ↦
+      sym (walk_more p r)
+      ∙ ended_at (walked p).at (walked p).from (walked p).blank (walked p).mode y.0 (map kind_of r) y.1
+      ∙ sym (ended_cut p y.0 y.1)
+      ∙ h
 ]
 
 pub cut_more : (p r : List ℕ) → IsFollowed p → cut_of (p ++ r) ≡ cut_of p
@@ -267,7 +306,10 @@ text_more p r h =
     subst (λ x. text_in x (p ++ r) ≡ text_in x p) (sym i.1.1.0) g
   where
     range_more : (p r : List ℕ) (f t : ℕ) → f < t → t ≤ length p → slice_range (p ++ r) f t ≡ slice_range p f t
-    range_more p r f t h l = let le : f ≤ length p = omega arith in let le2 : t - f ≤ length (drop f p) = omega (arith, length-drop f p) in ap (take (t - f)) (drop-append-le f p r le) ∙ take-append-le (t - f) (drop f p) r le2
+    range_more p r f t h l =
+        let le : f ≤ length p = omega arith in
+        let le2 : t - f ≤ length (drop f p) = omega (arith, length-drop f p) in
+        ap (take (t - f)) (drop-append-le f p r le) ∙ take-append-le (t - f) (drop f p) r le2
 
 behind_layout_more : (s r : List ℕ) → 0 < length s → behind_layout (s ++ r) ≡ behind_layout s ++ r
 behind_layout_more [] r h = absurd (omega arith)
@@ -285,7 +327,8 @@ rest_more p r h =
     subst (λ x. rest_in x (p ++ r) ≡ rest_in x p ++ r) (sym i.1.1.0) g
 
 -- behind the end of a text that is followed stands the byte that showed it
-drop_end : (p : List ℕ) (b n : ℕ) (h : IsFollowed p) → suc n ≡ length p → b ≡ get_or p n b → drop (followed_is (cut_of p) (length p) h).1.0 p ≡ b ∷ []
+drop_end : (p : List ℕ) (b n : ℕ) (h : IsFollowed p) → suc n ≡ length p → b ≡ get_or p n b
+    → drop (followed_is (cut_of p) (length p) h).1.0 p ≡ b ∷ []
 drop_end p b n h l g =
     let i = followed_is (cut_of p) (length p) h in
     let q : n ≡ i.1.0 = omega (arith, i.1.1.1) in
@@ -326,7 +369,8 @@ pub rest_open : (p : List ℕ) (b n : ℕ) → IsFollowed p → suc n ≡ length
 rest_open p b n h l g = subst IsOpen (sym (rest_last p b n h l g)) (gap_open b (last_gap p b n h l g))
 
 -- what a push says
-pub push_says : (p : List ℕ) (b : ℕ) (r : Bool) → IsOpen p → r ≡ has_ended (walked (p ++ b ∷ [])).mode → (IsTrue r ↔ IsFollowed (p ++ b ∷ [])) × OnFalse r (IsOpen (p ++ b ∷ []))
+pub push_says : (p : List ℕ) (b : ℕ) (r : Bool) → IsOpen p → r ≡ has_ended (walked (p ++ b ∷ [])).mode
+    → (IsTrue r ↔ IsFollowed (p ++ b ∷ [])) × OnFalse r (IsOpen (p ++ b ∷ []))
 push_says p b true o h = ((λ t. push_followed p b o (sym h), λ f. refl), tt)
 push_says p b false o h = let g = mode_open (p ++ b ∷ []) (sym h) in ((λ t. absurd cc, λ f. absurd (open_followed (p ++ b ∷ []) g f)), g)
 
@@ -355,14 +399,17 @@ ended_piece w s h = elim (mode_cases w.mode) [
 ]
 
 -- a step over the bytes at an index
-pub step_drop : (w : Walk) (s : List ℕ) (i : ℕ) (d : ℕ) → i < length s → piece_in (step_of w (kind_of (get_or s i d))) (map kind_of (drop (i + 1) s)) ≡ piece_in w (map kind_of (drop i s))
+pub step_drop : (w : Walk) (s : List ℕ) (i : ℕ) (d : ℕ) → i < length s
+    → piece_in (step_of w (kind_of (get_or s i d))) (map kind_of (drop (i + 1) s)) ≡ piece_in w (map kind_of (drop i s))
 step_drop w s i d h = rw (add-one i, drop-cons s i d h) (sym (piece_steps w (kind_of (get_or s i d)) (map kind_of (drop (suc i) s))))
 
 -- the texts of a whole byte list, from the one that has been followed
-texts_at : (n : ℕ) (s : List ℕ) (x : Piece) → cut_of s ≡ x → texts (suc n) s ≡ (if is_text x then text_in x s ∷ texts n (rest_in x s) else [])
+texts_at : (n : ℕ) (s : List ℕ) (x : Piece) → cut_of s ≡ x
+    → texts (suc n) s ≡ (if is_text x then text_in x s ∷ texts n (rest_in x s) else [])
 texts_at n s x h = ap (λ y. if is_text y then text_in y s ∷ texts n (rest_in y s) else []) h
 
-behind_at : (n : ℕ) (s : List ℕ) (x : Piece) → cut_of s ≡ x → behind_texts (suc n) s ≡ (if is_text x then behind_texts n (rest_in x s) else s)
+behind_at : (n : ℕ) (s : List ℕ) (x : Piece) → cut_of s ≡ x
+    → behind_texts (suc n) s ≡ (if is_text x then behind_texts n (rest_in x s) else s)
 behind_at n s x h = ap (λ y. if is_text y then behind_texts n (rest_in y s) else s) h
 
 followed_text : (p : List ℕ) → IsFollowed p → is_text (cut_of p) ≡ true
@@ -382,12 +429,16 @@ behind_more n p r h =
     ∙ ap (behind_texts n) (rest_more p r h)
 
 -- leading layout is skipped
-end_moved : (at inside : ℕ) (before : Kind) (s : List Kind) → end_from (suc at) inside before s ≡ option_map suc (end_from at inside before s)
+end_moved : (at inside : ℕ) (before : Kind) (s : List Kind)
+    → end_from (suc at) inside before s ≡ option_map suc (end_from at inside before s)
 end_moved at inside before [] = refl
 end_moved at (suc n) before (k ∷ s) = end_moved (suc at) n k s
-end_moved at zero before (k ∷ s) = both_ends (ends before k s) (end_from (suc (suc at)) (spelled before k s) k s) (end_from (suc at) (spelled before k s) k s) (end_moved (suc at) (spelled before k s) k s)
+end_moved at zero before (k ∷ s) =
+    both_ends (ends before k s) (end_from (suc (suc at)) (spelled before k s) k s) (end_from (suc at) (spelled before k s) k s)
+    (end_moved (suc at) (spelled before k s) k s)
   where
-    both_ends : (b : Bool) (o p : Option ℕ) → o ≡ option_map suc p → cond b (Some (suc (suc at))) o ≡ option_map suc (cond b (Some (suc at)) p)
+    both_ends : (b : Bool) (o p : Option ℕ) → o ≡ option_map suc p
+        → cond b (Some (suc (suc at))) o ≡ option_map suc (cond b (Some (suc at)) p)
     both_ends true o p e = refl
     both_ends false o p e = e
 
@@ -400,7 +451,9 @@ cut_from_moved : (at : ℕ) (s : List Kind) → cut_from (suc at) s ≡ moved (c
 cut_from_moved at [] = refl
 cut_from_moved at (Newline ∷ s) = cut_from_moved (suc at) s
 cut_from_moved at (Layout ∷ s) = cut_from_moved (suc at) s
-cut_from_moved at (k ∷ s) = ap (λ o. piece (suc at) o (blank_from 0 (k ∷ s))) (end_moved at 0 Layout (k ∷ s)) ∙ piece_moved at (end_from at 0 Layout (k ∷ s)) (blank_from 0 (k ∷ s))
+cut_from_moved at (k ∷ s) =
+    ap (λ o. piece (suc at) o (blank_from 0 (k ∷ s))) (end_moved at 0 Layout (k ∷ s))
+    ∙ piece_moved at (end_from at 0 Layout (k ∷ s)) (blank_from 0 (k ∷ s))
 
 pub cut_newline : (b : ℕ) (s : List ℕ) → kind_of b ≡ Newline → cut_of (b ∷ s) ≡ moved (cut_of s)
 cut_newline b s h = ap (λ k. cut_from 0 (k ∷ map kind_of s)) h ∙ cut_from_moved 0 (map kind_of s)

@@ -1,5 +1,6 @@
 -- What begins a text begins each longer beginning of it.
-use Rattle.std.proofs.Common.{◌≡◌, ℕ, zero, suc, ◌+◌, ◌-◌, ◌<◌, ◌≤◌, Bool, true, false, ◌&&◌, List, [], ◌∷◌, ◌++◌, Option, Some, None, length, take, drop, refl, ap, sym, ◌∙◌, subst, cond, arith, length-take}
+use Rattle.std.proofs.Common.{◌≡◌, ℕ, zero, suc, ◌+◌, ◌-◌, ◌<◌, ◌≤◌, Bool, true, false, ◌&&◌, List, [], ◌∷◌, ◌++◌, Option, Some}
+use Rattle.std.proofs.Common.{None, length, take, drop, refl, ap, sym, ◌∙◌, subst, cond, arith, length-take}
 use Rattle.std.specs.Prelude.{◌==◌, nat_lt, if◌then◌else◌}
 use Rattle.std.specs.Option.{option_map_or}
 use Rattle.std.proofs.lemmas.List.{take-append-drop}
@@ -50,17 +51,24 @@ drop_one_take (b ∷ s) n = refl
 
 -- an escape
 numbered_by : ℕ → ℕ → ℕ → Bool → List ℕ → Option Escape
-numbered_by base lead digits closed ds = if nat_lt 0 digits && closed && is_scalar (number_of base ds) then Some (record { code = Some (number_of base ds); len = lead + digits + 1 }) else None
+numbered_by base lead digits closed ds =
+    if nat_lt 0 digits && closed && is_scalar (number_of base ds)
+    then Some (record { code = Some (number_of base ds); len = lead + digits + 1 })
+    else None
 
 numbered_len : (t : Bool) (x r : Escape) → cond t (Some r) None ≡ Some x → r ≡ x
 numbered_len true x r h = cc
 numbered_len false x r h = cc
 
-numbered_take : (base : ℕ) (set : Set) (lead : ℕ) (s : List ℕ) (n : ℕ) (x : Escape) → x.len ≤ lead + n → numbered base set lead s ≡ Some x → numbered base set lead (take n s) ≡ Some x
+numbered_take : (base : ℕ) (set : Set) (lead : ℕ) (s : List ℕ) (n : ℕ) (x : Escape) → x.len ≤ lead + n
+    → numbered base set lead s ≡ Some x → numbered base set lead (take n s) ≡ Some x
 unfolding numbered_by
 numbered_take base set lead s n x h e =
     let code = number_of base (take (run set s) s) in
-    let l : lead + run set s + 1 ≡ x.len = ap (λ (y : Escape). y.len) (numbered_len (nat_lt 0 (run set s) && begins_with 92 (drop (run set s) s) && is_scalar code) x (record { code = Some code; len = lead + run set s + 1 }) e) in
+    let l : lead + run set s + 1 ≡ x.len =
+    ap (λ (y : Escape). y.len)
+    (numbered_len (nat_lt 0 (run set s) && begins_with 92 (drop (run set s) s) && is_scalar code) x
+    (record { code = Some code; len = lead + run set s + 1 }) e) in
     let r : run set (take n s) ≡ run set s = run_take set s n (omega arith) in
     ap (λ d. numbered_by base lead d (begins_with 92 (drop d (take n s))) (take d (take n s))) r
     ∙ ap (λ b. numbered_by base lead (run set s) b (take (run set s) (take n s))) (drop_front_take 92 s (run set s) n (omega arith))
@@ -75,7 +83,8 @@ numbered_long : (base : ℕ) (set : Set) (lead : ℕ) (s : List ℕ) → IsLong 
 unfolding IsLong
 numbered_long base set lead s =
     let code = number_of base (take (run set s) s) in
-    if_either IsLong (nat_lt 0 (run set s) && begins_with 92 (drop (run set s) s) && is_scalar code) (Some (record { code = Some code; len = lead + run set s + 1 })) None (λ e. omega arith) (λ e. tt)
+    if_either IsLong (nat_lt 0 (run set s) && begins_with 92 (drop (run set s) s) && is_scalar code)
+    (Some (record { code = Some code; len = lead + run set s + 1 })) None (λ e. omega arith) (λ e. tt)
 
 escape_long : (s : List ℕ) → IsLong (escape_at s)
 unfolding IsLong
@@ -87,8 +96,12 @@ escape_long (b ∷ s) =
     (λ e. if_either IsLong (has Octal b) (numbered 8 Octal 0 (b ∷ s)) None (λ e. numbered_long 8 Octal 0 (b ∷ s)) (λ e. tt))))
 
 escape_by : (o : Option ℕ) (a b c : Bool) (h q h' q' : Option Escape) (x : Escape) → (h ≡ Some x → h' ≡ Some x) → (q ≡ Some x → q' ≡ Some x)
-    → option_map_or (λ c. Some (record { code = Some c; len = 1 })) o (cond a (Some (record { code = None; len = 1 })) (cond b h (cond c q None))) ≡ Some x
-    → option_map_or (λ c. Some (record { code = Some c; len = 1 })) o (cond a (Some (record { code = None; len = 1 })) (cond b h' (cond c q' None))) ≡ Some x
+    → option_map_or (λ c. Some (record { code = Some c; len = 1 })) o
+    (cond a (Some (record { code = None; len = 1 })) (cond b h (cond c q None)))
+    ≡ Some x
+    → option_map_or (λ c. Some (record { code = Some c; len = 1 })) o
+    (cond a (Some (record { code = None; len = 1 })) (cond b h' (cond c q' None)))
+    ≡ Some x
 escape_by (Some v) a b c h q h' q' x f g e = e
 escape_by None true b c h q h' q' x f g e = e
 escape_by None false true c h q h' q' x f g e = f e
@@ -100,7 +113,8 @@ unfolding IsLong
 escape_take [] n x h e = cc
 escape_take (b ∷ s) zero x h e = let l : 1 ≤ x.len = subst IsLong e (escape_long (b ∷ s)) in absurd (omega arith)
 escape_take (b ∷ s) (suc n) x h e =
-    escape_by (simple_escape b) (b == 10) (b == 120) (has Octal b) (numbered 16 Hexadecimal 1 s) (numbered 8 Octal 0 (b ∷ s)) (numbered 16 Hexadecimal 1 (take n s)) (numbered 8 Octal 0 (b ∷ take n s)) x
+    escape_by (simple_escape b) (b == 10) (b == 120) (has Octal b) (numbered 16 Hexadecimal 1 s) (numbered 8 Octal 0 (b ∷ s))
+    (numbered 16 Hexadecimal 1 (take n s)) (numbered 8 Octal 0 (b ∷ take n s)) x
     (numbered_take 16 Hexadecimal 1 s n x (omega arith))
     (numbered_take 8 Octal 0 (b ∷ s) (suc n) x (omega arith))
     e
@@ -111,6 +125,8 @@ char_take b s n c h e =
     let r : IsRead b s (Some c) = subst (IsRead b s) e (char_is b s) in
     let w = char_within b s c e in
     let rest = drop c.more (take n s) in
-    let split : b ∷ take n s ≡ encode c.code ++ rest = ap (λ t. b ∷ t) (sym (take-append-drop c.more (take n s)) ∙ ap (λ t. t ++ rest) (take_less s c.more n h)) ∙ ap (λ t. t ++ rest) (sym r.1) in
+    let split : b ∷ take n s ≡ encode c.code ++ rest =
+    ap (λ t. b ∷ t) (sym (take-append-drop c.more (take n s)) ∙ ap (λ t. t ++ rest) (take_less s c.more n h))
+    ∙ ap (λ t. t ++ rest) (sym r.1) in
     let l : length (encode c.code) - 1 ≡ c.more = omega (arith, ap length r.1, length-take c.more s) in
     ap first_char split ∙ char_reads c.code rest r.0 ∙ ap (λ m. Some (record { code = c.code; more = m })) l

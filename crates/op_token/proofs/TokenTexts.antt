@@ -1,15 +1,18 @@
 -- The text of each name, variable and quoted token is UTF-8.
-use Rattle.std.proofs.Common.{◌≡◌, ℕ, zero, suc, ◌+◌, ◌-◌, ◌<◌, ◌≤◌, Bool, false, ◌&&◌, ◌||◌, List, [], ◌∷◌, Option, length, take, drop, get_or, refl, ap, sym, ◌∙◌, subst, cond, arith}
+use Rattle.std.proofs.Common.{◌≡◌, ℕ, zero, suc, ◌+◌, ◌-◌, ◌<◌, ◌≤◌, Bool, false, ◌&&◌, ◌||◌, List, [], ◌∷◌, Option, length, take}
+use Rattle.std.proofs.Common.{drop, get_or, refl, ap, sym, ◌∙◌, subst, cond, arith}
 use Rattle.std.specs.Prelude.{◌==◌, nat_le, IsUtf8, slice_range, slice_index, slice_index_or, Contains}
 use Rattle.std.proofs.lemmas.Bool.{eqb-true}
 use Rattle.op_token.specs.declared.class.Class.{Class}
-use Rattle.op_token.specs.declared.class.Class.TheVariants.{Layout, Percent, Small, Capital, Digit, SingleQuote, DoubleQuote, Slash, Dot, Symbol, Solo, Mark, Bad}
+use Rattle.op_token.specs.declared.class.Class.TheVariants.{Layout, Percent, Small, Capital, Digit, SingleQuote, DoubleQuote, Slash}
+use Rattle.op_token.specs.declared.class.Class.TheVariants.{Dot, Symbol, Solo, Mark, Bad}
 use Rattle.op_token.specs.declared.set.Set.TheVariants.{Symbol as symbols}
 use Rattle.op_token.specs.declared.spelling.Spelling.TheVariants.{Whole}
 use Rattle.op_token.specs.declared.token.Token.{Token}
 use Rattle.op_token.specs.declared.token.TokenFault.{TokenFault}
 use Rattle.op_token.specs.declared.token.TokenKind.{TokenKind}
-use Rattle.op_token.specs.declared.token.TokenKind.TheVariants.{Name, QuotedName, Variable, Text, OpenRound, CloseRound, OpenSquare, CloseSquare, OpenCurly, CloseCurly, Comma, Bar, End}
+use Rattle.op_token.specs.declared.token.TokenKind.TheVariants.{Name, QuotedName, Variable, Text, OpenRound, CloseRound, OpenSquare}
+use Rattle.op_token.specs.declared.token.TokenKind.TheVariants.{CloseSquare, OpenCurly, CloseCurly, Comma, Bar, End}
 use Rattle.op_token.specs.Set.{run, has, begins_with}
 use Rattle.op_token.specs.Class.{class_of, mark_of}
 use Rattle.op_token.specs.Spelling.{quoted_from, block_from, ends_clause, spelled, begins}
@@ -46,8 +49,14 @@ quote_class b =
     marks : (b : ℕ) → QuoteClass b (mark_of b)
     marks b =
         let P : Class → Type 0 = QuoteClass b in
-        if_either P (b == 40) _ _ (λ e. mark b OpenRound (λ h. h)) (λ e. if_either P (b == 41) _ _ (λ e. mark b CloseRound (λ h. h)) (λ e. if_either P (b == 91) _ _ (λ e. mark b OpenSquare (λ h. h)) (λ e. if_either P (b == 93) _ _ (λ e. mark b CloseSquare (λ h. h))
-        (λ e. if_either P (b == 123) _ _ (λ e. mark b OpenCurly (λ h. h)) (λ e. if_either P (b == 125) _ _ (λ e. mark b CloseCurly (λ h. h)) (λ e. if_either P (b == 44) _ _ (λ e. mark b Comma (λ h. h)) (λ e. if_either P (b == 124) _ _ (λ e. mark b Bar (λ h. h)) (λ e. (λ h. cc, λ h. cc, λ k h. cc)))))))))
+        if_either P (b == 40) _ _ (λ e. mark b OpenRound (λ h. h))
+        (λ e. if_either P (b == 41) _ _ (λ e. mark b CloseRound (λ h. h))
+        (λ e. if_either P (b == 91) _ _ (λ e. mark b OpenSquare (λ h. h))
+        (λ e. if_either P (b == 93) _ _ (λ e. mark b CloseSquare (λ h. h))
+        (λ e. if_either P (b == 123) _ _ (λ e. mark b OpenCurly (λ h. h))
+        (λ e. if_either P (b == 125) _ _ (λ e. mark b CloseCurly (λ h. h))
+        (λ e. if_either P (b == 44) _ _ (λ e. mark b Comma (λ h. h))
+        (λ e. if_either P (b == 124) _ _ (λ e. mark b Bar (λ h. h)) (λ e. (λ h. cc, λ h. cc, λ k h. cc)))))))))
 
 not_kind : (j kind : TokenKind) (a to : ℕ) → (IsQuoted j → ⊥) → Whole j a ≡ Whole kind to → IsQuoted kind → ⊥
 not_kind j kind a to n e q = let f : j ≡ kind = cc in n (subst IsQuoted (sym f) q)
@@ -90,15 +99,18 @@ quoted_spelled at minus b s kind to =
 abbrev pub Begun : List ℕ → Token → Type 0
 Begun text t = (m : Bool) × ((begins t.from m (drop t.from text) ≡ Whole t.kind t.to) × (t.from < t.to) × (t.to ≤ length text))
 
-pub token_begun : (text : List ℕ) (ts : List Token) (at : ℕ) (m : Bool) (f : Option TokenFault) → MadeUp text at m ts f → (k : ℕ) → k < length ts → (t : Token) → slice_index_or ts k t ≡ t → Begun text t
+pub token_begun : (text : List ℕ) (ts : List Token) (at : ℕ) (m : Bool) (f : Option TokenFault) → MadeUp text at m ts f
+    → (k : ℕ) → k < length ts → (t : Token) → slice_index_or ts k t ≡ t → Begun text t
 token_begun text [] at m f u k h t e = absurd (omega arith)
 token_begun text (x ∷ ts) at m f u zero h t e = subst (Begun text) e (cond x.layout_before false m, (u.2, u.3.0, u.3.1))
-token_begun text (x ∷ ts) at m f u (suc k) h t e = token_begun text ts x.to (is_minus x.kind (slice_index text x.from) (x.to - x.from)) f u.4 k (omega arith) t e
+token_begun text (x ∷ ts) at m f u (suc k) h t e =
+    token_begun text ts x.to (is_minus x.kind (slice_index text x.from) (x.to - x.from)) f u.4 k (omega arith) t e
 
 pub token_of : (text : List ℕ) (t : Token) → Contains (scan_of text).tokens t → Begun text t
 token_of text t c = token_begun text (scan_of text).tokens 0 false (scan_of text).fault (text_made_up text) c.0 c.1 t c.2
 
-pub front : (text : List ℕ) (t : Token) (b : Begun text t) → begins t.from b.0 (get_or text t.from 0 ∷ drop (t.from + 1) text) ≡ Whole t.kind t.to
+pub front : (text : List ℕ) (t : Token) (b : Begun text t)
+    → begins t.from b.0 (get_or text t.from 0 ∷ drop (t.from + 1) text) ≡ Whole t.kind t.to
 front text t b = let h : t.from < length text = omega (arith, b.1.1, b.1.2) in ap (begins t.from b.0) (sym (drop_one text t.from h)) ∙ b.1.0
 
 pub token_within : (text : List ℕ) (t : Token) → Contains (scan_of text).tokens t → (t.from < t.to) × (t.to ≤ length text)
@@ -108,7 +120,8 @@ pub plain_text : (text : List ℕ) (t : Token) → Contains (scan_of text).token
 plain_text text t c p =
     let b = token_of text t c in
     let h : t.from < length text = omega (arith, b.1.1, b.1.2) in
-    subst (λ s. IsUtf8 (take (t.to - t.from) s)) (sym (drop_one text t.from h)) (plain_utf8 t.from b.0 (get_or text t.from 0) (drop (t.from + 1) text) t.kind t.to (front text t b) p)
+    subst (λ s. IsUtf8 (take (t.to - t.from) s)) (sym (drop_one text t.from h))
+    (plain_utf8 t.from b.0 (get_or text t.from 0) (drop (t.from + 1) text) t.kind t.to (front text t b) p)
 
 pub quoted_text : (text : List ℕ) (t : Token) → Contains (scan_of text).tokens t → IsQuoted t.kind → IsUtf8 (unquoted text t)
 quoted_text text t c q =

@@ -8,7 +8,8 @@ use Rattle.op_token.specs.declared.kind.Mark.{Mark}
 use Rattle.op_token.specs.declared.kind.Mark.TheVariants.{Single, Double}
 use Rattle.op_token.specs.declared.walk.Mode.{Mode}
 use Rattle.op_token.specs.declared.walk.Walk.{Walk}
-use Rattle.op_token.specs.declared.walk.Mode.TheVariants.{Lead, Between, AfterSlash, AfterZero, AfterDot, InLine, InBlock, AfterStar, InQuotes, Escaped, InCode, CodeEscaped, CodeQuote, Ended}
+use Rattle.op_token.specs.declared.walk.Mode.TheVariants.{Lead, Between, AfterSlash, AfterZero, AfterDot, InLine, InBlock}
+use Rattle.op_token.specs.declared.walk.Mode.TheVariants.{AfterStar, InQuotes, Escaped, InCode, CodeEscaped, CodeQuote, Ended}
 use Rattle.op_token.specs.Cut.{line, block, quoted, end_from, blank_from, piece}
 use Rattle.op_token.specs.Walk.{end_in, blank_in, piece_in, top_of, next_of, keeps_top, keeps_blank, blank_of, from_of, step_of, piece_at}
 
@@ -40,7 +41,8 @@ left_suc None n = refl
 left_suc (Some x) n = refl
 
 -- a place in a comment, a byte further
-block_on : (at n : ℕ) (before k : Kind) (o : Option ℕ) (s : List Kind) → end_from at (unwrap_or (option_map suc o) (suc n)) before (k ∷ s) ≡ end_from (suc at) (unwrap_or o n) k s
+block_on : (at n : ℕ) (before k : Kind) (o : Option ℕ) (s : List Kind)
+    → end_from at (unwrap_or (option_map suc o) (suc n)) before (k ∷ s) ≡ end_from (suc at) (unwrap_or o n) k s
 block_on at n before k None s = refl
 block_on at n before k (Some x) s = refl
 
@@ -49,11 +51,13 @@ any_before : (at n : ℕ) (k l : Kind) (s : List Kind) → end_from at (suc n) k
 any_before at n k l [] = refl
 any_before at n k l (m ∷ s) = refl
 
-block_before : (at : ℕ) (k l : Kind) (s : List Kind) → end_from at (unwrap_or (block s) (length s)) k s ≡ end_from at (unwrap_or (block s) (length s)) l s
+block_before : (at : ℕ) (k l : Kind) (s : List Kind)
+    → end_from at (unwrap_or (block s) (length s)) k s ≡ end_from at (unwrap_or (block s) (length s)) l s
 block_before at k l [] = refl
 block_before at k l (Star ∷ Slash ∷ s) = refl
 block_before at k l (Star ∷ []) = refl
-block_before at k l (Star ∷ m ∷ s) = block_on at (length (m ∷ s)) k Star (block (m ∷ s)) (m ∷ s) ∙ sym (block_on at (length (m ∷ s)) l Star (block (m ∷ s)) (m ∷ s))
+block_before at k l (Star ∷ m ∷ s) =
+    block_on at (length (m ∷ s)) k Star (block (m ∷ s)) (m ∷ s) ∙ sym (block_on at (length (m ∷ s)) l Star (block (m ∷ s)) (m ∷ s))
 block_before at k l (m ∷ s) = block_on at (length s) k m (block s) s ∙ sym (block_on at (length s) l m (block s) s)
 
 line_before : (at : ℕ) (k l : Kind) (s : List Kind) → end_from at (line s) k s ≡ end_from at (line s) l s
@@ -72,7 +76,8 @@ quoted_before at Single k l (m ∷ s) = refl
 quoted_before at Double k l (m ∷ s) = refl
 
 -- a step, as for the end
-pub next_ends : (at : ℕ) (mode : Mode) (k : Kind) (s : List Kind) → (mode ≡ Lead → ⊥) → end_in at mode (k ∷ s) ≡ end_in (suc at) (next_of at mode k) s
+pub next_ends : (at : ℕ) (mode : Mode) (k : Kind) (s : List Kind) → (mode ≡ Lead → ⊥)
+    → end_in at mode (k ∷ s) ≡ end_in (suc at) (next_of at mode k) s
 next_ends at Lead k s h = absurd (h refl)
 next_ends at (Between before) k s h = top_ends at before k s
 next_ends at AfterSlash Star s h = refl
@@ -114,7 +119,8 @@ next_ends at CodeQuote k s h = top_ends at (Quote Single) k s
 next_ends at (Ended end) k s h = refl
 
 -- as for the comments
-suc_blank : (o : Option ℕ) (k : Kind) (s : List Kind) → option_map_or (λ n. blank_from n (k ∷ s)) (option_map suc o) false ≡ option_map_or (λ n. blank_from n s) o false
+suc_blank : (o : Option ℕ) (k : Kind) (s : List Kind)
+    → option_map_or (λ n. blank_from n (k ∷ s)) (option_map suc o) false ≡ option_map_or (λ n. blank_from n s) o false
 suc_blank None k s = refl
 suc_blank (Some n) k s = refl
 
@@ -125,7 +131,8 @@ top_keeps before Percent s = refl
 top_keeps before Slash s = refl
 top_keeps before k s = refl
 
-pub next_keeps : (at : ℕ) (mode : Mode) (k : Kind) (s : List Kind) → (mode ≡ Lead → ⊥) → blank_in mode (k ∷ s) ≡ (keeps_blank mode k && blank_in (next_of at mode k) s)
+pub next_keeps : (at : ℕ) (mode : Mode) (k : Kind) (s : List Kind) → (mode ≡ Lead → ⊥)
+    → blank_in mode (k ∷ s) ≡ (keeps_blank mode k && blank_in (next_of at mode k) s)
 next_keeps at Lead k s h = absurd (h refl)
 next_keeps at (Between before) k s h = top_keeps before k s
 next_keeps at AfterSlash Star s h = suc_blank (block s) Star s
@@ -190,7 +197,8 @@ next_leads at CodeQuote k h = top_leads (Quote Single) k
 next_leads at (Ended end) k h = λ e. cc
 
 -- the piece behind the leading layout
-pub not_lead : (at from : ℕ) (blank : Bool) (mode : Mode) (s : List Kind) → (mode ≡ Lead → ⊥) → piece_at at from blank mode s ≡ piece from (end_in at mode s) (blank && blank_in mode s)
+pub not_lead : (at from : ℕ) (blank : Bool) (mode : Mode) (s : List Kind) → (mode ≡ Lead → ⊥)
+    → piece_at at from blank mode s ≡ piece from (end_in at mode s) (blank && blank_in mode s)
 not_lead at from blank Lead s h = absurd (h refl)
 not_lead at from blank mode s h = refl
 
@@ -210,23 +218,30 @@ blank_is blank Lead k h = absurd (h refl)
 blank_is blank mode k h = refl
 
 -- a step
-lead_steps : (at : ℕ) (k : Kind) (s : List Kind) → end_from at 0 Layout (k ∷ s) ≡ end_in (suc at) (top_of Layout k) s → blank_from 0 (k ∷ s) ≡ (keeps_top k && blank_in (top_of Layout k) s) → piece at (end_from at 0 Layout (k ∷ s)) (blank_from 0 (k ∷ s)) ≡ piece_at (suc at) at (keeps_top k) (top_of Layout k) s
+lead_steps : (at : ℕ) (k : Kind) (s : List Kind) → end_from at 0 Layout (k ∷ s) ≡ end_in (suc at) (top_of Layout k) s
+    → blank_from 0 (k ∷ s) ≡ (keeps_top k && blank_in (top_of Layout k) s)
+    → piece at (end_from at 0 Layout (k ∷ s)) (blank_from 0 (k ∷ s)) ≡ piece_at (suc at) at (keeps_top k) (top_of Layout k) s
 lead_steps at k s e d = both at e d ∙ sym (not_lead (suc at) at (keeps_top k) (top_of Layout k) s (top_leads Layout k))
 
-pub steps_at : (at from : ℕ) (blank : Bool) (mode : Mode) (k : Kind) (s : List Kind) → (mode ≡ Lead → ⊥) → piece_at at from blank mode (k ∷ s) ≡ piece_at (suc at) (from_of at from mode) (blank_of blank mode k) (next_of at mode k) s
+pub steps_at : (at from : ℕ) (blank : Bool) (mode : Mode) (k : Kind) (s : List Kind) → (mode ≡ Lead → ⊥)
+    → piece_at at from blank mode (k ∷ s) ≡ piece_at (suc at) (from_of at from mode) (blank_of blank mode k) (next_of at mode k) s
 steps_at at from blank mode k s h =
     not_lead at from blank mode (k ∷ s) h
-    ∙ both from (next_ends at mode k s h) (ap (λ b. blank && b) (next_keeps at mode k s h) ∙ and_assoc blank (keeps_blank mode k) (blank_in (next_of at mode k) s))
+    ∙ both from (next_ends at mode k s h)
+    (ap (λ b. blank && b) (next_keeps at mode k s h) ∙ and_assoc blank (keeps_blank mode k) (blank_in (next_of at mode k) s))
     ∙ sym (ap (λ b. piece from (end_in (suc at) (next_of at mode k) s) (b && blank_in (next_of at mode k) s)) (blank_is blank mode k h))
-    ∙ sym (ap (λ f. piece f (end_in (suc at) (next_of at mode k) s) (blank_of blank mode k && blank_in (next_of at mode k) s)) (from_is at from mode h))
+    ∙ sym (ap (λ f. piece f (end_in (suc at) (next_of at mode k) s) (blank_of blank mode k && blank_in (next_of at mode k) s))
+    (from_is at from mode h))
     ∙ sym (not_lead (suc at) (from_of at from mode) (blank_of blank mode k) (next_of at mode k) s (next_leads at mode k h))
 
-lead_at : (at from : ℕ) (blank : Bool) (k : Kind) (s : List Kind) → piece_at at from blank Lead (k ∷ s) ≡ piece_at (suc at) at (keeps_top k) (next_of at Lead k) s
+lead_at : (at from : ℕ) (blank : Bool) (k : Kind) (s : List Kind)
+    → piece_at at from blank Lead (k ∷ s) ≡ piece_at (suc at) at (keeps_top k) (next_of at Lead k) s
 lead_at at from blank Newline s = refl
 lead_at at from blank Layout s = refl
 lead_at at from blank k s = lead_steps at k s (top_ends at Layout k s) (top_keeps Layout k s)
 
-all_at : (at from : ℕ) (blank : Bool) (mode : Mode) (k : Kind) (s : List Kind) → piece_at at from blank mode (k ∷ s) ≡ piece_at (suc at) (from_of at from mode) (blank_of blank mode k) (next_of at mode k) s
+all_at : (at from : ℕ) (blank : Bool) (mode : Mode) (k : Kind) (s : List Kind)
+    → piece_at at from blank mode (k ∷ s) ≡ piece_at (suc at) (from_of at from mode) (blank_of blank mode k) (next_of at mode k) s
 all_at at from blank Lead k s = lead_at at from blank k s
 all_at at from blank mode k s = steps_at at from blank mode k s (λ e. cc)
 

@@ -1,5 +1,6 @@
 -- UTF-8 (ISO/IEC 10646): the character that some bytes begin with.
-use Rattle.std.specs.Prelude.{ℕ, ◌+◌, ◌-◌, ◌*◌, Bool, ◌||◌, ◌&&◌, nat_le, nat_lt, List, Option, Some, None, slice_get, option_and_then, if◌then◌else◌, [], ◌∷◌}
+use Rattle.std.specs.Prelude.{ℕ, ◌+◌, ◌-◌, ◌*◌, Bool, ◌||◌, ◌&&◌, nat_le, nat_lt, List, Option, Some, None, slice_get}
+use Rattle.std.specs.Prelude.{option_and_then, if◌then◌else◌, [], ◌∷◌}
 use Rattle.op_token.specs.declared.character.Character.{Character}
 
 -- a Unicode scalar value: no surrogate, and at most 10FFFF
@@ -22,10 +23,13 @@ abbrev pub two : ℕ → List ℕ → Option Character
 two a s = option_and_then (λ x. checked 128 ((a - 192) * 64 + x) 1) (continuation s 0)
 
 abbrev pub three : ℕ → List ℕ → Option Character
-three a s = option_and_then (λ x. option_and_then (λ y. checked 2048 ((a - 224) * 4096 + x * 64 + y) 2) (continuation s 1)) (continuation s 0)
+three a s =
+    option_and_then (λ x. option_and_then (λ y. checked 2048 ((a - 224) * 4096 + x * 64 + y) 2) (continuation s 1)) (continuation s 0)
 
 abbrev pub four : ℕ → List ℕ → Option Character
-four a s = option_and_then (λ x. option_and_then (λ y. option_and_then (λ z. checked 65536 ((a - 240) * 262144 + x * 4096 + y * 64 + z) 3) (continuation s 2)) (continuation s 1)) (continuation s 0)
+four a s =
+    option_and_then (λ x. option_and_then (λ y. option_and_then (λ z.
+    checked 65536 ((a - 240) * 262144 + x * 4096 + y * 64 + z) 3) (continuation s 2)) (continuation s 1)) (continuation s 0)
 
 -- the character that a byte and those behind it begin with
 abbrev pub char_at : ℕ → List ℕ → Option Character

@@ -2,8 +2,10 @@
 use Rattle.std.specs.Prelude.{ℕ, ◌==◌, ◌||◌, if◌then◌else◌}
 use Rattle.op_base.specs.Characters.{is_layout, is_small, is_capital, is_digit, is_symbol}
 use Rattle.op_token.specs.declared.class.Class.{Class}
-use Rattle.op_token.specs.declared.class.Class.TheVariants.{Layout, Percent, Small, Capital, Digit, SingleQuote, DoubleQuote, Slash, Dot, Symbol, Solo, Mark, Bad}
-use Rattle.op_token.specs.declared.token.TokenKind.TheVariants.{OpenRound, CloseRound, OpenSquare, CloseSquare, OpenCurly, CloseCurly, Comma, Bar}
+use Rattle.op_token.specs.declared.class.Class.TheVariants.{Layout, Percent, Small, Capital, Digit, SingleQuote, DoubleQuote}
+use Rattle.op_token.specs.declared.class.Class.TheVariants.{Slash, Dot, Symbol, Solo, Mark, Bad}
+use Rattle.op_token.specs.declared.token.TokenKind.TheVariants.{OpenRound, CloseRound, OpenSquare, CloseSquare, OpenCurly}
+use Rattle.op_token.specs.declared.token.TokenKind.TheVariants.{CloseCurly, Comma, Bar}
 
 -- ( ) [ ] { } , and the bar
 abbrev pub mark_of : ℕ → Class

@@ -1,6 +1,7 @@
 -- The cutting of a text into term texts, in front of reading (this project's own): where the first term text stands. It is a walk by
 -- whole spellings, from the first byte that isn't layout. Of each byte only its kind counts.
-use Rattle.std.specs.Prelude.{◌≡◌, slice_range, drop, ℕ, zero, suc, Bool, true, false, List, [], ◌∷◌, map, Option, Some, None, unwrap_or, length, if◌then◌else◌}
+use Rattle.std.specs.Prelude.{◌≡◌, slice_range, drop, ℕ, zero, suc, Bool, true, false, List, [], ◌∷◌, map, Option, Some, None}
+use Rattle.std.specs.Prelude.{unwrap_or, length, if◌then◌else◌}
 use Rattle.std.specs.Option.{option_map, option_map_or}
 use Rattle.op_base.specs.Characters.{is_layout}
 use Rattle.op_token.specs.declared.piece.Piece.{Piece}

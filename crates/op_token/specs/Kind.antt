@@ -2,7 +2,8 @@
 use Rattle.std.specs.Prelude.{ℕ, ◌==◌, Bool, true, false, if◌then◌else◌}
 use Rattle.op_base.specs.Characters.{is_layout, is_word as is_word_byte, is_symbol as is_symbol_byte}
 use Rattle.op_token.specs.declared.kind.Kind.{Kind}
-use Rattle.op_token.specs.declared.kind.Kind.TheVariants.{Newline, Layout, Percent, Slash, Star, Dot, Backslash, Quote, Zero, Word, Sign, Other}
+use Rattle.op_token.specs.declared.kind.Kind.TheVariants.{Newline, Layout, Percent, Slash, Star, Dot, Backslash, Quote, Zero, Word}
+use Rattle.op_token.specs.declared.kind.Kind.TheVariants.{Sign, Other}
 use Rattle.op_token.specs.declared.kind.Mark.TheVariants.{Single, Double}
 
 abbrev pub kind_of : ℕ → Kind

@@ -1,6 +1,7 @@
 -- The spellings (ISO/IEC 13211-1, 6.4): what begins at a place of a text, to its end, or the first fault in it. `at` is the place of the
 -- bytes, and the first `inside` of them belong to a character or an escape that has begun.
-use Rattle.std.specs.Prelude.{ℕ, zero, suc, ◌≤◌, ◌==◌, ◌+◌, ◌-◌, ◌*◌, Bool, true, false, ◌||◌, ◌&&◌, nat_le, nat_lt, List, [], ◌∷◌, take, drop, fold, Option, Some, None, unwrap_or, if◌then◌else◌}
+use Rattle.std.specs.Prelude.{ℕ, zero, suc, ◌≤◌, ◌==◌, ◌+◌, ◌-◌, ◌*◌, Bool, true, false, ◌||◌, ◌&&◌, nat_le, nat_lt, List, [], ◌∷◌}
+use Rattle.std.specs.Prelude.{take, drop, fold, Option, Some, None, unwrap_or, if◌then◌else◌}
 use Rattle.std.specs.Option.{option_map_or}
 use Rattle.op_token.specs.declared.spelling.Spelling.{Spelling}
 use Rattle.op_token.specs.declared.spelling.Spelling.TheVariants.{Gap, Whole, Fault}
@@ -9,7 +10,8 @@ use Rattle.op_token.specs.declared.token.TokenKind.TheVariants.{Name, QuotedName
 use Rattle.op_token.specs.declared.token.TokenFaultKind.{TokenFaultKind}
 use Rattle.op_token.specs.declared.token.TokenFaultKind.TheVariants.{BadChar, OpenQuote, OpenComment, BadEscape, BadNumber, NumberRange}
 use Rattle.op_token.specs.declared.class.Class.{Class}
-use Rattle.op_token.specs.declared.class.Class.TheVariants.{Layout, Percent, Small, Capital, Digit, SingleQuote, DoubleQuote, Slash, Dot, Symbol, Solo, Mark, Bad}
+use Rattle.op_token.specs.declared.class.Class.TheVariants.{Layout, Percent, Small, Capital, Digit, SingleQuote, DoubleQuote}
+use Rattle.op_token.specs.declared.class.Class.TheVariants.{Slash, Dot, Symbol, Solo, Mark, Bad}
 use Rattle.op_token.specs.declared.set.Set.{Set}
 use Rattle.op_token.specs.declared.set.Set.TheVariants.{Word, Symbol as symbols, Decimal, Hexadecimal, Octal, Binary}
 use Rattle.op_token.specs.declared.escape.Escape.{Escape}
@@ -60,7 +62,8 @@ abbrev pub numbered : ℕ → Set → ℕ → List ℕ → Option Escape
 numbered base set lead s =
     let digits = run set s in
     let code = number_of base (take digits s) in
-    if nat_lt 0 digits && begins_with 92 (drop digits s) && is_scalar code then Some (record { code = Some code; len = lead + digits + 1 }) else None
+    if nat_lt 0 digits && begins_with 92 (drop digits s) && is_scalar code
+    then Some (record { code = Some code; len = lead + digits + 1 }) else None
 
 -- the escape behind a backslash: what it stands for, and its length
 abbrev pub escape_at : List ℕ → Option Escape
@@ -89,7 +92,8 @@ least_magnitude = 9223372036854775808
 -- an integer token, where its magnitude is not too great; `minus` says that the name - stands directly before it
 abbrev pub ranged : ℕ → Bool → ℕ → ℕ → Spelling
 ranged at minus magnitude end =
-    if nat_lt magnitude least_magnitude || (minus && magnitude == least_magnitude) then Whole (Integer magnitude) end else fault at NumberRange
+    if nat_lt magnitude least_magnitude || (minus && magnitude == least_magnitude)
+    then Whole (Integer magnitude) end else fault at NumberRange
 
 -- behind 0x, 0o or 0b at `at`: digits to a base, one at least
 abbrev pub based : ℕ → Set → ℕ → Bool → List ℕ → Spelling

@@ -1,5 +1,6 @@
 -- The tokens of a text (ISO/IEC 13211-1, 6.4), one behind the other, and the first fault where there is one.
-use Rattle.std.specs.Prelude.{◌≡◌, ℕ, zero, suc, ◌==◌, ◌+◌, ◌-◌, ◌≤◌, ◌<◌, length, Bool, true, false, ◌&&◌, Result, Ok, Err, List, [], ◌∷◌, ◌++◌, drop, Option, Some, None, slice_index, encode_utf8, if◌then◌else◌}
+use Rattle.std.specs.Prelude.{◌≡◌, ℕ, zero, suc, ◌==◌, ◌+◌, ◌-◌, ◌≤◌, ◌<◌, length, Bool, true, false, ◌&&◌, Result, Ok, Err, List}
+use Rattle.std.specs.Prelude.{[], ◌∷◌, ◌++◌, drop, Option, Some, None, slice_index, encode_utf8, if◌then◌else◌}
 use Rattle.std.specs.Option.{option_map_or}
 use Rattle.op_token.specs.declared.token.Token.{Token}
 use Rattle.op_token.specs.declared.token.TokenKind.{TokenKind}
@@ -56,7 +57,8 @@ scan_of text = let l = lex 0 0 false false text in record { text = text; tokens 
 -- what the next token behind a place is: the first of those that come from there
 abbrev pub Finds : List ℕ → ℕ → Bool → Result (Option Token) TokenFault → Type 0
 Finds text at minus (Ok (Some t)) =
-    (lex at 0 false minus (drop at text) ≡ push t (lex t.to 0 false (is_minus t.kind (slice_index text t.from) (t.to - t.from)) (drop t.to text)))
+    (lex at 0 false minus (drop at text)
+    ≡ push t (lex t.to 0 false (is_minus t.kind (slice_index text t.from) (t.to - t.from)) (drop t.to text)))
     × (t.from < t.to) × (t.to ≤ length text)
 Finds text at minus (Ok None) = lex at 0 false minus (drop at text) ≡ record { tokens = []; fault = None }
 Finds text at minus (Err f) = lex at 0 false minus (drop at text) ≡ record { tokens = []; fault = Some f }
@@ -65,7 +67,8 @@ Finds text at minus (Err f) = lex at 0 false minus (drop at text) ≡ record { t
 -- fault is behind them; that fault where none is to come. But for a token nothing changes
 abbrev pub Gives : Scan → Scan → Result (Option Token) TokenFault → Type 0
 Gives before after (Ok (Some t)) =
-    (before.tokens ≡ t ∷ after.tokens) × (after.text ≡ before.text) × (after.fault ≡ before.fault) × (t.from < t.to) × (t.to ≤ length before.text)
+    (before.tokens ≡ t ∷ after.tokens) × (after.text ≡ before.text) × (after.fault ≡ before.fault)
+    × (t.from < t.to) × (t.to ≤ length before.text)
 Gives before after (Ok None) = (before.tokens ≡ []) × (before.fault ≡ None) × (after ≡ before)
 Gives before after (Err f) = (before.tokens ≡ []) × (before.fault ≡ Some f) × (after ≡ before)
 
@@ -89,7 +92,8 @@ unquoted text t = text_from (slice_index text t.from) 0 (drop (t.from + 1) text)
 -- what one byte of quoted text appends, with the bytes that belong to it
 abbrev pub Continues : ℕ → ℕ → List ℕ → List ℕ → List ℕ → Option ℕ → Type 0
 Continues quote b s before after None = (text_from quote 0 (b ∷ s) ≡ []) × (after ≡ before)
-Continues quote b s before after (Some n) = (part : List ℕ) × (after ≡ before ++ part) × (text_from quote 0 (b ∷ s) ≡ part ++ text_from quote n s)
+Continues quote b s before after (Some n) =
+    (part : List ℕ) × (after ≡ before ++ part) × (text_from quote 0 (b ∷ s) ≡ part ++ text_from quote n s)
 
 -- an unquoted name or a variable
 abbrev pub IsPlain : TokenKind → Type 0

@@ -7,7 +7,8 @@ use Rattle.op_token.specs.declared.kind.Kind.TheVariants.{Newline, Layout, Perce
 use Rattle.op_token.specs.declared.kind.Mark.TheVariants.{Single, Double}
 use Rattle.op_token.specs.declared.walk.Mode.{Mode}
 use Rattle.op_token.specs.declared.walk.Walk.{Walk}
-use Rattle.op_token.specs.declared.walk.Mode.TheVariants.{Lead, Between, AfterSlash, AfterZero, AfterDot, InLine, InBlock, AfterStar, InQuotes, Escaped, InCode, CodeEscaped, CodeQuote, Ended}
+use Rattle.op_token.specs.declared.walk.Mode.TheVariants.{Lead, Between, AfterSlash, AfterZero, AfterDot, InLine, InBlock}
+use Rattle.op_token.specs.declared.walk.Mode.TheVariants.{AfterStar, InQuotes, Escaped, InCode, CodeEscaped, CodeQuote, Ended}
 use Rattle.op_token.specs.Kind.{kind_of, is_word, is_symbol, is_gap}
 use Rattle.op_token.specs.Cut.{line, block, comment, quoted, code, spelled, is_followed, end_from, blank_from, piece, cut_from}
 

@@ -1,5 +1,6 @@
 ghost use Rattle.std.specs.Prelude.{◌≡◌, ◌+◌, ◌≤◌, ◌<◌, ◌^◌, length, IfSome};
-ghost use Rattle.op_token.specs.Character.{is_scalar as the_scalar, continuation as the_continuation, checked as the_checked, two as the_two, three as the_three, four as the_four, char_at};
+ghost use Rattle.op_token.specs.Character.{is_scalar as the_scalar, continuation as the_continuation, checked as the_checked};
+ghost use Rattle.op_token.specs.Character.{two as the_two, three as the_three, four as the_four, char_at};
 ghost use Rattle.op_token.specs.Set.{begins_with as front_is};
 
 /// A character of a text in UTF-8.

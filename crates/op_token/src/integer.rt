@@ -1,5 +1,6 @@
 ghost use Rattle.std.specs.Prelude.{◌≡◌, ◌+◌, ◌-◌, ◌≤◌, ◌<◌, ◌^◌, length, min, unwrap_or};
-ghost use Rattle.op_token.specs.Spelling.{ranged as the_ranged, based as the_based, decimal as the_decimal, is_fraction as the_fraction, code_at, escaped_code_at, number_at, number_of};
+ghost use Rattle.op_token.specs.Spelling.{ranged as the_ranged, based as the_based, decimal as the_decimal};
+ghost use Rattle.op_token.specs.Spelling.{is_fraction as the_fraction, code_at, escaped_code_at, number_at, number_of};
 
 use crate::character::{begins_with, char_from};
 use crate::digits::number;

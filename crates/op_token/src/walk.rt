@@ -1,5 +1,6 @@
 ghost use Rattle.std.specs.Prelude.{◌≡◌, ◌+◌, ◌-◌, ◌^◌, ◌<◌, []};
-ghost use Rattle.op_token.specs.Walk.{top_of, next_of, keeps_top as the_keeps_top, keeps_blank as the_keeps_blank, blank_of, from_of, step_of, start, piece_in, has_ended};
+ghost use Rattle.op_token.specs.Walk.{top_of, next_of, keeps_top as the_keeps_top, keeps_blank as the_keeps_blank, blank_of};
+ghost use Rattle.op_token.specs.Walk.{from_of, step_of, start, piece_in, has_ended};
 
 use crate::kind::{Kind, Mark};
 use crate::piece::Piece;

@@ -6,9 +6,11 @@ use Rattle.op_token.proofs.Cutting.{step_drop, ended_piece}
 use Rattle.op_token.proofs.piece.cut.Goals as goal
 use Rattle.op_token.proofs.piece.cut.Goals.{After-step-walk}
 
-steps : (c : After-step-walk) → piece_in c.step-walk.result (map kind_of (drop (c.loop-byte.byte-index + 1) c.args.bytes.now)) ≡ cut_of c.args.bytes.now
+steps : (c : After-step-walk)
+    → piece_in c.step-walk.result (map kind_of (drop (c.loop-byte.byte-index + 1) c.args.bytes.now)) ≡ cut_of c.args.bytes.now
 steps c =
-    ap (λ w. piece_in w (map kind_of (drop (c.loop-byte.byte-index + 1) c.args.bytes.now))) (c.step-walk.ensures ∙ ap (λ k. step_of c.loop-byte.walk k) c.of.ensures)
+    ap (λ w. piece_in w (map kind_of (drop (c.loop-byte.byte-index + 1) c.args.bytes.now)))
+    (c.step-walk.ensures ∙ ap (λ k. step_of c.loop-byte.walk k) c.of.ensures)
     ∙ step_drop c.loop-byte.walk c.args.bytes.now c.loop-byte.byte-index 0 c.loop-byte-test.true
     ∙ c.loop-byte.invariant.1
 

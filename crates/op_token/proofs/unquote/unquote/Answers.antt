@@ -12,8 +12,11 @@ returns-in-None-clause-done c =
     let z : c.loop-i.inside ≡ 0 = omega arith in
     let so_far : c.loop-i.out.items ++ text_from q 0 (drop c.loop-i.i rest) ≡ c.args.out.now.items ++ text_from q 0 rest =
     ap (λ n. c.loop-i.out.items ++ text_from q n (drop c.loop-i.i rest)) (sym z) ∙ c.loop-i.invariant.0 in
-    text_ends q c.loop-i.i rest c.loop-i.out.items c.push_next.new.out.items (c.args.out.now.items ++ text_from q 0 rest) c.loop-i-test.true so_far
-    (subst (λ o. Continues q (get_or rest c.loop-i.i 0) (take (length rest - (c.loop-i.i + 1)) (drop (c.loop-i.i + 1) rest)) c.loop-i.out.items c.push_next.new.out.items o) c.in-None.is c.in_ok-more.ensures.next)
+    text_ends q c.loop-i.i rest c.loop-i.out.items c.push_next.new.out.items (c.args.out.now.items ++ text_from q 0 rest)
+    c.loop-i-test.true so_far
+    (subst (λ o.
+    Continues q (get_or rest c.loop-i.i 0) (take (length rest - (c.loop-i.i + 1)) (drop (c.loop-i.i + 1) rest)) c.loop-i.out.items
+    c.push_next.new.out.items o) c.in-None.is c.in_ok-more.ensures.next)
 
 pub loop-i-preserved : goal.loop-i-preserved
 loop-i-preserved c =
@@ -25,7 +28,8 @@ loop-i-preserved c =
       | then-inside-gt0 w ↦
           let e = ap (λ (v : Vec ℕ Global). v.items) w.out-is in (
             ap (λ o. o ++ text_from q c.if-inside-gt0.inside (drop (i + 1) rest)) e
-                ∙ ap (λ t. c.loop-i.out.items ++ t) (text_skips q i c.loop-i.inside c.if-inside-gt0.inside rest c.loop-i-test.true w.if-inside-gt0.true w.inside-is)
+                ∙ ap (λ t. c.loop-i.out.items ++ t)
+                (text_skips q i c.loop-i.inside c.if-inside-gt0.inside rest c.loop-i-test.true w.if-inside-gt0.true w.inside-is)
                 ∙ c.loop-i.invariant.0,
             ap (take (length c.args.out.now.items)) e ∙ c.loop-i.invariant.1,
           )
@@ -34,12 +38,16 @@ loop-i-preserved c =
           let z : c.loop-i.inside ≡ 0 = omega arith in
           let so_far : c.loop-i.out.items ++ text_from q 0 (drop i rest) ≡ out =
           ap (λ n. c.loop-i.out.items ++ text_from q n (drop i rest)) (sym z) ∙ c.loop-i.invariant.0 in
-          let d : Continues q (get_or rest i 0) (take (length rest - (i + 1)) (drop (i + 1) rest)) c.loop-i.out.items w.push_next.new.out.items (Some w.in-Some.more) =
-          subst (λ o. Continues q (get_or rest i 0) (take (length rest - (i + 1)) (drop (i + 1) rest)) c.loop-i.out.items w.push_next.new.out.items o) w.in-Some.is w.in_ok-more.ensures.next in (
+          let d : Continues q (get_or rest i 0) (take (length rest - (i + 1)) (drop (i + 1) rest)) c.loop-i.out.items
+          w.push_next.new.out.items (Some w.in-Some.more) =
+          subst (λ o.
+          Continues q (get_or rest i 0) (take (length rest - (i + 1)) (drop (i + 1) rest)) c.loop-i.out.items
+          w.push_next.new.out.items o) w.in-Some.is w.in_ok-more.ensures.next in (
             ap (λ o. o ++ text_from q c.if-inside-gt0.inside (drop (i + 1) rest)) e
                 ∙ ap (λ n. w.push_next.new.out.items ++ text_from q n (drop (i + 1) rest)) w.inside-is
                 ∙ text_goes_on q i rest c.loop-i.out.items w.push_next.new.out.items out c.loop-i-test.true so_far w.in-Some.more d,
             ap (take (length c.args.out.now.items)) e
-                ∙ text_starts q i rest c.loop-i.out.items w.push_next.new.out.items out c.loop-i-test.true so_far w.in-Some.more d c.args.out.now.items c.loop-i.invariant.1,
+                ∙ text_starts q i rest c.loop-i.out.items w.push_next.new.out.items out c.loop-i-test.true so_far w.in-Some.more d
+                c.args.out.now.items c.loop-i.invariant.1,
           )
     ]

@@ -10,10 +10,13 @@ use Rattle.op_token.proofs.cutter.Cutter.push.Goals.{After-has_ended}
 
 pub step-self-inside-requires : goal.step-self-inside-requires
 step-self-inside-requires c =
-    let e : c.self.inside.walk.at ≡ length c.self.inside.bytes.items = ap (λ w. w.at) c.self.invariant ∙ walk_length c.self.inside.bytes.items in
+    let e : c.self.inside.walk.at ≡ length c.self.inside.bytes.items =
+    ap (λ w. w.at) c.self.invariant ∙ walk_length c.self.inside.bytes.items in
     omega (arith, c.in_ok-push.ensures.upper_bound, c.in_ok-push.ensures.len, c.self.inside.bytes.ok.0)
 
-says : (c : After-has_ended) → (IsTrue c.has_ended.result ↔ IsFollowed (c.self.inside.bytes.items ++ c.args.byte ∷ [])) × OnFalse c.has_ended.result (IsOpen (c.self.inside.bytes.items ++ c.args.byte ∷ []))
+says : (c : After-has_ended)
+    → (IsTrue c.has_ended.result ↔ IsFollowed (c.self.inside.bytes.items ++ c.args.byte ∷ []))
+    × OnFalse c.has_ended.result (IsOpen (c.self.inside.bytes.items ++ c.args.byte ∷ []))
 says c =
     push_says c.self.inside.bytes.items c.args.byte c.has_ended.result (subst IsOpen (sym c.self.view_is) c.requires.open)
     (c.has_ended.ensures
