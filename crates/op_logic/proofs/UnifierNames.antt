@@ -1,6 +1,6 @@
 -- Unification finds no new names.
-use Rattle.std.proofs.Common.{◌≡◌, ℕ, zero, suc, ◌+◌, ◌-◌, ◌==◌, nat_eq, nat_le, Bool, true, false, List, [], ◌∷◌, Option, Some, None, max}
-use Rattle.std.proofs.Common.{min, refl, sym, ◌∙◌, ap, subst, if◌then◌else◌}
+use Rattle.std.proofs.Common.{ℕ, zero, suc, ◌+◌, ◌-◌, ◌==◌, nat_eq, nat_le, Bool, true, false, [], ◌∷◌, Option, Some, None, max}
+use Rattle.std.proofs.Common.{min, if◌then◌else◌}
 use Rattle.op_logic.specs.Term.{Term, var, int, node, Args, no_args, arg, args_of, occurs, size, replace, replace_args}
 use Rattle.op_logic.specs.Bind.{Bindings, apply, follow, follow_on, Pairs, Reduction, clash, goes, zip_args, bind_reduction, same_head}
 use Rattle.op_logic.specs.Bind.{meet, reduction, Solved, add_steps, after, solve, within, unify}

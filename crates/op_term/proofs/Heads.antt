@@ -1,6 +1,6 @@
 -- What a term's outermost node says of the term.
 use Rattle.std.proofs.Common.{◌≡◌, ℕ, suc, ◌<◌, ap, arith}
-use Rattle.op_logic.specs.Term.{Term, var, int, node, Args, no_args, arg, args_of, arity}
+use Rattle.op_logic.specs.Term.{Term, var, int, node, no_args, arg, args_of, arity}
 use Rattle.op_term.specs.Head.{head, sym as name_of}
 use Rattle.op_term.specs.declared.node.Node.TheVariants.{Atom, Struct}
 use Rattle.op_term.specs.declared.symbols.Sym.{Sym}

@@ -2,7 +2,7 @@
 use Rattle.std.proofs.Common.{◌<◌, ◌^◌, ℕ, zero, suc, ℤ, pos, negsuc, List, [], ◌∷◌, ◌++◌, take, sym, subst, arith, w64}
 use Rattle.std.proofs.lemmas.Int.{to_z-of_z}
 use mir.Val.{to_z, of_z, SFits}
-use Rattle.op_logic.specs.Term.{Term, int}
+use Rattle.op_logic.specs.Term.{Term}
 use Rattle.op_term.specs.Integers.{IsSmall, HasSmallIntegers, HaveSmallIntegers}
 use Rattle.op_term.specs.Places.{term_at, args_at}
 use Rattle.op_term.specs.inner.Cells.{shaped, parts_of, terms_after, terms_of, IsSmallShape, HaveSmallShapes}

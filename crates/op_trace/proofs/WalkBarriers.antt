@@ -9,7 +9,7 @@ use Rattle.op_trace.specs.declared.barrier.Barrier.TheVariants.{Call, InConditio
 use Rattle.op_trace.specs.Database.{Text, text_eq, Clause}
 use Rattle.op_trace.specs.World.{World, same_barrier, Tries, First, Item, Goal, Cut, Exit, Try, Has}
 use Rattle.op_trace.specs.Act.{Yield, Fails, Gives, Gives_again, Act, Setup}
-use Rattle.op_trace.specs.Visit.{acts, Inside, Clauses, Tried, inside, Again, tries_again, after, entered_box, exits, yields, Verdict}
+use Rattle.op_trace.specs.Visit.{acts, Inside, Clauses, Tried, inside, tries_again, entered_box, exits, yields, Verdict}
 use Rattle.op_trace.specs.Visit.{Failed, CutTo, Stopped, Spent, Visited, gives, on_failed, reaches, on_end, on_condition, cut, pays}
 use Rattle.op_trace.specs.Visit.{Control, TrueGoal, FailGoal, CutGoal, Conjunction, Disjunction, IfThenElse, BoxedGoal, control, is_true}
 use Rattle.op_trace.specs.Visit.{entered, with_event, shows, Visitor, matched, try_clause, alternatives, branches, boxed, if_then_else}

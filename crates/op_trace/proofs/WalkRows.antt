@@ -8,9 +8,9 @@ use Rattle.op_trace.specs.declared.port.Port.TheVariants as port
 use Rattle.op_trace.specs.declared.barrier.Barrier.{Barrier}
 use Rattle.op_trace.specs.declared.barrier.Barrier.TheVariants.{InCondition, AtSuccess}
 use Rattle.op_trace.specs.Database.{Text, text_eq, Clause}
-use Rattle.op_trace.specs.World.{World, same_barrier, Tries, First, Item, Goal, Cut, Exit, Try, Shown}
+use Rattle.op_trace.specs.World.{World, same_barrier, Tries, Item, Goal, Cut, Exit, Try, Shown}
 use Rattle.op_trace.specs.Act.{Yield, Fails, Gives, Gives_again, Act, Setup}
-use Rattle.op_trace.specs.Visit.{counted_as, acts, performs, Inside, Clauses, Tried, inside, Again, tries_again, entered_box, exits, yields}
+use Rattle.op_trace.specs.Visit.{counted_as, acts, Inside, Clauses, Tried, inside, Again, tries_again, entered_box, exits, yields}
 use Rattle.op_trace.specs.Visit.{Verdict, Failed, CutTo, Stopped, Spent, Visited, gives, with_turns, and_then, on_failed, reaches}
 use Rattle.op_trace.specs.Visit.{on_condition, cut, with_event, event_of, pays, spends, Control, TrueGoal, FailGoal, CutGoal, Conjunction}
 use Rattle.op_trace.specs.Visit.{Disjunction, IfThenElse, BoxedGoal, Visitor, Choice, Redo, Branch, More, Fail, Condition, matched}

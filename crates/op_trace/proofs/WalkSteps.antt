@@ -9,7 +9,7 @@ use Rattle.op_trace.specs.declared.barrier.Barrier.TheVariants.{Call, InConditio
 use Rattle.op_trace.specs.Database.{Text, text_eq, Clause}
 use Rattle.op_trace.specs.World.{World, same_barrier, Tries, First, Item, Goal, Cut, Exit, Try}
 use Rattle.op_trace.specs.Act.{Yield, Fails, Gives, Gives_again, Act, Setup}
-use Rattle.op_trace.specs.Visit.{counted_as, acts, performs, Inside, Clauses, Tried, inside, Again, tries_again, entered_box, exits, yields}
+use Rattle.op_trace.specs.Visit.{counted_as, acts, Inside, Clauses, Tried, inside, Again, tries_again, entered_box, exits, yields}
 use Rattle.op_trace.specs.Visit.{Verdict, Failed, CutTo, Stopped, Spent, Visited, gives, and_then, on_failed, reaches, on_end, on_condition}
 use Rattle.op_trace.specs.Visit.{cut, with_event, pays, spends, Control, TrueGoal, FailGoal, CutGoal, Conjunction, Disjunction, IfThenElse}
 use Rattle.op_trace.specs.Visit.{BoxedGoal, control, Visitor, Choice, Redo, Branch, More, Fail, Condition, matched, try_clause}

@@ -3,7 +3,7 @@ use Rattle.op_token.specs.declared.piece.Piece.TheVariants.{Text}
 use Rattle.op_token.specs.Cut.{cut_of, text_in, IsText}
 use Rattle.op_token.proofs.Cutting.{piece_is, cut_within, text_is}
 use Rattle.op_token.proofs.cutter.Cutter.text.Goals as goal
-use Rattle.op_token.proofs.cutter.Cutter.text.Goals.{After-deref, After-piece}
+use Rattle.op_token.proofs.cutter.Cutter.text.Goals.{After-piece}
 
 cut_is : (c : After-piece) → cut_of c.self.inside.bytes.items ≡ c.piece.result
 cut_is c = piece_is c.self.inside.walk c.self.inside.bytes.items c.piece.result c.self.invariant c.piece.ensures
