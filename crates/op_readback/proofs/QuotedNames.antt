@@ -13,7 +13,7 @@ use Rattle.op_token.specs.declared.token.TokenFaultKind.TheVariants.{BadEscape, 
 use Rattle.op_token.specs.declared.spelling.Spelling.{Spelling}
 use Rattle.op_token.specs.declared.spelling.Spelling.TheVariants.{Whole}
 use Rattle.op_token.specs.declared.character.Character.{Character}
-use Rattle.op_token.proofs.Characters.{char_reads}
+use Rattle.op_token.proofs.Utf8Characters.{char_reads}
 use Rattle.std.specs.Char.{IsScalar}
 use Rattle.op_token.specs.declared.set.Set.TheVariants.{Hexadecimal}
 use Rattle.op_token.specs.declared.escape.Escape.{Escape}

@@ -7,9 +7,9 @@ use Rattle.op_token.specs.Class.{class_of}
 use Rattle.op_token.specs.Spelling.{spelled, begins}
 use Rattle.op_token.specs.Spellings.{layout_characters}
 use Rattle.op_token.specs.SpellingFaults.{LineUpTo, BlockUpTo, IsGap, layout, line_comment, last_comment, block_comment}
-use Rattle.op_token.proofs.Spelt.{same_on}
-use Rattle.op_token.proofs.SpeltWhole.{length_both}
-use Rattle.op_token.proofs.FaultsTold.{line_reach, block_reach}
+use Rattle.op_token.proofs.CharacterClasses.{same_on}
+use Rattle.op_token.proofs.SpellingCompleteness.{length_both}
+use Rattle.op_token.proofs.FaultCompleteness.{line_reach, block_reach}
 
 gap_at : {i j : ℕ} → i ≡ j → Gap i ≡ Gap j
 gap_at e = ap (λ i. Gap i) e

@@ -15,11 +15,11 @@ use Rattle.op_token.specs.Spelling.{begins}
 use Rattle.op_token.specs.Tokens.{text_from, unquoted, scan_of, IsQuoted}
 use Rattle.op_token.specs.Spellings.{IsQuotedCharacter, plain, doubled, escaped, AreQuoted, no_characters, one_more, StandsFor}
 use Rattle.op_token.specs.Spellings as spellings
-use Rattle.op_token.proofs.Dropping.{drop_one}
-use Rattle.op_token.proofs.Texts.{text_stop, text_doubled, text_escaped, text_plain}
-use Rattle.op_token.proofs.Longest.{quoted_kind}
-use Rattle.op_token.proofs.SpeltSound.{quoted_token}
-use Rattle.op_token.proofs.SpeltWhole.{an_escape, escape_whole, shape, plain_not}
+use Rattle.op_token.proofs.ListRests.{drop_one}
+use Rattle.op_token.proofs.Utf8QuotedTexts.{text_stop, text_doubled, text_escaped, text_plain}
+use Rattle.op_token.proofs.LongestTokens.{quoted_kind}
+use Rattle.op_token.proofs.SpellingSoundness.{quoted_token}
+use Rattle.op_token.proofs.SpellingCompleteness.{an_escape, escape_whole, shape, plain_not}
 use Rattle.op_token.proofs.TokenTexts.{by_quotes, quote_class, token_of, front}
 
 -- a spelling stands for one text alone

@@ -18,11 +18,11 @@ use Rattle.op_token.specs.Class.{class_of, mark_of}
 use Rattle.op_token.specs.Spelling.{quoted_from, block_from, ends_clause, spelled, begins}
 use Rattle.op_token.specs.Tokens.{text_from, unquoted, scan_of, is_minus, IsPlain, IsQuoted}
 use Rattle.op_token.specs.MadeUp.{MadeUp}
-use Rattle.op_token.proofs.Dropping.{drop_one}
-use Rattle.op_token.proofs.Within.{if_either}
-use Rattle.op_token.proofs.Names.{Not, line_not, block_not, number_not, plain_utf8}
-use Rattle.op_token.proofs.Texts.{IsWhole, quoted_utf8}
-use Rattle.op_token.proofs.MakingUp.{text_made_up}
+use Rattle.op_token.proofs.ListRests.{drop_one}
+use Rattle.op_token.proofs.SpellingEnds.{if_either}
+use Rattle.op_token.proofs.AsciiNames.{Not, line_not, block_not, number_not, plain_utf8}
+use Rattle.op_token.proofs.Utf8QuotedTexts.{IsWhole, quoted_utf8}
+use Rattle.op_token.proofs.MadeUpTexts.{text_made_up}
 
 -- the quotes are the bytes that begin quoted text
 abbrev pub QuoteClass : ℕ → Class → Type 0

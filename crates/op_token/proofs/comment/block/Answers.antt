@@ -4,8 +4,8 @@ use Rattle.std.proofs.lemmas.Bool.{ne_eqb}
 use Rattle.op_token.specs.Set.{begins_with}
 use Rattle.op_token.specs.Character.{char_at}
 use Rattle.op_token.specs.Spelling.{block_from}
-use Rattle.op_token.proofs.Dropping.{take_rest}
-use Rattle.op_token.proofs.Steps.{walk_skips, walk_steps, block_char, and_false}
+use Rattle.op_token.proofs.ListRests.{take_rest}
+use Rattle.op_token.proofs.CommentsAndQuotes.{walk_skips, walk_steps, block_char, and_false}
 use Rattle.op_token.proofs.comment.block.Goals as goal
 use Rattle.op_token.proofs.comment.block.Goals.{then-inside-gt0, else-inside-gt0+else-byte-eq42+in-Some}
 use Rattle.op_token.proofs.comment.block.Goals.{else-byte-eq42-via-then-byte-eq42+else-begins_with}

@@ -1,8 +1,8 @@
 use Rattle.std.proofs.Common.{◌≡◌, ◌+◌, ◌∙◌, ap, sym, refl, Some, drop, get_or, arith}
 use Rattle.op_token.specs.Character.{char_at}
 use Rattle.op_token.specs.Spelling.{line_from}
-use Rattle.op_token.proofs.Dropping.{take_rest}
-use Rattle.op_token.proofs.Steps.{walk_skips, walk_steps, line_char}
+use Rattle.op_token.proofs.ListRests.{take_rest}
+use Rattle.op_token.proofs.CommentsAndQuotes.{walk_skips, walk_steps, line_char}
 use Rattle.op_token.proofs.comment.line.Goals as goal
 use Rattle.op_token.proofs.comment.line.Goals.{then-inside-gt0, else-inside-gt0+else-byte-eq10+in-Some}
 

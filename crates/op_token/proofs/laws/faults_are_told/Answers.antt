@@ -1,4 +1,4 @@
-use Rattle.op_token.proofs.FaultsTold.{fault_told}
+use Rattle.op_token.proofs.FaultCompleteness.{fault_told}
 use Rattle.op_token.proofs.laws.faults_are_told.Goals as goal
 
 pub returns : goal.returns

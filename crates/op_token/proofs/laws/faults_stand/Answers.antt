@@ -1,4 +1,4 @@
-use Rattle.op_token.proofs.FaultsFound.{fault_found}
+use Rattle.op_token.proofs.FaultSoundness.{fault_found}
 use Rattle.op_token.proofs.laws.faults_stand.Goals as goal
 
 pub returns : goal.returns

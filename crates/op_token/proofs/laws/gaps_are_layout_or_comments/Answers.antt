@@ -1,6 +1,6 @@
 use Rattle.std.proofs.Common.{refl}
-use Rattle.op_token.proofs.Within.{gap_ends}
-use Rattle.op_token.proofs.FaultsFound.{gap_found}
+use Rattle.op_token.proofs.SpellingEnds.{gap_ends}
+use Rattle.op_token.proofs.FaultSoundness.{gap_found}
 use Rattle.op_token.proofs.laws.gaps_are_layout_or_comments.Goals as goal
 
 pub returns : goal.returns

@@ -1,4 +1,4 @@
-use Rattle.op_token.proofs.SpeltWhole.{no_longer}
+use Rattle.op_token.proofs.SpellingCompleteness.{no_longer}
 use Rattle.op_token.proofs.laws.longest_spelling_is_taken.Goals as goal
 
 pub returns : goal.returns

@@ -1,4 +1,4 @@
-use Rattle.op_token.proofs.Longest.{longest}
+use Rattle.op_token.proofs.LongestTokens.{longest}
 use Rattle.op_token.proofs.laws.tokens_are_longest.Goals as goal
 
 pub returns : goal.returns

@@ -1,5 +1,5 @@
-use Rattle.op_token.proofs.Within.{token_ends}
-use Rattle.op_token.proofs.SpeltSound.{begins_sound}
+use Rattle.op_token.proofs.SpellingEnds.{token_ends}
+use Rattle.op_token.proofs.SpellingSoundness.{begins_sound}
 use Rattle.op_token.proofs.laws.tokens_are_spellings.Goals as goal
 
 pub returns : goal.returns

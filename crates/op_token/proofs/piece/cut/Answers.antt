@@ -2,7 +2,7 @@ use Rattle.std.proofs.Common.{◌≡◌, suc, ◌+◌, ◌∙◌, ap, sym, map, 
 use Rattle.op_token.specs.Kind.{kind_of}
 use Rattle.op_token.specs.Cut.{cut_of}
 use Rattle.op_token.specs.Walk.{piece_in, step_of}
-use Rattle.op_token.proofs.Cutting.{step_drop, ended_piece}
+use Rattle.op_token.proofs.TermTexts.{step_drop, ended_piece}
 use Rattle.op_token.proofs.piece.cut.Goals as goal
 use Rattle.op_token.proofs.piece.cut.Goals.{After-step-walk}
 

@@ -2,8 +2,8 @@ use Rattle.std.proofs.Common.{◌≡◌, ◌+◌, ◌∙◌, ap, sym, refl, Some
 use Rattle.op_token.specs.Set.{begins_with}
 use Rattle.op_token.specs.Character.{char_at}
 use Rattle.op_token.specs.Spelling.{quoted_from, escape_at}
-use Rattle.op_token.proofs.Dropping.{take_rest}
-use Rattle.op_token.proofs.Steps.{walk_skips, walk_steps, quoted_quote, quoted_escape, quoted_char}
+use Rattle.op_token.proofs.ListRests.{take_rest}
+use Rattle.op_token.proofs.CommentsAndQuotes.{walk_skips, walk_steps, quoted_quote, quoted_escape, quoted_char}
 use Rattle.op_token.proofs.quoted.quoted.Goals as goal
 use Rattle.op_token.proofs.quoted.quoted.Goals.{then-inside-gt0}
 use Rattle.op_token.proofs.quoted.quoted.Goals.{else-inside-gt0+else-byte-eq10+then-byte-quote+else-not-begins_with}

@@ -1,8 +1,8 @@
 use Rattle.std.proofs.Common.{◌≡◌, ◌+◌, ◌∙◌, ap, sym, subst, drop, length, arith}
 use Rattle.op_token.specs.declared.spelling.Spelling.TheVariants.{Gap, Whole}
 use Rattle.op_token.specs.Spelling.{begins, EndsBy}
-use Rattle.op_token.proofs.Dropping.{take_rest}
-use Rattle.op_token.proofs.Lexing.{ends_front, lex_gap, lex_whole}
+use Rattle.op_token.proofs.ListRests.{take_rest}
+use Rattle.op_token.proofs.LexedSpellings.{ends_front, lex_gap, lex_whole}
 use Rattle.op_token.proofs.scanner.find.Goals as goal
 use Rattle.op_token.proofs.scanner.find.Goals.{After-lexeme}
 

@@ -1,7 +1,7 @@
 use Rattle.std.proofs.Common.{◌≡◌, ◌+◌, ◌-◌, ◌++◌, ◌∙◌, ap, sym, subst, length, take, drop, get_or, arith, Vec, Global, ℕ}
 use Rattle.std.specs.Prelude.{Some}
 use Rattle.op_token.specs.Tokens.{text_from, Continues}
-use Rattle.op_token.proofs.Unquoting.{text_skips, text_ends, text_goes_on, text_starts}
+use Rattle.op_token.proofs.UnquotedTexts.{text_skips, text_ends, text_goes_on, text_starts}
 use Rattle.op_token.proofs.unquote.unquote.Goals as goal
 use Rattle.op_token.proofs.unquote.unquote.Goals.{then-inside-gt0, else-inside-gt0+in_ok-more+in-Some}
 

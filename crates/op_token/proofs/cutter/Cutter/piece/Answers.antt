@@ -1,7 +1,7 @@
 use Rattle.std.proofs.Common.{[], ◌∙◌, ap}
 use Rattle.op_token.specs.Cut.{cut_of}
 use Rattle.op_token.specs.Walk.{piece_in}
-use Rattle.op_token.proofs.Cutting.{walk_cut}
+use Rattle.op_token.proofs.TermTexts.{walk_cut}
 use Rattle.op_token.proofs.cutter.Cutter.piece.Goals as goal
 
 pub returns : goal.returns

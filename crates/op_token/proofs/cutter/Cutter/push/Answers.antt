@@ -4,7 +4,7 @@ use Rattle.std.specs.Bool.{OnFalse}
 use Rattle.op_token.specs.Cut.{IsOpen, IsFollowed}
 use Rattle.op_token.specs.Kind.{kind_of}
 use Rattle.op_token.specs.Walk.{step_of, has_ended}
-use Rattle.op_token.proofs.Cutting.{walk_length, walked_push, push_says}
+use Rattle.op_token.proofs.TermTexts.{walk_length, walked_push, push_says}
 use Rattle.op_token.proofs.cutter.Cutter.push.Goals as goal
 use Rattle.op_token.proofs.cutter.Cutter.push.Goals.{After-has_ended}
 

@@ -1,7 +1,7 @@
 use Rattle.std.proofs.Common.{◌≡◌, suc, ◌-◌, ◌∷◌, [], cond, ◌∙◌, ap, sym, subst, length, arith}
 use Rattle.op_token.specs.Cut.{cut_of, rest_in, IsFollowed}
 use Rattle.op_base.specs.Characters.{is_layout}
-use Rattle.op_token.proofs.Cutting.{take_set, followed_some, rest_last}
+use Rattle.op_token.proofs.TermTexts.{take_set, followed_some, rest_last}
 use Rattle.op_token.proofs.cutter.Cutter.restart.Goals as goal
 use Rattle.op_token.proofs.cutter.Cutter.restart.Goals.{After-is_layout}
 

@@ -1,7 +1,7 @@
 use Rattle.std.proofs.Common.{◌≡◌, ◌∙◌, ap, sym, subst, length, arith}
 use Rattle.op_token.specs.declared.piece.Piece.TheVariants.{Text}
 use Rattle.op_token.specs.Cut.{cut_of, text_in, IsText}
-use Rattle.op_token.proofs.Cutting.{piece_is, cut_within, text_is}
+use Rattle.op_token.proofs.TermTexts.{piece_is, cut_within, text_is}
 use Rattle.op_token.proofs.cutter.Cutter.text.Goals as goal
 use Rattle.op_token.proofs.cutter.Cutter.text.Goals.{After-piece}
 

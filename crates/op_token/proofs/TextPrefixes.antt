@@ -12,8 +12,8 @@ use Rattle.op_token.specs.declared.set.Set.TheVariants.{Hexadecimal, Octal}
 use Rattle.op_token.specs.Set.{run, has, begins_with}
 use Rattle.op_token.specs.Character.{is_scalar, char_at, first_char}
 use Rattle.op_token.specs.Spelling.{simple_escape, number_of, numbered, escape_at}
-use Rattle.op_token.proofs.Within.{if_either, map_either, char_within}
-use Rattle.op_token.proofs.Characters.{IsRead, char_is, char_reads}
+use Rattle.op_token.proofs.SpellingEnds.{if_either, map_either, char_within}
+use Rattle.op_token.proofs.Utf8Characters.{IsRead, char_is, char_reads}
 
 take_nil : (n : ℕ) → take {A = ℕ} n [] ≡ []
 take_nil zero = refl

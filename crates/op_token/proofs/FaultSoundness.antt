@@ -37,13 +37,13 @@ use Rattle.op_token.specs.SpellingFaults.{beginners, begins_nothing, in_line, in
 use Rattle.op_token.specs.SpellingFaults.{escape_in_code, starts_with, no_binary, no_octal, no_hexadecimal, fraction, no_code}
 use Rattle.op_token.specs.SpellingFaults.{newline_code, great_decimal, great_binary, great_octal, great_hexadecimal, IsFault, IsGap}
 use Rattle.op_token.specs.SpellingFaults.{layout, line_comment, last_comment, block_comment}
-use Rattle.op_token.proofs.Within.{if_either, map_either, and_left, and_right}
-use Rattle.op_token.proofs.Characters.{AllHigh, IsRead, char_is, char_reads}
-use Rattle.op_token.proofs.Spelt.{same_on, characters, set_has, fits, class_fits}
-use Rattle.op_token.proofs.SpeltSound.{front_is, escape_sound, other, plain_is, AreHexadecimal, run_number}
-use Rattle.op_token.proofs.SpeltWhole.{shape, escape_whole, joined}
-use Rattle.op_token.proofs.FaultsTold.{quoting, quoted_reach, quoted_bad, quoted_open, quoted_no_escape, no_escape, line_reach}
-use Rattle.op_token.proofs.FaultsTold.{block_reach, line_bad, block_bad, fraction_same, or_left, or_right, starts_one}
+use Rattle.op_token.proofs.SpellingEnds.{if_either, map_either, and_left, and_right}
+use Rattle.op_token.proofs.Utf8Characters.{AllHigh, IsRead, char_is, char_reads}
+use Rattle.op_token.proofs.CharacterClasses.{same_on, characters, set_has, fits, class_fits}
+use Rattle.op_token.proofs.SpellingSoundness.{front_is, escape_sound, other, plain_is, AreHexadecimal, run_number}
+use Rattle.op_token.proofs.SpellingCompleteness.{shape, escape_whole, joined}
+use Rattle.op_token.proofs.FaultCompleteness.{quoting, quoted_reach, quoted_bad, quoted_open, quoted_no_escape, no_escape, line_reach}
+use Rattle.op_token.proofs.FaultCompleteness.{block_reach, line_bad, block_bad, fraction_same, or_left, or_right, starts_one}
 
 -- a fault, with the bytes from the place on where it begins
 abbrev pub Told : Bool → ℕ → List ℕ → TokenFault → Type 0

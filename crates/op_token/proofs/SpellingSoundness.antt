@@ -38,14 +38,15 @@ use Rattle.op_token.specs.Spellings.{no_characters, one_more, IsQuoted}
 use Rattle.op_token.specs.Spellings.{IsCharacterCode, character, quote_twice, escape, IsInRange, within, least, binary, octal}
 use Rattle.op_token.specs.Spellings.{hexadecimal, IsInteger, number, code, IsToken, follows_end, IsBefore}
 use Rattle.op_token.specs.Spellings as spellings
-use Rattle.op_token.proofs.Within.{if_either, map_either, and_left, and_right, begins_length, escape_within, char_within}
-use Rattle.op_token.proofs.Characters.{scalar_is, char_read}
-use Rattle.op_token.proofs.Steps.{and_false}
+use Rattle.op_token.proofs.SpellingEnds.{if_either, map_either, and_left, and_right, begins_length, escape_within, char_within}
+use Rattle.op_token.proofs.Utf8Characters.{scalar_is, char_read}
+use Rattle.op_token.proofs.CommentsAndQuotes.{and_false}
 use Rattle.op_token.specs.Tokens.{text_from}
-use Rattle.op_token.proofs.Texts.{quoted_inside, text_stop, text_doubled, text_escaped, text_plain}
-use Rattle.op_token.proofs.Longest.{line_never, block_never, quoted_kind}
-use Rattle.op_token.proofs.Spelt.{same_on, all_below, below, characters, set_has, mark_fits, fits, class_fits, are_set, are_within}
-use Rattle.op_token.proofs.Spelt.{values_same}
+use Rattle.op_token.proofs.Utf8QuotedTexts.{quoted_inside, text_stop, text_doubled, text_escaped, text_plain}
+use Rattle.op_token.proofs.LongestTokens.{line_never, block_never, quoted_kind}
+use Rattle.op_token.proofs.CharacterClasses.{same_on, all_below, below, characters, set_has, mark_fits, fits}
+use Rattle.op_token.proofs.CharacterClasses.{class_fits, are_set, are_within}
+use Rattle.op_token.proofs.CharacterClasses.{values_same}
 
 whole_kind : {a b : TokenKind} {i j : ℕ} → Whole a i ≡ Whole b j → a ≡ b
 whole_kind h = cc

@@ -22,7 +22,7 @@ use Rattle.op_token.specs.Cut.{spelled, is_followed, ends, end_from, blank_from,
 use Rattle.op_token.specs.Cut.{EndsBefore, IsUnended, IsBehindGap, behind_layout, rest_in, text_in, IsText, is_text, moved, texts}
 use Rattle.op_token.specs.Cut.{behind_texts}
 use Rattle.op_token.specs.Walk.{piece_in, top_of, next_of, step_of, piece_at, walked, start, has_ended}
-use Rattle.op_token.proofs.Walking.{piece_steps}
+use Rattle.op_token.proofs.WalkedPieces.{piece_steps}
 
 -- the end of a text is behind its place, and not behind the bytes
 pub end_within : (at inside : ℕ) (before : Kind) (s : List Kind) (e : ℕ) → end_from at inside before s ≡ Some e

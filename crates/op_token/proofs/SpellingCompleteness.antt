@@ -33,11 +33,11 @@ use Rattle.op_token.specs.Spellings.{no_characters, one_more}
 use Rattle.op_token.specs.Spellings.{IsCharacterCode, character, quote_twice, escape, IsInRange, within, least, binary, octal}
 use Rattle.op_token.specs.Spellings.{hexadecimal, IsInteger, number, code, IsToken, IsBefore}
 use Rattle.op_token.specs.Spellings as spellings
-use Rattle.op_token.proofs.Within.{and_left, and_right}
-use Rattle.op_token.proofs.Characters.{scalar_is, char_reads}
-use Rattle.op_token.proofs.Steps.{quoted_char, quoted_escape, quoted_quote}
-use Rattle.op_token.proofs.Longest.{longest}
-use Rattle.op_token.proofs.Spelt.{same_on, characters, set_has, are_within, values_same}
+use Rattle.op_token.proofs.SpellingEnds.{and_left, and_right}
+use Rattle.op_token.proofs.Utf8Characters.{scalar_is, char_reads}
+use Rattle.op_token.proofs.CommentsAndQuotes.{quoted_char, quoted_escape, quoted_quote}
+use Rattle.op_token.proofs.LongestTokens.{longest}
+use Rattle.op_token.proofs.CharacterClasses.{same_on, characters, set_has, are_within, values_same}
 
 -- lists
 whole_take : (s : List ℕ) → take (length s) s ≡ s

@@ -6,8 +6,8 @@ use Rattle.op_token.specs.declared.token.TokenFault.{TokenFault}
 use Rattle.op_token.specs.declared.spelling.Spelling.TheVariants.{Gap, Whole, Fault}
 use Rattle.op_token.specs.Spelling.{begins, EndsBy}
 use Rattle.op_token.specs.Tokens.{push, is_minus, on_spelling, lex}
-use Rattle.op_token.proofs.Dropping.{drop_one}
-use Rattle.op_token.proofs.Within.{begins_ends}
+use Rattle.op_token.proofs.ListRests.{drop_one}
+use Rattle.op_token.proofs.SpellingEnds.{begins_ends}
 
 -- the bytes of a spelling that has begun are passed
 pub lex_inside : (at n : ℕ) (l m : Bool) (s : List ℕ) → n ≤ length s → lex at n l m s ≡ lex (at + n) 0 l m (drop n s)

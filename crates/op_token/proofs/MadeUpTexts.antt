@@ -9,10 +9,10 @@ use Rattle.op_token.specs.Spelling.{begins, EndsBy}
 use Rattle.op_token.specs.Tokens.{Lexed, is_minus, lex}
 use Rattle.op_token.specs.MadeUp.{Gaps, none, further, MadeUp}
 use Rattle.op_token.specs.SpellingFaults.{IsGap}
-use Rattle.op_token.proofs.Dropping.{drop_one, drop_all}
-use Rattle.op_token.proofs.Within.{gap_ends}
-use Rattle.op_token.proofs.Lexing.{drop_behind, ends_front, lex_gap, lex_whole, lex_fault}
-use Rattle.op_token.proofs.FaultsFound.{gap_found}
+use Rattle.op_token.proofs.ListRests.{drop_one, drop_all}
+use Rattle.op_token.proofs.SpellingEnds.{gap_ends}
+use Rattle.op_token.proofs.LexedSpellings.{drop_behind, ends_front, lex_gap, lex_whole, lex_fault}
+use Rattle.op_token.proofs.FaultSoundness.{gap_found}
 
 abbrev pub Made : List ℕ → ℕ → Bool → Lexed → Type 0
 Made text at minus l = MadeUp text at minus l.tokens l.fault

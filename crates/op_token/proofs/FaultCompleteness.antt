@@ -35,13 +35,13 @@ use Rattle.op_token.specs.SpellingFaults.{IsBadCharacter, begins_nothing, in_lin
 use Rattle.op_token.specs.SpellingFaults.{escape_in_quotes, escape_in_code, starts_with, starts_fraction, IsBadNumber, no_binary}
 use Rattle.op_token.specs.SpellingFaults.{no_octal, no_hexadecimal, fraction, no_code, newline_code, IsTooGreat, great_decimal}
 use Rattle.op_token.specs.SpellingFaults.{great_binary, great_octal, great_hexadecimal, IsFault}
-use Rattle.op_token.proofs.Within.{and_left, and_right}
-use Rattle.op_token.proofs.Characters.{char_read}
-use Rattle.op_token.proofs.Steps.{line_char, block_char}
-use Rattle.op_token.proofs.Names.{class_low}
-use Rattle.op_token.proofs.Spelt.{same_on, all_below, below, characters, set_has, set_is}
-use Rattle.op_token.proofs.SpeltSound.{both, front_is, escape_sound, in_range, code_plain}
-use Rattle.op_token.proofs.SpeltWhole.{shape, length_both, quoted_along, number_is}
+use Rattle.op_token.proofs.SpellingEnds.{and_left, and_right}
+use Rattle.op_token.proofs.Utf8Characters.{char_read}
+use Rattle.op_token.proofs.CommentsAndQuotes.{line_char, block_char}
+use Rattle.op_token.proofs.AsciiNames.{class_low}
+use Rattle.op_token.proofs.CharacterClasses.{same_on, all_below, below, characters, set_has, set_is}
+use Rattle.op_token.proofs.SpellingSoundness.{both, front_is, escape_sound, in_range, code_plain}
+use Rattle.op_token.proofs.SpellingCompleteness.{shape, length_both, quoted_along, number_is}
 
 -- what stands first, by the scanner's test and by that of the definitions
 pub starts_one : (c : ℕ) (s : List ℕ) → begins_with c s ≡ starts_with (c ∷ []) s

@@ -8,7 +8,7 @@ use Rattle.std.proofs.lemmas.Str.{encode_ascii}
 use lib.Utf8.{scalar, encode, low_scalar, scalar_cases}
 use Rattle.op_token.specs.declared.character.Character.{Character}
 use Rattle.op_token.specs.Character.{is_scalar, bits_of, checked, two, three, four, char_at, first_char}
-use Rattle.op_token.proofs.Within.{if_either, then_either, and_left, and_right}
+use Rattle.op_token.proofs.SpellingEnds.{if_either, then_either, and_left, and_right}
 
 pub scalar_is : (c : ℕ) → is_scalar c ≡ scalar c
 scalar_is c = go (nat_lt c 55296) (nat_le 57344 c && nat_lt c 1114112)

@@ -19,8 +19,8 @@ use Rattle.op_token.specs.Set.{run, has, begins_with}
 use Rattle.op_token.specs.Character.{is_scalar, char_at}
 use Rattle.op_token.specs.Spelling.{fault, simple_escape, number_of, numbered, escape_at, quoted_from}
 use Rattle.op_token.specs.Tokens.{escaped, text_from}
-use Rattle.op_token.proofs.Within.{if_either, map_either, and_right, char_within, escape_within, begins_length}
-use Rattle.op_token.proofs.Characters.{AllHigh, IsRead, char_is, scalar_is}
+use Rattle.op_token.proofs.SpellingEnds.{if_either, map_either, and_right, char_within, escape_within, begins_length}
+use Rattle.op_token.proofs.Utf8Characters.{AllHigh, IsRead, char_is, scalar_is}
 
 -- an escape stands for a character
 IsCode : Option Escape → Type 0

@@ -17,8 +17,8 @@ use Rattle.op_token.specs.Class.{class_of}
 use Rattle.op_token.specs.Spelling.{digit_value, number_of}
 use Rattle.op_token.specs.Spellings.{small_letters, variable_starts, alphanumeric, symbol_characters, layout_characters, is_one_of}
 use Rattle.op_token.specs.Spellings.{are_of, value_of_digit, value_of_digits, octal_digits, decimal_digits, hexadecimal_digits}
-use Rattle.op_token.proofs.Names.{class_low}
-use Rattle.op_token.proofs.Texts.{word_low, symbol_low}
+use Rattle.op_token.proofs.AsciiNames.{class_low}
+use Rattle.op_token.proofs.Utf8QuotedTexts.{word_low, symbol_low}
 
 -- what holds of each of some characters
 heads : {A : Type 0} {x y : A} {xs ys : List A} → x ∷ xs ≡ y ∷ ys → x ≡ y

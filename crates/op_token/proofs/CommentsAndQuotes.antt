@@ -10,7 +10,7 @@ use Rattle.op_token.specs.declared.token.TokenKind.{TokenKind}
 use Rattle.op_token.specs.Set.{begins_with}
 use Rattle.op_token.specs.Character.{char_at}
 use Rattle.op_token.specs.Spelling.{line_from, block_from, quoted_from, escape_at}
-use Rattle.op_token.proofs.Dropping.{drop_one}
+use Rattle.op_token.proofs.ListRests.{drop_one}
 
 -- a walk over the bytes of a list, from an index
 module _ (F : ℕ → ℕ → List ℕ → Spelling) (skips : (at n : ℕ) (b : ℕ) (s : List ℕ) → F at (suc n) (b ∷ s) ≡ F (suc at) n s)

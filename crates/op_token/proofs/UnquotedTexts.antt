@@ -4,7 +4,7 @@ use Rattle.std.proofs.Common.{arith, append_assoc, length-take}
 use Rattle.std.specs.Prelude.{Some, None}
 use Rattle.std.proofs.lemmas.List.{append-nil, take-append-le}
 use Rattle.op_token.specs.Tokens.{text_from, Continues}
-use Rattle.op_token.proofs.Dropping.{drop_one, take_rest}
+use Rattle.op_token.proofs.ListRests.{drop_one, take_rest}
 
 pub text_skips : (q i n m : ℕ) (s : List ℕ) → i < length s → 0 < n → m ≡ n - 1 → text_from q m (drop (i + 1) s) ≡ text_from q n (drop i s)
 text_skips q i n m s h p e =

@@ -22,8 +22,8 @@ use Rattle.op_token.specs.Spelling.{fault, number_of, escape_at, quoted_from, ra
 use Rattle.op_token.specs.Spelling.{escaped_code_at, code_at, number_at, ends_clause, dot_at, line_from, block_from, spelled, begins}
 use Rattle.op_token.specs.Spelling.{EndsBy}
 use Rattle.std.proofs.lemmas.Bool.{eqb-true}
-use Rattle.op_token.proofs.Within.{if_either, map_either, and_left, begins_ends}
-use Rattle.op_token.proofs.Prefixes.{run_take, front_take, take_less, drop_one_take, escape_take, char_take}
+use Rattle.op_token.proofs.SpellingEnds.{if_either, map_either, and_left, begins_ends}
+use Rattle.op_token.proofs.TextPrefixes.{run_take, front_take, take_less, drop_one_take, escape_take, char_take}
 
 -- a token ends behind a place
 abbrev pub Reaches : ℕ → Spelling → Type 0

@@ -22,8 +22,8 @@ use Rattle.op_token.specs.Class.{class_of, mark_of}
 use Rattle.op_token.specs.Spelling.{fault, line_from, block_from, quoted_from, number_of, escape_at, ranged, least_magnitude, based}
 use Rattle.op_token.specs.Spelling.{is_fraction, decimal, escaped_code_at, code_at, number_at, ends_clause, spelled, begins}
 use Rattle.op_token.specs.Tokens.{IsPlain}
-use Rattle.op_token.proofs.Within.{if_either, map_either}
-use Rattle.op_token.proofs.Texts.{one_ascii, word_low, symbol_low}
+use Rattle.op_token.proofs.SpellingEnds.{if_either, map_either}
+use Rattle.op_token.proofs.Utf8QuotedTexts.{one_ascii, word_low, symbol_low}
 
 -- no token of some kinds
 abbrev pub Not : (TokenKind → Type 0) → Spelling → Type 0

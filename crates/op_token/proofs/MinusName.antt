@@ -7,9 +7,9 @@ use Rattle.op_token.specs.declared.token.Token.{Token}
 use Rattle.op_token.specs.declared.token.TokenKind.{TokenKind}
 use Rattle.op_token.specs.declared.token.TokenKind.TheVariants.{Name}
 use Rattle.op_token.specs.Tokens.{is_minus}
-use Rattle.op_token.proofs.Dropping.{drop_one}
-use Rattle.op_token.proofs.Within.{and_left, and_right}
-use Rattle.op_token.proofs.SpeltSound.{first_same, rest_same}
+use Rattle.op_token.proofs.ListRests.{drop_one}
+use Rattle.op_token.proofs.SpellingEnds.{and_left, and_right}
+use Rattle.op_token.proofs.SpellingSoundness.{first_same, rest_same}
 
 -- a name of one byte, which is -
 abbrev IsMinus : TokenKind → ℕ → ℕ → Type 0
