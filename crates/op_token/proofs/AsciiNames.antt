@@ -8,7 +8,7 @@ use Rattle.op_token.specs.declared.character.Character.{Character}
 use Rattle.op_token.specs.declared.escape.Escape.{Escape}
 use Rattle.op_token.specs.declared.class.Class.{Class}
 use Rattle.op_token.specs.declared.class.Class.TheVariants.{Layout, Percent, Small, Capital, Digit, SingleQuote, DoubleQuote, Slash}
-use Rattle.op_token.specs.declared.class.Class.TheVariants.{Dot, Symbol, Solo, Mark, Bad}
+use Rattle.op_token.specs.declared.class.Class.TheVariants.{Dot, Symbol, Solo, Punctuation, Bad}
 use Rattle.op_token.specs.declared.set.Set.{Set}
 use Rattle.op_token.specs.declared.set.Set.TheVariants.{Word, Symbol as symbols, Decimal, Hexadecimal, Octal, Binary}
 use Rattle.op_token.specs.declared.spelling.Spelling.{Spelling}
@@ -18,7 +18,7 @@ use Rattle.op_token.specs.declared.token.TokenKind.TheVariants.{Name, QuotedName
 use Rattle.op_token.specs.declared.token.TokenFaultKind.TheVariants.{BadChar, BadEscape, BadNumber, NumberRange}
 use Rattle.op_token.specs.Set.{run, has, begins_with}
 use Rattle.op_token.specs.Character.{char_at}
-use Rattle.op_token.specs.Class.{class_of, mark_of}
+use Rattle.op_token.specs.Class.{class_of, punctuation_of}
 use Rattle.op_token.specs.Spelling.{fault, line_from, block_from, quoted_from, number_of, escape_at, ranged, least_magnitude, based}
 use Rattle.op_token.specs.Spelling.{is_fraction, decimal, escaped_code_at, code_at, number_at, ends_clause, spelled, begins}
 use Rattle.op_token.specs.Tokens.{IsPlain}
@@ -112,7 +112,7 @@ class_low b =
     (λ e. if_either P (b == 47) Slash _ (λ e h. one b 47 (omega arith) e)
     (λ e. if_either P (b == 46) Dot _ (λ e h. one b 46 (omega arith) e)
     (λ e. if_either P (has symbols b) Symbol _ (λ e h. symbol_low b e)
-    (λ e. if_either P (b == 33 || b == 59) Solo (mark_of b) (λ e h. solo b e) (λ e. mark b)))))))))))
+    (λ e. if_either P (b == 33 || b == 59) Solo (punctuation_of b) (λ e h. solo b e) (λ e. punctuation b)))))))))))
   where
     one : (b n : ℕ) → n < 128 → (b == n) ≡ true → b < 128
     one b n l e = grind (arith, nat_tests)
@@ -132,8 +132,8 @@ class_low b =
     solo : (b : ℕ) → (b == 33 || b == 59) ≡ true → b < 128
     solo b e = grind (arith, nat_tests)
 
-    mark : (b : ℕ) → (mark_of b ≡ Bad → ⊥) → b < 128
-    mark b =
+    punctuation : (b : ℕ) → (punctuation_of b ≡ Bad → ⊥) → b < 128
+    punctuation b =
         let P : Class → Type 0 = λ c. (c ≡ Bad → ⊥) → b < 128 in
         if_either P (b == 40) _ _ (λ e h. one b 40 (omega arith) e)
         (λ e. if_either P (b == 41) _ _ (λ e h. one b 41 (omega arith) e)
@@ -185,7 +185,7 @@ plain_spelled Dot at minus b s kind to low e p =
     (λ t f. of_run symbols at b s kind to Name symbol_low (low (λ h. cc)) f) e
 plain_spelled Symbol at minus b s kind to low e p = of_run symbols at b s kind to Name symbol_low (low (λ h. cc)) e
 plain_spelled Solo at minus b s kind to low e p = of_one at b s to (low (λ h. cc)) (let q : at + 1 ≡ to = cc in q)
-plain_spelled (Mark k) at minus b s kind to low e p = of_one at b s to (low (λ h. cc)) (let q : at + 1 ≡ to = cc in q)
+plain_spelled (Punctuation k) at minus b s kind to low e p = of_one at b s to (low (λ h. cc)) (let q : at + 1 ≡ to = cc in q)
 plain_spelled Bad at minus b s kind to low e p = cc
 
 pub plain_utf8 : (at : ℕ) (minus : Bool) (b : ℕ) (s : List ℕ) (kind : TokenKind) (to : ℕ)

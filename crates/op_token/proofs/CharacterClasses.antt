@@ -6,7 +6,7 @@ use Rattle.std.proofs.lemmas.Bool.{eqb-true, cases_lt}
 use Rattle.std.proofs.lemmas.Bool.Decides.{nat_tests}
 use Rattle.op_token.specs.declared.class.Class.{Class}
 use Rattle.op_token.specs.declared.class.Class.TheVariants.{Layout, Percent, Small, Capital, Digit, SingleQuote, DoubleQuote, Slash}
-use Rattle.op_token.specs.declared.class.Class.TheVariants.{Dot, Symbol, Solo, Mark, Bad}
+use Rattle.op_token.specs.declared.class.Class.TheVariants.{Dot, Symbol, Solo, Punctuation, Bad}
 use Rattle.op_token.specs.declared.set.Set.{Set}
 use Rattle.op_token.specs.declared.set.Set.TheVariants.{Word, Symbol as symbols, Decimal, Hexadecimal, Octal, Binary}
 use Rattle.op_token.specs.declared.token.TokenKind.{TokenKind}
@@ -95,16 +95,16 @@ pub set_has : (set : Set) (b : ℕ) → is_one_of (characters set) b ≡ true �
 set_has set b h = same_on (has set) (λ b. true) (characters set) b (characters_checked set) h
 
 -- the byte is of the class
-abbrev pub mark_fits : TokenKind → ℕ → Bool
-mark_fits OpenRound b = b == 40
-mark_fits CloseRound b = b == 41
-mark_fits OpenSquare b = b == 91
-mark_fits CloseSquare b = b == 93
-mark_fits OpenCurly b = b == 123
-mark_fits CloseCurly b = b == 125
-mark_fits Comma b = b == 44
-mark_fits Bar b = b == 124
-mark_fits kind b = false
+abbrev pub punctuation_fits : TokenKind → ℕ → Bool
+punctuation_fits OpenRound b = b == 40
+punctuation_fits CloseRound b = b == 41
+punctuation_fits OpenSquare b = b == 91
+punctuation_fits CloseSquare b = b == 93
+punctuation_fits OpenCurly b = b == 123
+punctuation_fits CloseCurly b = b == 125
+punctuation_fits Comma b = b == 44
+punctuation_fits Bar b = b == 124
+punctuation_fits kind b = false
 
 abbrev pub fits : Class → ℕ → Bool
 fits Layout b = is_one_of layout_characters b
@@ -118,7 +118,7 @@ fits Slash b = b == 47
 fits Dot b = b == 46
 fits Symbol b = is_one_of symbol_characters b && (not (b == 46) && not (b == 47))
 fits Solo b = b == 33 || b == 59
-fits (Mark kind) b = mark_fits kind b
+fits (Punctuation kind) b = punctuation_fits kind b
 fits Bad b = true
 
 class_checked : all_below (λ b. fits (class_of b) b) 128 ≡ true
@@ -142,7 +142,7 @@ class_fits b = elim (cases_lt b 128) [ inl l ↦ below (λ b. fits (class_of b) 
     go l Dot e = high Dot l e (λ q. cc)
     go l Symbol e = high Symbol l e (λ q. cc)
     go l Solo e = high Solo l e (λ q. cc)
-    go l (Mark kind) e = high (Mark kind) l e (λ q. cc)
+    go l (Punctuation kind) e = high (Punctuation kind) l e (λ q. cc)
     go l Bad e = refl
 
 -- runs

@@ -14,7 +14,7 @@ use Rattle.op_token.specs.declared.character.Character.{Character}
 use Rattle.op_token.specs.declared.escape.Escape.{Escape}
 use Rattle.op_token.specs.declared.class.Class.{Class}
 use Rattle.op_token.specs.declared.class.Class.TheVariants.{Layout, Percent, Small, Capital, Digit, SingleQuote, DoubleQuote, Slash}
-use Rattle.op_token.specs.declared.class.Class.TheVariants.{Dot, Symbol, Solo, Mark, Bad}
+use Rattle.op_token.specs.declared.class.Class.TheVariants.{Dot, Symbol, Solo, Punctuation, Bad}
 use Rattle.op_token.specs.declared.set.Set.{Set}
 use Rattle.op_token.specs.declared.set.Set.TheVariants.{Decimal, Hexadecimal, Octal, Binary}
 use Rattle.op_token.specs.declared.spelling.Spelling.{Spelling}
@@ -248,7 +248,7 @@ bad_is Slash h = cc
 bad_is Dot h = cc
 bad_is Symbol h = cc
 bad_is Solo h = cc
-bad_is (Mark k) h = cc
+bad_is (Punctuation k) h = cc
 
 bad_checked : all_below (λ b. is_one_of beginners b || is_bad (class_of b)) 128 ≡ true
 unfolding is_bad
@@ -283,7 +283,7 @@ bad_class b n = elim (cases_lt b 128) [
     go l Dot e = high Dot l e (λ q. cc)
     go l Symbol e = high Symbol l e (λ q. cc)
     go l Solo e = high Solo l e (λ q. cc)
-    go l (Mark kind) e = high (Mark kind) l e (λ q. cc)
+    go l (Punctuation kind) e = high (Punctuation kind) l e (λ q. cc)
 
 -- the place of a fault
 place_at : (at n place : ℕ) (kind : TokenFaultKind) → n ≡ at + place → fault n kind ≡ fault (at + place) kind

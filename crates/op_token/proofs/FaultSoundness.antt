@@ -13,7 +13,7 @@ use Rattle.op_token.specs.declared.character.Character.{Character}
 use Rattle.op_token.specs.declared.escape.Escape.{Escape}
 use Rattle.op_token.specs.declared.class.Class.{Class}
 use Rattle.op_token.specs.declared.class.Class.TheVariants.{Layout, Percent, Small, Capital, Digit, SingleQuote, DoubleQuote, Slash}
-use Rattle.op_token.specs.declared.class.Class.TheVariants.{Dot, Symbol, Solo, Mark, Bad}
+use Rattle.op_token.specs.declared.class.Class.TheVariants.{Dot, Symbol, Solo, Punctuation, Bad}
 use Rattle.op_token.specs.declared.set.Set.{Set}
 use Rattle.op_token.specs.declared.set.Set.TheVariants.{Symbol as symbols, Decimal, Hexadecimal, Octal, Binary}
 use Rattle.op_token.specs.declared.spelling.Spelling.{Spelling}
@@ -576,7 +576,7 @@ found Dot at minus b s x e f h =
     (Whole Name (at + 1 + run symbols s)) (λ t g. absurd (whole_fault g)) (λ t g. absurd (whole_fault g)) h
 found Symbol at minus b s x e f h = absurd (whole_fault h)
 found Solo at minus b s x e f h = absurd (whole_fault h)
-found (Mark k) at minus b s x e f h = absurd (whole_fault h)
+found (Punctuation k) at minus b s x e f h = absurd (whole_fault h)
 found Bad at minus b s x e f h = told minus at at BadChar (b ∷ s) x 0 h (omega arith) (begins_nothing b s (not_beginner b e) refl refl)
 
 pub fault_found : (at : ℕ) (minus : Bool) (s : List ℕ) (x : TokenFault) → begins at minus s ≡ Fault x
@@ -739,7 +739,7 @@ passed Dot at minus b s e f h =
     (Whole Name (at + 1 + run symbols s)) (λ t g. absurd (whole_gap g)) (λ t g. absurd (whole_gap g)) h
 passed Symbol at minus b s e f h = absurd (whole_gap h)
 passed Solo at minus b s e f h = absurd (whole_gap h)
-passed (Mark k) at minus b s e f h = absurd (whole_gap h)
+passed (Punctuation k) at minus b s e f h = absurd (whole_gap h)
 passed Bad at minus b s e f h = absurd (fault_gap h)
 
 pub gap_found : (at : ℕ) (minus : Bool) (b : ℕ) (s : List ℕ) (e : ℕ) → begins at minus (b ∷ s) ≡ Gap e

@@ -7,7 +7,7 @@ use Rattle.op_token.specs.declared.character.Character.{Character}
 use Rattle.op_token.specs.declared.escape.Escape.{Escape}
 use Rattle.op_token.specs.declared.class.Class.{Class}
 use Rattle.op_token.specs.declared.class.Class.TheVariants.{Layout, Percent, Small, Capital, Digit, SingleQuote, DoubleQuote, Slash}
-use Rattle.op_token.specs.declared.class.Class.TheVariants.{Dot, Symbol, Solo, Mark, Bad}
+use Rattle.op_token.specs.declared.class.Class.TheVariants.{Dot, Symbol, Solo, Punctuation, Bad}
 use Rattle.op_token.specs.declared.set.Set.{Set}
 use Rattle.op_token.specs.declared.set.Set.TheVariants.{Word, Symbol as symbols, Decimal, Hexadecimal, Octal, Binary}
 use Rattle.op_token.specs.declared.spelling.Spelling.{Spelling}
@@ -326,7 +326,7 @@ spelled_take Slash at minus b s n kind e l h =
 spelled_take Dot at minus b s n kind e l h = dot_take at s (suc n) kind e (omega arith) l h
 spelled_take Symbol at minus b s n kind e l h = run_whole symbols Name kind at e s (suc n) l h
 spelled_take Solo at minus b s n kind e l h = h
-spelled_take (Mark k) at minus b s n kind e l h = h
+spelled_take (Punctuation k) at minus b s n kind e l h = h
 spelled_take Bad at minus b s n kind e l h = cc
 
 -- what begins a text begins each longer beginning of it

@@ -12,12 +12,12 @@ use Rattle.op_token.specs.declared.token.TokenKind.TheVariants.{Name, QuotedName
 use Rattle.op_token.specs.declared.token.TokenFaultKind.TheVariants.{BadChar, BadEscape, BadNumber, NumberRange}
 use Rattle.op_token.specs.declared.class.Class.{Class}
 use Rattle.op_token.specs.declared.class.Class.TheVariants.{Layout, Percent, Small, Capital, Digit, SingleQuote, DoubleQuote, Slash}
-use Rattle.op_token.specs.declared.class.Class.TheVariants.{Dot, Symbol, Solo, Mark, Bad}
+use Rattle.op_token.specs.declared.class.Class.TheVariants.{Dot, Symbol, Solo, Punctuation, Bad}
 use Rattle.op_token.specs.declared.set.Set.{Set}
 use Rattle.op_token.specs.declared.set.Set.TheVariants.{Word, Symbol as symbols, Decimal, Hexadecimal, Octal, Binary}
 use Rattle.op_token.specs.Set.{has, run, begins_with}
 use Rattle.op_token.specs.Character.{is_scalar, bits_of, continuation, checked, two, three, four, char_at}
-use Rattle.op_token.specs.Class.{class_of, mark_of}
+use Rattle.op_token.specs.Class.{class_of, punctuation_of}
 use Rattle.op_token.specs.Spelling.{fault, line_from, block_from, number_of, simple_escape, numbered, escape_at, quoted_from}
 use Rattle.op_token.specs.Spelling.{ranged, least_magnitude, based, is_fraction, decimal, escaped_code_at, code_at, number_at}
 use Rattle.op_token.specs.Spelling.{ends_clause, spelled, begins, EndsBy}
@@ -285,10 +285,10 @@ digit_class b =
     (λ e. if_either P (b == 47) Slash _ (λ e h. cc)
     (λ e. if_either P (b == 46) Dot _ (λ e h. cc)
     (λ e. if_either P (has symbols b) Symbol _ (λ e h. cc)
-    (λ e. if_either P (b == 33 || b == 59) Solo (mark_of b) (λ e h. cc) (λ e. mark_class b)))))))))))
+    (λ e. if_either P (b == 33 || b == 59) Solo (punctuation_of b) (λ e h. cc) (λ e. punctuation_class b)))))))))))
   where
-    mark_class : (b : ℕ) → mark_of b ≡ Digit → has Decimal b ≡ true
-    mark_class b =
+    punctuation_class : (b : ℕ) → punctuation_of b ≡ Digit → has Decimal b ≡ true
+    punctuation_class b =
         let P : Class → Type 0 = λ c. c ≡ Digit → has Decimal b ≡ true in
         if_either P (b == 40) _ _ (λ e h. cc)
         (λ e. if_either P (b == 41) _ _ (λ e h. cc)
@@ -329,7 +329,7 @@ spelled_ends Dot at minus b s h =
     (λ e. (omega arith, omega arith)) (λ e. let l = run_length symbols s in (omega arith, omega arith))
 spelled_ends Symbol at minus b s h = let l = run_length symbols s in (omega arith, omega arith)
 spelled_ends Solo at minus b s h = (omega arith, omega arith)
-spelled_ends (Mark kind) at minus b s h = (omega arith, omega arith)
+spelled_ends (Punctuation kind) at minus b s h = (omega arith, omega arith)
 spelled_ends Bad at minus b s h = tt
 
 pub begins_ends : (at : ℕ) (minus : Bool) (b : ℕ) (s : List ℕ) → EndsBy (at + 1) (at + suc (length s)) (begins at minus (b ∷ s))

@@ -14,7 +14,7 @@ use Rattle.op_token.specs.declared.character.Character.{Character}
 use Rattle.op_token.specs.declared.escape.Escape.{Escape}
 use Rattle.op_token.specs.declared.class.Class.{Class}
 use Rattle.op_token.specs.declared.class.Class.TheVariants.{Layout, Percent, Small, Capital, Digit, SingleQuote, DoubleQuote, Slash}
-use Rattle.op_token.specs.declared.class.Class.TheVariants.{Dot, Symbol, Solo, Mark, Bad}
+use Rattle.op_token.specs.declared.class.Class.TheVariants.{Dot, Symbol, Solo, Punctuation, Bad}
 use Rattle.op_token.specs.declared.set.Set.{Set}
 use Rattle.op_token.specs.declared.set.Set.TheVariants.{Word, Symbol as symbols, Decimal, Hexadecimal, Octal, Binary}
 use Rattle.op_token.specs.declared.spelling.Spelling.{Spelling}
@@ -44,7 +44,7 @@ use Rattle.op_token.proofs.CommentsAndQuotes.{and_false}
 use Rattle.op_token.specs.Tokens.{text_from}
 use Rattle.op_token.proofs.Utf8QuotedTexts.{quoted_inside, text_stop, text_doubled, text_escaped, text_plain}
 use Rattle.op_token.proofs.LongestTokens.{line_never, block_never, quoted_kind}
-use Rattle.op_token.proofs.CharacterClasses.{same_on, all_below, below, characters, set_has, mark_fits, fits}
+use Rattle.op_token.proofs.CharacterClasses.{same_on, all_below, below, characters, set_has, punctuation_fits, fits}
 use Rattle.op_token.proofs.CharacterClasses.{class_fits, are_set, are_within}
 use Rattle.op_token.proofs.CharacterClasses.{values_same}
 
@@ -107,7 +107,7 @@ ends_same (b ∷ s) = both (ends_clause (b ∷ s)) (is_one_of layout_characters 
     go Dot f h = cc
     go Symbol f h = cc
     go Solo f h = cc
-    go (Mark kind) f h = cc
+    go (Punctuation kind) f h = cc
     go Bad f h = cc
 
     is_class : (k : Class) → class_of b ≡ k → (elim k [ Layout ↦ true | Percent ↦ true | k ↦ false ]) ≡ true → ends_clause (b ∷ s) ≡ true
@@ -511,21 +511,21 @@ number_sound at minus b s kind e f =
 never : false ≡ true → ⊥
 never h = cc
 
-mark_stands : (minus : Bool) (k : TokenKind) (b : ℕ) (behind : List ℕ) → mark_fits k b ≡ true → Stands minus k (b ∷ []) behind
-mark_stands minus OpenRound b behind h = (ap (λ i. i ∷ []) (eqb-true b 40 h), tt)
-mark_stands minus CloseRound b behind h = (ap (λ i. i ∷ []) (eqb-true b 41 h), tt)
-mark_stands minus OpenSquare b behind h = (ap (λ i. i ∷ []) (eqb-true b 91 h), tt)
-mark_stands minus CloseSquare b behind h = (ap (λ i. i ∷ []) (eqb-true b 93 h), tt)
-mark_stands minus OpenCurly b behind h = (ap (λ i. i ∷ []) (eqb-true b 123 h), tt)
-mark_stands minus CloseCurly b behind h = (ap (λ i. i ∷ []) (eqb-true b 125 h), tt)
-mark_stands minus Comma b behind h = (ap (λ i. i ∷ []) (eqb-true b 44 h), tt)
-mark_stands minus Bar b behind h = (ap (λ i. i ∷ []) (eqb-true b 124 h), tt)
-mark_stands minus Name b behind h = absurd (never h)
-mark_stands minus QuotedName b behind h = absurd (never h)
-mark_stands minus Variable b behind h = absurd (never h)
-mark_stands minus (Integer n) b behind h = absurd (never h)
-mark_stands minus Text b behind h = absurd (never h)
-mark_stands minus End b behind h = absurd (never h)
+punctuation_stands : (minus : Bool) (k : TokenKind) (b : ℕ) (behind : List ℕ) → punctuation_fits k b ≡ true → Stands minus k (b ∷ []) behind
+punctuation_stands minus OpenRound b behind h = (ap (λ i. i ∷ []) (eqb-true b 40 h), tt)
+punctuation_stands minus CloseRound b behind h = (ap (λ i. i ∷ []) (eqb-true b 41 h), tt)
+punctuation_stands minus OpenSquare b behind h = (ap (λ i. i ∷ []) (eqb-true b 91 h), tt)
+punctuation_stands minus CloseSquare b behind h = (ap (λ i. i ∷ []) (eqb-true b 93 h), tt)
+punctuation_stands minus OpenCurly b behind h = (ap (λ i. i ∷ []) (eqb-true b 123 h), tt)
+punctuation_stands minus CloseCurly b behind h = (ap (λ i. i ∷ []) (eqb-true b 125 h), tt)
+punctuation_stands minus Comma b behind h = (ap (λ i. i ∷ []) (eqb-true b 44 h), tt)
+punctuation_stands minus Bar b behind h = (ap (λ i. i ∷ []) (eqb-true b 124 h), tt)
+punctuation_stands minus Name b behind h = absurd (never h)
+punctuation_stands minus QuotedName b behind h = absurd (never h)
+punctuation_stands minus Variable b behind h = absurd (never h)
+punctuation_stands minus (Integer n) b behind h = absurd (never h)
+punctuation_stands minus Text b behind h = absurd (never h)
+punctuation_stands minus End b behind h = absurd (never h)
 
 solo_stands : (minus : Bool) (b : ℕ) (behind : List ℕ) → (b == 33 || b == 59) ≡ true → Stands minus Name (b ∷ []) behind
 solo_stands minus b behind h = go (b == 33) refl h
@@ -568,7 +568,7 @@ spelled_sound Slash at minus b s kind e f h =
 spelled_sound Dot at minus b s kind e f h = dot_stands at minus b s kind e f h
 spelled_sound Symbol at minus b s kind e f h = cut_stands minus Name kind at e b (run symbols s) s h (symbol_stands minus b s f)
 spelled_sound Solo at minus b s kind e f h = one_stands minus Name kind at e b s h (solo_stands minus b s f)
-spelled_sound (Mark k) at minus b s kind e f h = one_stands minus k kind at e b s h (mark_stands minus k b s f)
+spelled_sound (Punctuation k) at minus b s kind e f h = one_stands minus k kind at e b s h (punctuation_stands minus k b s f)
 spelled_sound Bad at minus b s kind e f h = absurd (fault_not h)
 
 pub begins_sound : (at : ℕ) (minus : Bool) (s : List ℕ) (kind : TokenKind) (e : ℕ) → begins at minus s ≡ Whole kind e

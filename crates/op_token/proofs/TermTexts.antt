@@ -11,7 +11,7 @@ use Rattle.op_token.specs.declared.piece.Piece.{Piece}
 use Rattle.op_token.specs.declared.piece.Piece.TheVariants.{Text, NoEnd, Empty}
 use Rattle.op_token.specs.declared.kind.Kind.{Kind}
 use Rattle.op_token.specs.declared.kind.Kind.TheVariants.{Newline, Layout, Percent, Slash, Star, Dot, Backslash, Quote, Zero, Word, Sign}
-use Rattle.op_token.specs.declared.kind.Mark.TheVariants.{Single, Double}
+use Rattle.op_token.specs.declared.kind.QuoteMark.TheVariants.{Single, Double}
 use Rattle.op_token.specs.declared.walk.Mode.{Mode}
 use Rattle.op_token.specs.declared.walk.Walk.{Walk}
 use Rattle.op_token.specs.declared.walk.Mode.TheVariants.{Lead, Between, AfterSlash, AfterZero, AfterDot, InLine, InBlock}

@@ -5,7 +5,7 @@ use Rattle.std.specs.Prelude.{◌==◌, nat_le, IsUtf8, slice_range, slice_index
 use Rattle.std.proofs.lemmas.Bool.{eqb-true}
 use Rattle.op_token.specs.declared.class.Class.{Class}
 use Rattle.op_token.specs.declared.class.Class.TheVariants.{Layout, Percent, Small, Capital, Digit, SingleQuote, DoubleQuote, Slash}
-use Rattle.op_token.specs.declared.class.Class.TheVariants.{Dot, Symbol, Solo, Mark, Bad}
+use Rattle.op_token.specs.declared.class.Class.TheVariants.{Dot, Symbol, Solo, Punctuation, Bad}
 use Rattle.op_token.specs.declared.set.Set.TheVariants.{Symbol as symbols}
 use Rattle.op_token.specs.declared.spelling.Spelling.TheVariants.{Whole}
 use Rattle.op_token.specs.declared.token.Token.{Token}
@@ -14,7 +14,7 @@ use Rattle.op_token.specs.declared.token.TokenKind.{TokenKind}
 use Rattle.op_token.specs.declared.token.TokenKind.TheVariants.{Name, QuotedName, Variable, Text, OpenRound, CloseRound, OpenSquare}
 use Rattle.op_token.specs.declared.token.TokenKind.TheVariants.{CloseSquare, OpenCurly, CloseCurly, Comma, Bar, End}
 use Rattle.op_token.specs.Set.{run, has, begins_with}
-use Rattle.op_token.specs.Class.{class_of, mark_of}
+use Rattle.op_token.specs.Class.{class_of, punctuation_of}
 use Rattle.op_token.specs.Spelling.{quoted_from, block_from, ends_clause, spelled, begins}
 use Rattle.op_token.specs.Tokens.{text_from, unquoted, scan_of, is_minus, IsPlain, IsQuoted}
 use Rattle.op_token.specs.MadeUp.{MadeUp}
@@ -26,7 +26,7 @@ use Rattle.op_token.proofs.MadeUpTexts.{text_made_up}
 
 -- the quotes are the bytes that begin quoted text
 abbrev pub QuoteClass : ℕ → Class → Type 0
-QuoteClass b c = (c ≡ SingleQuote → b ≡ 39) × (c ≡ DoubleQuote → b ≡ 34) × ((k : TokenKind) → c ≡ Mark k → IsQuoted k → ⊥)
+QuoteClass b c = (c ≡ SingleQuote → b ≡ 39) × (c ≡ DoubleQuote → b ≡ 34) × ((k : TokenKind) → c ≡ Punctuation k → IsQuoted k → ⊥)
 
 pub quote_class : (b : ℕ) → QuoteClass b (class_of b)
 quote_class b =
@@ -41,22 +41,22 @@ quote_class b =
     (λ e. if_either P (b == 47) Slash _ (λ e. (λ h. cc, λ h. cc, λ k h. cc))
     (λ e. if_either P (b == 46) Dot _ (λ e. (λ h. cc, λ h. cc, λ k h. cc))
     (λ e. if_either P (has symbols b) Symbol _ (λ e. (λ h. cc, λ h. cc, λ k h. cc))
-    (λ e. if_either P (b == 33 || b == 59) Solo (mark_of b) (λ e. (λ h. cc, λ h. cc, λ k h. cc)) (λ e. marks b)))))))))))
+    (λ e. if_either P (b == 33 || b == 59) Solo (punctuation_of b) (λ e. (λ h. cc, λ h. cc, λ k h. cc)) (λ e. punctuations b)))))))))))
   where
-    mark : (b : ℕ) (j : TokenKind) → (IsQuoted j → ⊥) → QuoteClass b (Mark j)
-    mark b j n = (λ h. cc, λ h. cc, λ k h q. let e : j ≡ k = cc in n (subst IsQuoted (sym e) q))
+    punctuation : (b : ℕ) (j : TokenKind) → (IsQuoted j → ⊥) → QuoteClass b (Punctuation j)
+    punctuation b j n = (λ h. cc, λ h. cc, λ k h q. let e : j ≡ k = cc in n (subst IsQuoted (sym e) q))
 
-    marks : (b : ℕ) → QuoteClass b (mark_of b)
-    marks b =
+    punctuations : (b : ℕ) → QuoteClass b (punctuation_of b)
+    punctuations b =
         let P : Class → Type 0 = QuoteClass b in
-        if_either P (b == 40) _ _ (λ e. mark b OpenRound (λ h. h))
-        (λ e. if_either P (b == 41) _ _ (λ e. mark b CloseRound (λ h. h))
-        (λ e. if_either P (b == 91) _ _ (λ e. mark b OpenSquare (λ h. h))
-        (λ e. if_either P (b == 93) _ _ (λ e. mark b CloseSquare (λ h. h))
-        (λ e. if_either P (b == 123) _ _ (λ e. mark b OpenCurly (λ h. h))
-        (λ e. if_either P (b == 125) _ _ (λ e. mark b CloseCurly (λ h. h))
-        (λ e. if_either P (b == 44) _ _ (λ e. mark b Comma (λ h. h))
-        (λ e. if_either P (b == 124) _ _ (λ e. mark b Bar (λ h. h)) (λ e. (λ h. cc, λ h. cc, λ k h. cc)))))))))
+        if_either P (b == 40) _ _ (λ e. punctuation b OpenRound (λ h. h))
+        (λ e. if_either P (b == 41) _ _ (λ e. punctuation b CloseRound (λ h. h))
+        (λ e. if_either P (b == 91) _ _ (λ e. punctuation b OpenSquare (λ h. h))
+        (λ e. if_either P (b == 93) _ _ (λ e. punctuation b CloseSquare (λ h. h))
+        (λ e. if_either P (b == 123) _ _ (λ e. punctuation b OpenCurly (λ h. h))
+        (λ e. if_either P (b == 125) _ _ (λ e. punctuation b CloseCurly (λ h. h))
+        (λ e. if_either P (b == 44) _ _ (λ e. punctuation b Comma (λ h. h))
+        (λ e. if_either P (b == 124) _ _ (λ e. punctuation b Bar (λ h. h)) (λ e. (λ h. cc, λ h. cc, λ k h. cc)))))))))
 
 not_kind : (j kind : TokenKind) (a to : ℕ) → (IsQuoted j → ⊥) → Whole j a ≡ Whole kind to → IsQuoted kind → ⊥
 not_kind j kind a to n e q = let f : j ≡ kind = cc in n (subst IsQuoted (sym f) q)
@@ -82,7 +82,7 @@ by_quotes R Dot at minus b s kind to c f g e q =
     (λ t h. absurd (not_kind Name kind _ to (λ h. h) h q)) e
 by_quotes R Symbol at minus b s kind to c f g e q = absurd (not_kind Name kind _ to (λ h. h) e q)
 by_quotes R Solo at minus b s kind to c f g e q = absurd (not_kind Name kind _ to (λ h. h) e q)
-by_quotes R (Mark k) at minus b s kind to c f g e q = absurd (not_kind k kind _ to (c.2 k refl) e q)
+by_quotes R (Punctuation k) at minus b s kind to c f g e q = absurd (not_kind k kind _ to (c.2 k refl) e q)
 by_quotes R Bad at minus b s kind to c f g e q = cc
 
 quoted_spelled : (at : ℕ) (minus : Bool) (b : ℕ) (s : List ℕ) (kind : TokenKind) (to : ℕ) → begins at minus (b ∷ s) ≡ Whole kind to

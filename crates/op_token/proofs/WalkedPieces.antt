@@ -4,8 +4,8 @@ use Rattle.std.specs.Prelude.{unwrap_or}
 use Rattle.std.specs.Option.{option_map, option_map_or}
 use Rattle.op_token.specs.declared.kind.Kind.{Kind}
 use Rattle.op_token.specs.declared.kind.Kind.TheVariants.{Newline, Layout, Percent, Slash, Star, Dot, Backslash, Quote, Zero, Word, Sign}
-use Rattle.op_token.specs.declared.kind.Mark.{Mark}
-use Rattle.op_token.specs.declared.kind.Mark.TheVariants.{Single, Double}
+use Rattle.op_token.specs.declared.kind.QuoteMark.{QuoteMark}
+use Rattle.op_token.specs.declared.kind.QuoteMark.TheVariants.{Single, Double}
 use Rattle.op_token.specs.declared.walk.Mode.{Mode}
 use Rattle.op_token.specs.declared.walk.Walk.{Walk}
 use Rattle.op_token.specs.declared.walk.Mode.TheVariants.{Lead, Between, AfterSlash, AfterZero, AfterDot, InLine, InBlock}
@@ -65,7 +65,7 @@ line_before at k l [] = refl
 line_before at k l (Newline ∷ s) = refl
 line_before at k l (m ∷ s) = refl
 
-quoted_before : (at : ℕ) (q : Mark) (k l : Kind) (s : List Kind) → end_from at (quoted q s) k s ≡ end_from at (quoted q s) l s
+quoted_before : (at : ℕ) (q : QuoteMark) (k l : Kind) (s : List Kind) → end_from at (quoted q s) k s ≡ end_from at (quoted q s) l s
 quoted_before at q k l [] = refl
 quoted_before at q k l (Newline ∷ s) = refl
 quoted_before at q k l (Backslash ∷ []) = refl

@@ -8,8 +8,8 @@ use Rattle.op_token.specs.declared.piece.Piece.{Piece}
 use Rattle.op_token.specs.declared.piece.Piece.TheVariants.{Text, NoEnd, Empty}
 use Rattle.op_token.specs.declared.kind.Kind.{Kind}
 use Rattle.op_token.specs.declared.kind.Kind.TheVariants.{Newline, Layout, Percent, Slash, Star, Dot, Backslash, Quote, Zero}
-use Rattle.op_token.specs.declared.kind.Mark.{Mark}
-use Rattle.op_token.specs.declared.kind.Mark.TheVariants.{Single, Double}
+use Rattle.op_token.specs.declared.kind.QuoteMark.{QuoteMark}
+use Rattle.op_token.specs.declared.kind.QuoteMark.TheVariants.{Single, Double}
 use Rattle.op_token.specs.Kind.{kind_of, is_word, is_symbol, is_gap}
 
 -- how many bytes a comment has behind its %, with the newline that ends it
@@ -30,7 +30,7 @@ comment (Star ∷ s) = option_map suc (block s)
 comment s = None
 
 -- how many bytes quoted text has behind the quote that begins it: to the same quote, or to a newline that no backslash took
-abbrev pub quoted : Mark → List Kind → ℕ
+abbrev pub quoted : QuoteMark → List Kind → ℕ
 quoted q [] = 0
 quoted q (Newline ∷ s) = 1
 quoted q (Backslash ∷ []) = 1

@@ -4,7 +4,7 @@ use Rattle.op_base.specs.Characters.{is_layout, is_word as is_word_byte, is_symb
 use Rattle.op_token.specs.declared.kind.Kind.{Kind}
 use Rattle.op_token.specs.declared.kind.Kind.TheVariants.{Newline, Layout, Percent, Slash, Star, Dot, Backslash, Quote, Zero, Word}
 use Rattle.op_token.specs.declared.kind.Kind.TheVariants.{Sign, Other}
-use Rattle.op_token.specs.declared.kind.Mark.TheVariants.{Single, Double}
+use Rattle.op_token.specs.declared.kind.QuoteMark.TheVariants.{Single, Double}
 
 abbrev pub kind_of : ℕ → Kind
 kind_of b =

@@ -11,7 +11,7 @@ use Rattle.op_token.specs.declared.token.TokenFaultKind.{TokenFaultKind}
 use Rattle.op_token.specs.declared.token.TokenFaultKind.TheVariants.{BadChar, OpenQuote, OpenComment, BadEscape, BadNumber, NumberRange}
 use Rattle.op_token.specs.declared.class.Class.{Class}
 use Rattle.op_token.specs.declared.class.Class.TheVariants.{Layout, Percent, Small, Capital, Digit, SingleQuote, DoubleQuote}
-use Rattle.op_token.specs.declared.class.Class.TheVariants.{Slash, Dot, Symbol, Solo, Mark, Bad}
+use Rattle.op_token.specs.declared.class.Class.TheVariants.{Slash, Dot, Symbol, Solo, Punctuation, Bad}
 use Rattle.op_token.specs.declared.set.Set.{Set}
 use Rattle.op_token.specs.declared.set.Set.TheVariants.{Word, Symbol as symbols, Decimal, Hexadecimal, Octal, Binary}
 use Rattle.op_token.specs.declared.escape.Escape.{Escape}
@@ -163,7 +163,7 @@ spelled Slash at minus b s = slash_at at s
 spelled Dot at minus b s = dot_at at s
 spelled Symbol at minus b s = Whole Name (at + 1 + run symbols s)
 spelled Solo at minus b s = Whole Name (at + 1)
-spelled (Mark kind) at minus b s = Whole kind (at + 1)
+spelled (Punctuation kind) at minus b s = Whole kind (at + 1)
 spelled Bad at minus b s = fault at BadChar
 
 -- what begins at a place, with the bytes from there on

@@ -1,5 +1,5 @@
 ghost use Rattle.std.specs.Prelude.{◌≡◌};
-ghost use Rattle.op_token.specs.Class.{class_of as the_class, mark_of as the_mark};
+ghost use Rattle.op_token.specs.Class.{class_of as the_class, punctuation_of as the_punctuation};
 
 use crate::token::TokenKind;
 use op_base::characters::{is_capital, is_digit, is_layout, is_small, is_symbol};
@@ -21,7 +21,8 @@ pub enum Class {
     Symbol,
     /// `!` or `;`.
     Solo,
-    Mark(TokenKind),
+    /// `(`, `)`, `[`, `]`, `{`, `}`, `,` or `|`.
+    Punctuation(TokenKind),
     /// Nothing.
     Bad,
 }
@@ -53,23 +54,23 @@ impl Class {
         } else if byte == b'!' || byte == b';' {
             Class::Solo
         } else {
-            mark_of(byte)
+            punctuation_of(byte)
         }
     }
 }
 
-fn mark_of(byte: u8) -> Class
-    ensures { result ≡ the_mark byte }
+fn punctuation_of(byte: u8) -> Class
+    ensures { result ≡ the_punctuation byte }
 {
     match byte {
-        b'(' => Class::Mark(TokenKind::OpenRound),
-        b')' => Class::Mark(TokenKind::CloseRound),
-        b'[' => Class::Mark(TokenKind::OpenSquare),
-        b']' => Class::Mark(TokenKind::CloseSquare),
-        b'{' => Class::Mark(TokenKind::OpenCurly),
-        b'}' => Class::Mark(TokenKind::CloseCurly),
-        b',' => Class::Mark(TokenKind::Comma),
-        b'|' => Class::Mark(TokenKind::Bar),
+        b'(' => Class::Punctuation(TokenKind::OpenRound),
+        b')' => Class::Punctuation(TokenKind::CloseRound),
+        b'[' => Class::Punctuation(TokenKind::OpenSquare),
+        b']' => Class::Punctuation(TokenKind::CloseSquare),
+        b'{' => Class::Punctuation(TokenKind::OpenCurly),
+        b'}' => Class::Punctuation(TokenKind::CloseCurly),
+        b',' => Class::Punctuation(TokenKind::Comma),
+        b'|' => Class::Punctuation(TokenKind::Bar),
         _ => Class::Bad,
     }
 }

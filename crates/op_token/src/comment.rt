@@ -6,7 +6,7 @@ use crate::spelling::{Spelling, fault};
 use crate::token::TokenFaultKind;
 
 /// The comment that a `%` begins; `at` is the place behind it, and `rest` what stands there.
-#[tactic(auto, using(crate::proofs::Dropping::drop_one, crate::proofs::Dropping::drop_all))]
+#[tactic(auto, using(crate::proofs::ListRests::drop_one, crate::proofs::ListRests::drop_all))]
 pub fn line(at: usize, rest: &[u8]) -> Spelling
     requires { at + length rest.now < 2 ^ 63 }
     ensures { result ≡ line_from at 0 rest.now }
@@ -28,7 +28,7 @@ pub fn line(at: usize, rest: &[u8]) -> Spelling
 }
 
 /// The comment that a `/*` at `start` begins; `rest` is what stands behind these two bytes.
-#[tactic(auto, using(crate::proofs::Dropping::drop_one, crate::proofs::Dropping::drop_all))]
+#[tactic(auto, using(crate::proofs::ListRests::drop_one, crate::proofs::ListRests::drop_all))]
 pub fn block(start: usize, rest: &[u8]) -> Spelling
     requires { start + 2 + length rest.now < 2 ^ 63 }
     ensures { result ≡ block_from start (start + 2) 0 rest.now }

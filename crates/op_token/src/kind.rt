@@ -5,7 +5,7 @@ use op_base::characters::{is_layout, is_symbol, is_word};
 
 /// The two bytes that enclose quoted text.
 #[derive(Clone, Copy)]
-pub enum Mark {
+pub enum QuoteMark {
     Single,
     Double,
 }
@@ -21,7 +21,7 @@ pub enum Kind {
     Star,
     Dot,
     Backslash,
-    Quote(Mark),
+    Quote(QuoteMark),
     Zero,
     /// A letter, a digit other than `0`, or `_`.
     Word,
@@ -50,9 +50,9 @@ impl Kind {
         } else if byte == b'\\' {
             Kind::Backslash
         } else if byte == b'\'' {
-            Kind::Quote(Mark::Single)
+            Kind::Quote(QuoteMark::Single)
         } else if byte == b'"' {
-            Kind::Quote(Mark::Double)
+            Kind::Quote(QuoteMark::Double)
         } else if byte == b'0' {
             Kind::Zero
         } else if is_word(byte) {

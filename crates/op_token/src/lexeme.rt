@@ -64,7 +64,7 @@ pub fn lexeme(at: usize, minus: bool, rest: &[u8]) -> Spelling
             Class::Dot => dot(at, tail),
             Class::Symbol => Spelling::Whole(TokenKind::Name, at + 1 + Set::Symbol.run(tail)),
             Class::Solo => Spelling::Whole(TokenKind::Name, at + 1),
-            Class::Mark(kind) => Spelling::Whole(kind, at + 1),
+            Class::Punctuation(kind) => Spelling::Whole(kind, at + 1),
             Class::Bad => fault(at, TokenFaultKind::BadChar),
         },
     }

@@ -2,7 +2,7 @@ ghost use Rattle.std.specs.Prelude.{◌≡◌, ◌+◌, ◌-◌, ◌^◌, ◌<�
 ghost use Rattle.op_token.specs.Walk.{top_of, next_of, keeps_top as the_keeps_top, keeps_blank as the_keeps_blank, blank_of};
 ghost use Rattle.op_token.specs.Walk.{from_of, step_of, start, piece_in, has_ended};
 
-use crate::kind::{Kind, Mark};
+use crate::kind::{Kind, QuoteMark};
 use crate::piece::Piece;
 
 /// Where the walk stands. Some modes wait for the next byte, which says whether a longer spelling has begun.
@@ -22,9 +22,9 @@ pub enum Mode {
     InBlock,
     /// In a comment, behind a `*` that may end it.
     AfterStar,
-    InQuotes(Mark),
+    InQuotes(QuoteMark),
     /// In quoted text, behind a backslash.
-    Escaped(Mark),
+    Escaped(QuoteMark),
     /// Behind `0'`.
     InCode,
     /// Behind `0'` and a backslash.
@@ -86,7 +86,7 @@ fn next(at: usize, mode: Mode, kind: Kind) -> Mode
             _ => top(Kind::Slash, kind),
         },
         Mode::AfterZero => match kind {
-            Kind::Quote(Mark::Single) => Mode::InCode,
+            Kind::Quote(QuoteMark::Single) => Mode::InCode,
             _ => top(Kind::Zero, kind),
         },
         Mode::AfterDot => {
@@ -113,26 +113,27 @@ fn next(at: usize, mode: Mode, kind: Kind) -> Mode
         Mode::Escaped(mark) => Mode::InQuotes(mark),
         Mode::InCode => match kind {
             Kind::Backslash => Mode::CodeEscaped,
-            Kind::Quote(Mark::Single) => Mode::CodeQuote,
+            Kind::Quote(QuoteMark::Single) => Mode::CodeQuote,
             _ => Mode::Between(kind),
         },
         Mode::CodeEscaped => Mode::Between(kind),
         Mode::CodeQuote => match kind {
-            Kind::Quote(Mark::Single) => Mode::Between(kind),
-            _ => top(Kind::Quote(Mark::Single), kind),
+            Kind::Quote(QuoteMark::Single) => Mode::Between(kind),
+            _ => top(Kind::Quote(QuoteMark::Single), kind),
         },
         Mode::Ended(end) => Mode::Ended(end),
     }
 }
 
-fn quoted(mark: Mark, kind: Kind) -> Mode
+fn quoted(mark: QuoteMark, kind: Kind) -> Mode
     ensures { result ≡ next_of 0 (Mode.InQuotes mark) kind }
 {
     match kind {
         Kind::Newline => Mode::Between(kind),
         Kind::Backslash => Mode::Escaped(mark),
         Kind::Quote(other) => match (mark, other) {
-            (Mark::Single, Mark::Single) | (Mark::Double, Mark::Double) => Mode::Between(kind),
+            (QuoteMark::Single, QuoteMark::Single) | (QuoteMark::Double, QuoteMark::Double) =>
+                Mode::Between(kind),
             _ => Mode::InQuotes(mark),
         },
         _ => Mode::InQuotes(mark),
