@@ -25,5 +25,5 @@ mod ReadingOutcomes
 mod RowRoots
 mod RowTrees
 mod TermBeginnings
-mod Through
+mod ReadBackTerms
 mod TokenNames

@@ -1,4 +1,4 @@
-use Rattle.op_readback.proofs.Through.{texts-are-read-back}
+use Rattle.op_readback.proofs.ReadBackTerms.{texts-are-read-back}
 use Rattle.op_readback.proofs.through_text.texts_law.Goals as goal
 
 pub returns : goal.returns

@@ -3,7 +3,7 @@ use Rattle.op_logic.specs.Term.{Term, IsWithin}
 use Rattle.op_logic.specs.Names.{named}
 use Rattle.op_reader.specs.Reading.{term, reading_of}
 use Rattle.op_readback.specs.ReadBack.{clause_over}
-use Rattle.op_readback.proofs.Through.{read-of, one-term, no-end, no-refusal, same-term, counts-none}
+use Rattle.op_readback.proofs.ReadBackTerms.{read-of, one-term, no-end, no-refusal, same-term, counts-none}
 use Rattle.op_readback.proofs.through_text.written_and_read.Goals as goal
 use Rattle.op_readback.proofs.through_text.written_and_read.Goals.{In-Ok-Term}
 
