@@ -5,6 +5,7 @@ pub mod KeptTerms
 mod LoadedTerms
 mod OccursCheck
 mod ReductionLaws
+mod RenewedTerms
 pub mod StateGrowth
 mod TermCopies
 pub mod UndoneBindings

@@ -6,19 +6,17 @@ use Rattle.std.proofs.Math.Seq.{take-append_seam, drop-append_seam, get_or-appen
 use Rattle.std.specs.List.{drop-map}
 use Rattle.op_logic.specs.Term.{Term, var, int, node, Args, no_args, arg, args_of, nth_arg, arity, size, args_size, IsWithin, ArgsWithin}
 use Rattle.op_term.specs.Places.{term_at, args_at}
+use Rattle.op_term.specs.Arguments.{args_list}
 use Rattle.op_term.specs.Head.{head}
+use Rattle.op_term.proofs.ArgumentLists.{length-list}
 use Rattle.op_term.specs.declared.node.Node.{Node}
 use Rattle.op_term.specs.declared.symbols.Sym.{Sym}
 use Rattle.op_term.specs.declared.node.Node.TheVariants as nodes
 use Rattle.op_bind.specs.Within.{AllWithin}
-use Rattle.op_bind.specs.inner.Built.{args_list, argument_count, args_from, join, HasArgs, NodeWithin, NodesWithin, IsMore}
+use Rattle.op_bind.specs.inner.Built.{args_from, join, HasArgs, NodeWithin, NodesWithin, IsMore}
 use Rattle.op_bind.specs.Visited.{visit, visit_args}
 use Rattle.op_bind.proofs.BindingsInvariant.{AllWithin-append, args-within}
 use Rattle.op_bind.proofs.KeptTerms.{kept-same, kept-twice}
-
-length-list : (ts : Args ℕ) → length (args_list ts) ≡ arity ts
-length-list no_args = refl
-length-list (arg t ts) = ap suc (length-list ts)
 
 from-list : (ts : Args ℕ) → args_from (args_list ts) ≡ ts
 from-list no_args = refl
@@ -140,44 +138,7 @@ mutual
   visit_args-within n no_args h = tt
   visit_args-within n (arg t ts) h = nodes_within-append n (visit_args ts) (visit t) (visit_args-within n ts h.1) (visit-within n t h.0)
 
-pub count-head : (t : Term ℕ) → argument_count (head t) ≡ arity (args_of t)
-count-head (var v) = refl
-count-head (int i) = refl
-count-head (node f no_args) = refl
-count-head (node f (arg t ts)) = refl
-
-nth-list : (ts : Args ℕ) (i : ℕ) → i < arity ts → take (i + 1) (args_list ts) ≡ take i (args_list ts) ++ nth_arg ts i ∷ []
-nth-list no_args i h = absurd (omega arith)
-nth-list (arg t ts) zero h = refl
-nth-list (arg t ts) (suc i) h =
-    let e : suc i + 1 ≡ suc (i + 1) = omega arith in
-    ap (λ (k : ℕ). take k (t ∷ args_list ts)) e ∙ ap (λ us. t ∷ us) (nth-list ts i (omega arith))
-
-take-whole : (ts : Args ℕ) (n : ℕ) → n ≡ arity ts → take n (args_list ts) ≡ args_list ts
-take-whole no_args n e = ap (λ (k : ℕ). take k []) e
-take-whole (arg t ts) n e = ap (λ (k : ℕ). take k (t ∷ args_list ts)) e ∙ ap (λ us. t ∷ us) (take-whole ts (arity ts) refl)
-
 module _ {P : Type 0} (term : P → Term ℕ) where
-  -- the arguments that were pushed
-  pub record Pushed (t : Term ℕ) (old todo : List P) (i : ℕ) : Type 0 where
-    pub terms : map term todo ≡ map term old ++ take i (args_list (args_of t))
-
-  pub pushed-more : (t : Term ℕ) (old todo new : List P) (i : ℕ) (p : P) → i < arity (args_of t) → new ≡ todo ++ p ∷ []
-      → term p ≡ nth_arg (args_of t) i → Pushed t old todo i → Pushed t old new (i + 1)
-  pushed-more t old todo new i p h e n g = record {
-    terms =
-        ap (λ (ps : List P). map term ps) e
-        ∙ (map-append term todo (p ∷ [])
-        ∙ (ap (λ (ts : List (Term ℕ)). ts ++ term p ∷ []) g.terms
-        ∙ (append_assoc (map term old) (take i (args_list (args_of t))) (term p ∷ [])
-        ∙ ap (λ (ts : List (Term ℕ)). map term old ++ ts) (ap (λ (x : Term ℕ). take i (args_list (args_of t)) ++ x ∷ []) n
-        ∙ sym (nth-list (args_of t) i h)))));
-  }
-
-  pub pushed-all : (t : Term ℕ) (old todo : List P) (n : ℕ) → n ≡ arity (args_of t) → Pushed t old todo n
-      → map term todo ≡ map term old ++ args_list (args_of t)
-  pushed-all t old todo n e g = g.terms ∙ ap (λ (ts : List (Term ℕ)). map term old ++ ts) (take-whole (args_of t) n e)
-
   -- the nodes that were met, and the terms to be met
   pub record IsMeeting (t : Term ℕ) (met : List Node) (todo : List P) : Type 0 where
     pub nodes : met ++ visits (map term todo) ≡ visit t

@@ -1,3 +1,4 @@
+pub mod Copied
 pub mod Grown
 pub mod State
 pub mod Unified

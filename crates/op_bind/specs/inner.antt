@@ -2,4 +2,5 @@
 pub mod Built
 pub mod Loaded
 pub mod Pairs
+pub mod Renewed
 pub mod Sound

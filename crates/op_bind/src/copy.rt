@@ -1,37 +1,13 @@
 ghost use Rattle.std.specs.Prelude.{◌≡◌, ◌+◌, ◌<◌, ◌≤◌, ◌++◌, ◌∷◌, [], ℕ, length, take, drop, map, All, Err, IfOk, OnOk};
-ghost use Rattle.op_logic.specs.Term.{Term as SpecTerm, args_of, arity, size, IsWithin};
+ghost use Rattle.op_logic.specs.Term.{Term as SpecTerm, size, IsWithin};
 ghost use Rattle.op_term.specs.Places.{term_at};
 ghost use Rattle.op_bind.specs.Visited.{visit};
-ghost use Rattle.op_bind.specs.inner.Built.{args_list, argument_count, join, HasArgs, NodesWithin, IsMore};
+ghost use Rattle.op_bind.specs.inner.Built.{join, HasArgs, NodesWithin, IsMore};
 ghost use Rattle.op_bind.specs.Within.{AllWithin};
 
 use op_base::Memory;
-use op_term::{Builder, Fuel, Node, Tree, WalkFault};
+use op_term::{Builder, Fuel, Node, Tree, WalkFault, push_args};
 use std::alloc::Global;
-
-fn arity_of(node: Node) -> u64
-    ensures { result ≡ argument_count node }
-{
-    match node {
-        Node::Struct(_, n) => n,
-        _ => 0,
-    }
-}
-
-// The places of a term's arguments, the last on top.
-fn push_args<T: Tree>(tree: &T, at: &T::At, n: u64, todo: &mut Vec<T::At>) -> Result<(), Memory>
-    requires place { T.IsPlace tree.now at.now }
-    requires count { n ≡ arity (args_of (T.term tree.now at.now)) }
-    requires todo { All (λ p. T.IsPlace tree.now p) todo.old.items }
-    ensures todo { OnOk result (All (λ p. T.IsPlace tree.now p) todo.new.items) }
-    ensures terms { OnOk result (map (λ p. T.term tree.now p) todo.new.items
-        ≡ map (λ p. T.term tree.now p) todo.old.items ++ args_list (args_of (T.term tree.now at.now))) }
-{
-    'push: for i in 0..n {
-        todo.push(tree.part(at, i))?;
-    }
-    Ok(())
-}
 
 /// The nodes of a term, each before its arguments' and the last argument's first, at a step for each.
 pub(crate) fn nodes_within<T: Tree>(
@@ -44,6 +20,7 @@ pub(crate) fn nodes_within<T: Tree>(
     ensures nodes { IfOk result (λ nodes. nodes.items ≡ visit (T.term tree.now at.now)) }
     ensures paid { OnOk result (fuel.old ≡ fuel.new + size (T.term tree.now at.now)) }
     ensures spent { result ≡ Err WalkFault.Spent → fuel.old < size (T.term tree.now at.now) }
+    ensures empty { result ≡ Err WalkFault.Spent → fuel.new ≡ 0 }
     ensures falls { fuel.new ≤ fuel.old }
 {
     let mut todo = Vec::new(alloc);
@@ -53,7 +30,7 @@ pub(crate) fn nodes_within<T: Tree>(
         fuel.spend(1)?;
         let node = tree.node(&next);
         nodes.push(node)?;
-        push_args(tree, &next, arity_of(node), &mut todo)?;
+        push_args(tree, &next, node.arity(), &mut todo)?;
     }
     Ok(nodes)
 }

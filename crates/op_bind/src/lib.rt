@@ -7,6 +7,7 @@ mod laws;
 mod load;
 mod places;
 mod rename;
+mod renamed_copy;
 mod resolve;
 mod step;
 mod unify;

@@ -1,12 +1,14 @@
-ghost use Rattle.std.specs.Prelude.{◌≡◌, ◌+◌, ◌<◌, ◌≤◌, ◌^◌, length, OnOk, OnErr, IfOk};
-ghost use Rattle.op_logic.specs.Term.{IsWithin, shift, size};
+ghost use Rattle.std.specs.Prelude.{◌≡◌, ◌+◌, ◌<◌, ◌≤◌, ◌^◌, ℕ, length, OnOk, OnErr, IfOk};
+ghost use Rattle.op_logic.specs.Term.{Term as SpecTerm, IsWithin, shift, size};
 ghost use Rattle.op_term.specs.Places.{term_at};
+ghost use Rattle.op_bind.specs.Visited.{visit};
+ghost use Rattle.op_bind.specs.inner.Built.{NodesWithin};
 ghost use Rattle.op_bind.specs.inner.Loaded.{shifted_node, CanShift};
 ghost use Rattle.op_bind.specs.Grown.{Grows};
 ghost use Rattle.op_bind.specs.State.{bindings};
 
 use crate::bindings::Bindings;
-use crate::copy::copy_term;
+use crate::copy::{build, nodes_of};
 use crate::places::Ref;
 use op_base::Memory;
 use op_term::{Node, Term, Tree, Whole};
@@ -58,11 +60,28 @@ impl Bindings {
         ensures err { OnErr result (self.new ≡ self.old) }
         ensures grows { Grows self.old self.new }
     {
-        let base = self.nodes.len();
         let whole = Whole::new(term);
         let root = whole.root();
         let shifted = Shifted { whole, first };
-        match copy_term(self.alloc, &shifted, &root, &mut self.nodes) {
+        let nodes = nodes_of(self.alloc, &shifted, &root)?;
+        self.add(nodes)
+    }
+
+    // The term of these nodes joins.
+    pub(crate) fn add(&mut self, nodes: Vec<Node>) -> Result<Ref, Memory>
+        requires nodes { (t : SpecTerm ℕ) × (nodes.items ≡ visit t) }
+        requires within { NodesWithin self.old.count nodes.items }
+        ensures there { IfOk result (λ r. r < length self.new.terms) }
+        ensures value { IfOk result (λ r. (t : SpecTerm ℕ) → nodes.items ≡ visit t → term_at self.new.terms r ≡ t) }
+        ensures added { OnOk result (length self.new.terms ≡ length self.old.terms + length nodes.items) }
+        ensures bound { self.new.bound ≡ self.old.bound }
+        ensures bindings { bindings self.new ≡ bindings self.old }
+        ensures count { self.new.count ≡ self.old.count }
+        ensures err { OnErr result (self.new ≡ self.old) }
+        ensures grows { Grows self.old self.new }
+    {
+        let base = self.nodes.len();
+        match build(self.alloc, nodes, &mut self.nodes) {
             Ok(at) => Ok(Ref { at }),
             Err(refused) => {
                 self.nodes.cut(base);

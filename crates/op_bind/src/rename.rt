@@ -52,7 +52,7 @@ impl Bindings {
     }
 
     // How many numbers were given out: no term and no binding has another.
-    fn variable_count(&self) -> u64
+    pub(crate) fn variable_count(&self) -> u64
         ensures count { result ≡ self.now.count }
         ensures terms { AllWithin result self.now.terms }
         ensures bound { AreBound result self.now.terms self.now.bound }
@@ -105,7 +105,7 @@ impl Bindings {
     }
 
     // Takes numbers back that no term and no binding has.
-    fn give_back(&mut self, n: u64)
+    pub(crate) fn give_back(&mut self, n: u64)
         requires enough { n ≤ self.old.count }
         requires terms { AllWithin n self.old.terms }
         requires bound { AreBound n self.old.terms self.old.bound }

@@ -14,6 +14,7 @@ impl Bindings {
         ensures value { IfOk result (λ t. t ≡ value_of self.now r.now) }
         ensures paid { OnOk result (fuel.old ≡ fuel.new + size (value_of self.now r.now)) }
         ensures spent { result ≡ Err WalkFault.Spent → fuel.old < size (value_of self.now r.now) }
+        ensures empty { result ≡ Err WalkFault.Spent → fuel.new ≡ 0 }
         ensures falls { fuel.new ≤ fuel.old }
     {
         let nodes = nodes_within(self.alloc, self, r, fuel)?;

@@ -1,2 +1,4 @@
--- What only proofs need: what the nodes of a builder mean.
+-- What only proofs need: what the cells of a builder mean, how two terms are compared, and how one is walked.
 pub mod Cells
+pub mod Compared
+pub mod Measured

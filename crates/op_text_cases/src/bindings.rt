@@ -13,7 +13,7 @@ use op_term::{Fuel, Node, Sym, Symbols, WalkFault};
 use std::alloc::Global;
 
 // Adds a value by the steps that are left, and how many are left then.
-fn add_value(
+pub fn add_value(
     alloc: Global,
     line: &mut String,
     symbols: &Symbols,
@@ -42,7 +42,7 @@ fn add_value(
 }
 
 // Unifies the two arguments of an equation, and tells the answer.
-fn answer_of(
+pub fn answer_of(
     bindings: &mut Bindings,
     equation: &Ref,
     fuel: &mut Fuel,
@@ -115,7 +115,7 @@ fn add_unified(
 }
 
 // Loads a term into bindings that have no variables yet.
-fn load_read(bindings: &mut Bindings, read: &Read) -> Result<Ref, Memory>
+pub fn load_read(bindings: &mut Bindings, read: &Read) -> Result<Ref, Memory>
     requires none { bindings.old.count ≡ 0 }
     requires variables { HasVariables read.now.vars read.now.term read.now.names }
     ensures { IfOk result (λ r. r < length bindings.new.terms) }
@@ -154,7 +154,7 @@ fn unify_text(
 }
 
 // The bytes that a field stands for, with a full stop behind them.
-fn ended(alloc: Global, field: &str) -> Result<Vec<u8>, Memory> {
+pub fn ended(alloc: Global, field: &str) -> Result<Vec<u8>, Memory> {
     let mut bytes = decoded(alloc, field)?;
     bytes.extend_from_slice(b" .")?;
     Ok(bytes)

@@ -1,5 +1,5 @@
 use crate::table::Table;
-use crate::{bindings, desks, frames, names, reading, table, tokens, writing};
+use crate::{bindings, desks, frames, names, reading, table, terms, tokens, writing};
 use op_base::Memory;
 use op_case_lines::{Cases, decoded, numbered};
 use std::alloc::Global;
@@ -91,6 +91,9 @@ fn of_number(
         "again" => writing::again(alloc, line, table, number, &decoded(alloc, behind)?),
         "unify" => bindings::unify(alloc, line, table, number, behind),
         "compound" => bindings::compound(alloc, line, table, number, behind),
+        "compare" => terms::order(alloc, line, table, number, behind),
+        "size" => terms::sizes(alloc, line, table, number, behind),
+        "copy" => terms::copy(alloc, line, table, number, behind),
         "choices" => frames::choices(alloc, line, number),
         "open" => frames::open_boxes(alloc, line, number, behind.parse::<u64>().unwrap_or(0)),
         _ => Ok(line.push_str("no case")?),

@@ -9,6 +9,7 @@ mod names;
 mod reading;
 mod show;
 mod table;
+mod terms;
 mod tokens;
 mod writing;
 

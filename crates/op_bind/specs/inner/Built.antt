@@ -5,19 +5,9 @@ use Rattle.op_term.specs.declared.node.Node.{Node}
 use Rattle.op_term.specs.declared.node.Node.TheVariants.{Var, Int, Atom, Struct}
 use Rattle.op_bind.specs.Within.{AllWithin}
 
-abbrev pub args_list : Args ℕ → List (Term ℕ)
-args_list no_args = []
-args_list (arg t ts) = t ∷ args_list ts
-
 abbrev pub args_from : List (Term ℕ) → Args ℕ
 args_from [] = no_args
 args_from (t ∷ ts) = arg t (args_from ts)
-
-abbrev pub argument_count : Node → ℕ
-argument_count (Var n) = 0
-argument_count (Int i) = 0
-argument_count (Atom f) = 0
-argument_count (Struct f n) = n
 
 -- a node takes its arguments from the end of a list, and joins there
 abbrev pub join : Node → List (Term ℕ) → List (Term ℕ)

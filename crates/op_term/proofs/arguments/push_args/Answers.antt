@@ -1,8 +1,8 @@
 use Rattle.std.proofs.Common.{◌<◌, List, subst, sym, All, arith}
 use Rattle.std.proofs.lemmas.List.Elements.{All-push}
 use Rattle.op_logic.specs.Term.{args_of, arity}
-use Rattle.op_bind.proofs.TermCopies.{pushed-more, pushed-all}
-use Rattle.op_bind.proofs.copy.push_args.Goals as goal
+use Rattle.op_term.proofs.ArgumentLists.{pushed-more, pushed-all}
+use Rattle.op_term.proofs.arguments.push_args.Goals as goal
 
 pub push-preserved : goal.push-preserved
 push-preserved g c =

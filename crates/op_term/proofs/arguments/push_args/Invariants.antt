@@ -1,6 +1,6 @@
 use Rattle.std.proofs.Common.{All}
-use Rattle.op_bind.proofs.TermCopies.{Pushed}
-use Rattle.op_bind.proofs.copy.push_args.Given as goal
+use Rattle.op_term.proofs.ArgumentLists.{Pushed}
+use Rattle.op_term.proofs.arguments.push_args.Given as goal
 
 abbrev pub invariant-push : goal.invariant-push
 invariant-push g l = record {
