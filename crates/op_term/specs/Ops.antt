@@ -1,6 +1,6 @@
 -- Operators (ISO/IEC 13211-1, 6.3.4): what a name is as an operator, the operators at first, and what setting one makes of them.
 use Rattle.std.specs.Prelude.{◌≡◌, ◌≤◌, ◌==◌, ◌||◌, ◌&&◌, ℕ, pos, negsuc, nat_le, Bool, true, false, ℤ, List, [], ◌∷◌, codes, bytes_eq}
-use Rattle.std.specs.Prelude.{if◌then◌else◌, Option, Some, None, Result, Ok, Err, fold}
+use Rattle.std.specs.Prelude.{if◌then◌else◌, Option, Some, None, Result, Ok, Err, fold, ◌++◌}
 use Rattle.std.specs.Option.{IfSome, is_some}
 use Rattle.op_term.specs.declared.ops.OpKind.{OpKind}
 use Rattle.op_term.specs.declared.ops.OpKind.TheVariants.{Xfx, Xfy, Yfx, Fy, Fx, Xf, Yf}
@@ -88,18 +88,33 @@ pub record Row : Type 0 where
 abbrev row : ℕ → OpKind → List (List ℕ) → Row
 row p k names = record { priority = p; kind = k; names = names }
 
--- those of the standard's table 7, and `div` and the directives' names (this project's own)
-unfoldable pub iso_rows : List Row
-iso_rows =
+abbrev pub with_rows : Table → List Row → Table
+with_rows table rows = fold (λ t r. with_ops t r.priority r.kind r.names) table rows
+
+-- those of the standard's table 7, and `div` and the directives' names (this project's own), by what they are for
+abbrev pub clause_rows : List Row
+clause_rows =
     row 1200 Xfx (codes ":-" ∷ codes "-->" ∷ []) ∷
     row 1200 Fx (codes ":-" ∷ codes "?-" ∷ []) ∷
     row 1150 Fx (codes "dynamic" ∷ codes "discontiguous" ∷ codes "multifile" ∷ codes "initialization" ∷ []) ∷
+    []
+
+abbrev pub control_rows : List Row
+control_rows =
     row 1100 Xfy (codes ";" ∷ []) ∷
     row 1050 Xfy (codes "->" ∷ []) ∷
     row 1000 Xfy (codes "," ∷ []) ∷
     row 900 Fy (codes "\\+" ∷ []) ∷
+    []
+
+abbrev pub comparison_rows : List Row
+comparison_rows =
     row 700 Xfx (codes "=" ∷ codes "\\=" ∷ codes "==" ∷ codes "\\==" ∷ codes "@<" ∷ codes "@=<" ∷ codes "@>" ∷ codes "@>=" ∷ []) ∷
     row 700 Xfx (codes "=.." ∷ codes "is" ∷ codes "=:=" ∷ codes "=\\=" ∷ codes "<" ∷ codes "=<" ∷ codes ">" ∷ codes ">=" ∷ []) ∷
+    []
+
+abbrev pub arithmetic_rows : List Row
+arithmetic_rows =
     row 500 Yfx (codes "+" ∷ codes "-" ∷ codes "/\\" ∷ codes "\\/" ∷ []) ∷
     row 400 Yfx (codes "*" ∷ codes "/" ∷ codes "//" ∷ codes "rem" ∷ codes "mod" ∷ codes "div" ∷ codes "<<" ∷ codes ">>" ∷ []) ∷
     row 200 Xfx (codes "**" ∷ []) ∷
@@ -107,9 +122,12 @@ iso_rows =
     row 200 Fy (codes "-" ∷ codes "+" ∷ codes "\\" ∷ []) ∷
     []
 
+unfoldable pub iso_rows : List Row
+iso_rows = clause_rows ++ control_rows ++ comparison_rows ++ arithmetic_rows
+
 unfoldable pub iso_table : Table
 unfolding iso_rows
-iso_table = fold (λ t r. with_ops t r.priority r.kind r.names) [] iso_rows
+iso_table = with_rows [] iso_rows
 
 -- names that are never operators
 abbrev pub is_reserved : List ℕ → Bool

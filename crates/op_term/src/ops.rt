@@ -2,6 +2,7 @@ ghost use Rattle.std.specs.Prelude.{◌≡◌, ◌≢◌, IfOk, IfErr, OnOk, OnE
 ghost use Rattle.op_term.specs.Ops.{prefix_in, infix_in, postfix_in, is_prefix as prefix_kind, is_postfix as postfix_kind};
 ghost use Rattle.op_term.specs.Ops.{is_infix as infix_kind, is_y_left as y_left, is_y_right as y_right, changed as the_changed};
 ghost use Rattle.op_term.specs.Ops.{is_reserved as the_reserved, clashes as the_clash, with_op, iso_table, set_in, IsTable};
+ghost use Rattle.op_term.specs.Ops.{with_rows, clause_rows, control_rows, comparison_rows, arithmetic_rows};
 ghost use Rattle.op_term.specs.declared.ops.OpFault.TheVariants.{Memory as want_of_memory};
 
 use crate::meanings::MeaningMap;
@@ -182,6 +183,65 @@ fn add_row(
     Ok(())
 }
 
+// The operators of clauses and directives.
+fn add_clause_rows(t: &mut MeaningMap) -> Result<(), Memory>
+    ensures { OnOk result (t.new ≡ with_rows t.old clause_rows) }
+{
+    add_row(t, 1200, OpKind::Xfx, &[":-", "-->"])?;
+    add_row(t, 1200, OpKind::Fx, &[":-", "?-"])?;
+    add_row(
+        t,
+        1150,
+        OpKind::Fx,
+        &["dynamic", "discontiguous", "multifile", "initialization"],
+    )?;
+    Ok(())
+}
+
+// The operators of bodies.
+fn add_control_rows(t: &mut MeaningMap) -> Result<(), Memory>
+    ensures { OnOk result (t.new ≡ with_rows t.old control_rows) }
+{
+    add_row(t, 1100, OpKind::Xfy, &[";"])?;
+    add_row(t, 1050, OpKind::Xfy, &["->"])?;
+    add_row(t, 1000, OpKind::Xfy, &[","])?;
+    add_row(t, 900, OpKind::Fy, &["\\+"])
+}
+
+// The operators that compare.
+fn add_comparison_rows(t: &mut MeaningMap) -> Result<(), Memory>
+    ensures { OnOk result (t.new ≡ with_rows t.old comparison_rows) }
+{
+    add_row(
+        t,
+        700,
+        OpKind::Xfx,
+        &["=", "\\=", "==", "\\==", "@<", "@=<", "@>", "@>="],
+    )?;
+    add_row(
+        t,
+        700,
+        OpKind::Xfx,
+        &["=..", "is", "=:=", "=\\=", "<", "=<", ">", ">="],
+    )
+}
+
+// The operators of arithmetic.
+fn add_arithmetic_rows(t: &mut MeaningMap) -> Result<(), Memory>
+    ensures { OnOk result (t.new ≡ with_rows t.old arithmetic_rows) }
+{
+    add_row(t, 500, OpKind::Yfx, &["+", "-", "/\\", "\\/"])?;
+    add_row(
+        t,
+        400,
+        OpKind::Yfx,
+        &["*", "/", "//", "rem", "mod", "div", "<<", ">>"],
+    )?;
+    add_row(t, 200, OpKind::Xfx, &["**"])?;
+    add_row(t, 200, OpKind::Xfy, &["^"])?;
+    add_row(t, 200, OpKind::Fy, &["-", "+", "\\"])
+}
+
 impl Ops {
     /// The operators of the standard (ISO/IEC 13211-1, 6.3.4.4), and this project's own: the prefix operators `dynamic`,
     /// `discontiguous`, `multifile` and `initialization`.
@@ -190,41 +250,10 @@ impl Ops {
         ensures table { IfOk result (λ o. IsTable o) }
     {
         let mut table = MeaningMap::new(alloc);
-        let t = &mut table;
-        add_row(t, 1200, OpKind::Xfx, &[":-", "-->"])?;
-        add_row(t, 1200, OpKind::Fx, &[":-", "?-"])?;
-        add_row(
-            t,
-            1150,
-            OpKind::Fx,
-            &["dynamic", "discontiguous", "multifile", "initialization"],
-        )?;
-        add_row(t, 1100, OpKind::Xfy, &[";"])?;
-        add_row(t, 1050, OpKind::Xfy, &["->"])?;
-        add_row(t, 1000, OpKind::Xfy, &[","])?;
-        add_row(t, 900, OpKind::Fy, &["\\+"])?;
-        add_row(
-            t,
-            700,
-            OpKind::Xfx,
-            &["=", "\\=", "==", "\\==", "@<", "@=<", "@>", "@>="],
-        )?;
-        add_row(
-            t,
-            700,
-            OpKind::Xfx,
-            &["=..", "is", "=:=", "=\\=", "<", "=<", ">", ">="],
-        )?;
-        add_row(t, 500, OpKind::Yfx, &["+", "-", "/\\", "\\/"])?;
-        add_row(
-            t,
-            400,
-            OpKind::Yfx,
-            &["*", "/", "//", "rem", "mod", "div", "<<", ">>"],
-        )?;
-        add_row(t, 200, OpKind::Xfx, &["**"])?;
-        add_row(t, 200, OpKind::Xfy, &["^"])?;
-        add_row(t, 200, OpKind::Fy, &["-", "+", "\\"])?;
+        add_clause_rows(&mut table)?;
+        add_control_rows(&mut table)?;
+        add_comparison_rows(&mut table)?;
+        add_arithmetic_rows(&mut table)?;
         Ok(Ops { table })
     }
 

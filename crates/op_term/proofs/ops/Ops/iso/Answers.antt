@@ -7,20 +7,10 @@ pub returns-clause-iso : goal.returns-clause-iso
 unfolding iso_table iso_rows
 returns-clause-iso c =
     rw (
-      c.in_ok-add_row-14.ensures,
-      c.in_ok-add_row-13.ensures,
-      c.in_ok-add_row-12.ensures,
-      c.in_ok-add_row-11.ensures,
-      c.in_ok-add_row-10.ensures,
-      c.in_ok-add_row-9.ensures,
-      c.in_ok-add_row-8.ensures,
-      c.in_ok-add_row-7.ensures,
-      c.in_ok-add_row-6.ensures,
-      c.in_ok-add_row-5.ensures,
-      c.in_ok-add_row-4.ensures,
-      c.in_ok-add_row-3.ensures,
-      c.in_ok-add_row-2.ensures,
-      c.in_ok-add_row.ensures,
+      c.in_ok-add_arithmetic_rows.ensures,
+      c.in_ok-add_comparison_rows.ensures,
+      c.in_ok-add_control_rows.ensures,
+      c.in_ok-add_clause_rows.ensures,
       c.new-table.ensures,
     ) refl
 
