@@ -15,7 +15,7 @@ use Rattle.op_reader.specs.FirstClause.{sentence, unmatched}
 use Rattle.op_reader.specs.Words.{source, words_of, variables_of, named_from}
 use Rattle.op_reader.specs.Roles.{levels_of}
 use Rattle.op_reader.specs.Reading.{Outcome, refused_or, first_place, words_outcome, clause_outcome, sentence_outcome}
-use Rattle.op_reader.specs.inner.Marks.{view, word_in}
+use Rattle.op_reader.specs.inner.RoleLists.{view, word_in}
 use Rattle.op_reader.specs.inner.Shown.{IsLater, ShowsWords}
 use Rattle.op_reader.specs.Passes.{AreListNames, Tells, HasKnownNames}
 use Rattle.op_reader.proofs.ShownNodes.{kept_all, kept_kept, kept_length, name_later}

@@ -8,7 +8,7 @@ use Rattle.op_term.specs.Places.{term_at, args_at}
 use Rattle.op_reader.specs.declared.piece.Piece.{Piece as PieceHeld}
 use Rattle.op_reader.specs.declared.piece.Piece.TheVariants.{Operand, Operator as AnOperator}
 use Rattle.op_reader.specs.Row.{operand, tree}
-use Rattle.op_reader.specs.inner.Marks.{View, node_in}
+use Rattle.op_reader.specs.inner.RoleLists.{View, node_in}
 use Rattle.op_reader.specs.inner.Pieces.{piece_at, PieceBelow}
 use Rattle.op_reader.specs.inner.Level.{Extends, piece_in}
 use Rattle.op_reader.proofs.RowNames.{piece_renamed, tree_renamed}

@@ -4,7 +4,7 @@ mod ClosedSpines
 mod FirstClauses
 mod HeldPieces
 mod HeldRows
-mod JoinedMarks
+mod JoinedRoles
 mod JoinedWords
 mod LevelNodes
 mod ListNodes

@@ -2,9 +2,9 @@
 use Rattle.std.proofs.Common.{◌≡◌, ℕ, ◌<◌, ◌≤◌, List, [], ◌∷◌, ◌++◌, Option, Some, None, ap, sym, ◌∙◌, subst, arith, drop, length, get_or}
 use Rattle.std.proofs.Common.{map, suc, ◌-◌}
 use Rattle.std.proofs.Math.Seq.{drop-cons}
-use Rattle.op_reader.specs.declared.mark.Mark.{Mark}
+use Rattle.op_reader.specs.declared.role.Role.{Role}
 use Rattle.op_reader.specs.declared.level.ListNames.{ListNames}
-use Rattle.op_reader.specs.inner.Marks.{View, with_mark, with_marks, no_layers}
+use Rattle.op_reader.specs.inner.RoleLists.{View, with_role, with_roles, no_layers}
 use Rattle.std.specs.Prelude.{reverse}
 use Rattle.std.specs.Option.{IfSome}
 use Rattle.std.proofs.lemmas.List.{reverse-append}
@@ -55,12 +55,12 @@ pub reads_none : (v : View) (names : ListNames) (p : Pending) → level_in v p.i
     → Reads v names p no_layers
 reads_none v names p e f = record { inner = e; outer = ap (λ ls. map (level_in v) (reverse ls)) f }
 
--- the marks from a place on begin with the mark there
-pub marks_back : (v : View) (ms : List Mark) (i : ℕ) (m : Mark) → 0 < i → i ≤ length ms → m ≡ get_or ms (i - 1) m →
-    with_mark v m (with_marks v (drop i ms) no_layers) ≡ with_marks v (drop (i - 1) ms) no_layers
-marks_back v ms i m some inside is =
+-- the roles from a place on begin with the role there
+pub roles_back : (v : View) (ms : List Role) (i : ℕ) (m : Role) → 0 < i → i ≤ length ms → m ≡ get_or ms (i - 1) m →
+    with_role v m (with_roles v (drop i ms) no_layers) ≡ with_roles v (drop (i - 1) ms) no_layers
+roles_back v ms i m some inside is =
     let within : i - 1 < length ms = omega arith in
     let next : suc (i - 1) ≡ i = omega arith in
-    ap (λ k. with_mark v m (with_marks v (drop k ms) no_layers)) (sym next)
-    ∙ ap (λ n. with_mark v n (with_marks v (drop (suc (i - 1)) ms) no_layers)) is
-    ∙ sym (ap (λ ns. with_marks v ns no_layers) (drop-cons ms (i - 1) m within))
+    ap (λ k. with_role v m (with_roles v (drop k ms) no_layers)) (sym next)
+    ∙ ap (λ n. with_role v n (with_roles v (drop (suc (i - 1)) ms) no_layers)) is
+    ∙ sym (ap (λ ns. with_roles v ns no_layers) (drop-cons ms (i - 1) m within))

@@ -2,7 +2,7 @@
 pub mod Adding
 pub mod Held
 pub mod Level
-pub mod Marks
 pub mod Pieces
+pub mod RoleLists
 pub mod Shown
 pub mod Spine

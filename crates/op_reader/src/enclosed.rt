@@ -5,7 +5,7 @@ ghost use Rattle.op_logic.specs.Names.{name_at};
 ghost use Rattle.op_reader.specs.Words.{list_of};
 ghost use Rattle.op_reader.specs.Row.{tree};
 ghost use Rattle.op_reader.specs.Terms.{args_of, compound_of as the_compound_of, bracketed_of as the_bracketed_of};
-ghost use Rattle.op_reader.specs.inner.Marks.{View, node_in};
+ghost use Rattle.op_reader.specs.inner.RoleLists.{View, node_in};
 ghost use Rattle.op_reader.specs.inner.Level.{Extends, nodes_in, level_in, known_in, LevelBelow};
 
 use crate::bracket::Bracket;

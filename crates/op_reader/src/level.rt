@@ -6,7 +6,7 @@ ghost use Rattle.op_reader.specs.Row.{tree};
 ghost use Rattle.op_reader.specs.Words.{list_of};
 ghost use Rattle.op_reader.specs.Terms.{separated as the_separated, tailed as the_tailed, compound_of as the_compound_of};
 ghost use Rattle.op_reader.specs.Terms.{bracketed_of as the_bracketed_of, as_operand as the_as_operand, with_piece};
-ghost use Rattle.op_reader.specs.inner.Marks.{View, node_in};
+ghost use Rattle.op_reader.specs.inner.RoleLists.{View, node_in};
 ghost use Rattle.op_reader.specs.inner.Pieces.{PieceBelow};
 ghost use Rattle.op_reader.specs.inner.Level.{Extends, row_in, nodes_in, level_in, known_in, LevelBelow, piece_in};
 

@@ -11,7 +11,7 @@ use Rattle.op_reader.specs.declared.level.ListNames.{ListNames}
 use Rattle.op_reader.specs.declared.terms.Pending.{Pending}
 use Rattle.op_reader.specs.Row.{Piece, operand, operator}
 use Rattle.op_reader.specs.Terms.{Read, Known, read_rows}
-use Rattle.op_reader.specs.inner.Marks.{View, Layers, node_in, operator_in}
+use Rattle.op_reader.specs.inner.RoleLists.{View, Layers, node_in, operator_in}
 use Rattle.op_reader.specs.inner.Pieces.{PieceBelow}
 
 -- a view of these nodes, and perhaps more
@@ -42,7 +42,7 @@ pub record LevelBelow (n : ℕ) (l : Level) : Type 0 where
   pub rest : All (λ m. m < n) l.rest.items
   pub tail : IfSome l.tail (λ m. m < n)
 
--- levels that are held, the outermost first, read as the layers of marks
+-- levels that are held, the outermost first, read as the layers of roles
 abbrev pub nothing_read : Read (List ℕ)
 nothing_read = record { row = []; rest = []; tail = None }
 

@@ -1,4 +1,4 @@
-use Rattle.op_reader.proofs.role.on_operator.Goals as goal
+use Rattle.op_reader.proofs.roles.on_operator.Goals as goal
 
 pub returns-in-Comma-clause-below : goal.returns-in-Comma-clause-below
 returns-in-Comma-clause-below c n w = c.on_comma.ensures.below n

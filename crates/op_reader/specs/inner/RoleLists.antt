@@ -1,4 +1,4 @@
--- The roles of words as a row of marks, and what the words that are left make of them.
+-- The list of roles that the code makes of words, as the rows of the definition; and what the words that are left add to it.
 use Rattle.std.specs.Prelude.{◌≡◌, ◌<◌, ℕ, map, drop, reverse, All, List, [], ◌∷◌, Option, Some, None, Result, Ok, Err}
 use Rattle.op_logic.specs.Term.{Term}
 use Rattle.op_logic.specs.Names.{name_at, named}
@@ -12,17 +12,17 @@ use Rattle.op_reader.specs.declared.word.AsOperator.{AsOperator as AsOperatorHel
 use Rattle.op_reader.specs.declared.word.AsOperator.TheVariants.{Joins, Misplaced}
 use Rattle.op_reader.specs.declared.word.Word.{Word as WordHeld}
 use Rattle.op_reader.specs.declared.word.Word.TheVariants.{Opened, Closed as ClosedHeld, Comma, Bar, Other}
-use Rattle.op_reader.specs.declared.mark.Mark.{Mark}
-use Rattle.op_reader.specs.declared.mark.Mark.TheVariants.{Separator, Tail, Operator as AnOperator, Operand, Excess, Compound, Bracketed}
-use Rattle.op_reader.specs.declared.mark.Mark.TheVariants.{Closed}
-use Rattle.op_reader.specs.declared.role.Expected.{Expected as ExpectedHeld}
-use Rattle.op_reader.specs.declared.role.Expected.TheVariants.{Operand as ExpectsOperand, Operator as ExpectsOperator}
-use Rattle.op_reader.specs.declared.role.Expected.TheVariants.{Arguments as ExpectsArguments, Number}
-use Rattle.op_reader.specs.declared.role.Step.{Step}
-use Rattle.op_reader.specs.declared.role.Step.TheVariants.{On, Skip, Enter, Leave, Refused}
-use Rattle.op_reader.specs.declared.role.Spot.{Spot}
-use Rattle.op_reader.specs.declared.role.Roles.{Roles}
-use Rattle.op_reader.specs.declared.role.Roles.TheVariants.{Marks, Refused as RolesRefused}
+use Rattle.op_reader.specs.declared.role.Role.{Role}
+use Rattle.op_reader.specs.declared.role.Role.TheVariants.{Separator, Tail, Operator as AnOperator, Operand, Excess, Compound, Bracketed}
+use Rattle.op_reader.specs.declared.role.Role.TheVariants.{Closed}
+use Rattle.op_reader.specs.declared.roles.Expected.{Expected as ExpectedHeld}
+use Rattle.op_reader.specs.declared.roles.Expected.TheVariants.{Operand as ExpectsOperand, Operator as ExpectsOperator}
+use Rattle.op_reader.specs.declared.roles.Expected.TheVariants.{Arguments as ExpectsArguments, Number}
+use Rattle.op_reader.specs.declared.roles.Step.{Step}
+use Rattle.op_reader.specs.declared.roles.Step.TheVariants.{On, Skip, Enter, Leave, Refused}
+use Rattle.op_reader.specs.declared.roles.Spot.{Spot}
+use Rattle.op_reader.specs.declared.roles.Roles.{Roles}
+use Rattle.op_reader.specs.declared.roles.Roles.TheVariants.{Given, Refused as RolesRefused}
 use Rattle.op_reader.specs.Row.{Operator}
 use Rattle.op_reader.specs.Words.{AsOperand, functor, sign, prefix, plain, excess, AsOperator, joins, misplaced, Word, opened, closed}
 use Rattle.op_reader.specs.Words.{comma, bar, word}
@@ -74,26 +74,26 @@ abbrev pub enclosing : (Rows (List ℕ) → Rows (List ℕ) → Rows (List ℕ))
 enclosing f r [] = record { inner = f r done; outer = [] }
 enclosing f r (o ∷ os) = record { inner = f r o; outer = os }
 
-abbrev pub with_mark : View → Mark → Layers → Layers
-with_mark v Separator l = on_inner separator l
-with_mark v Tail l = on_inner tail l
-with_mark v (AnOperator o) l = on_inner (operator (operator_in v o)) l
-with_mark v (Operand n) l = on_inner (operand (node_in v n)) l
-with_mark v (Excess place) l = on_inner (too_great place) l
-with_mark v (Compound f) l = enclosing (compound (name_at v.names f.0)) l.inner l.outer
-with_mark v (Bracketed b) l = enclosing (bracketed b) l.inner l.outer
-with_mark v Closed l = record { inner = done; outer = l.inner ∷ l.outer }
+abbrev pub with_role : View → Role → Layers → Layers
+with_role v Separator l = on_inner separator l
+with_role v Tail l = on_inner tail l
+with_role v (AnOperator o) l = on_inner (operator (operator_in v o)) l
+with_role v (Operand n) l = on_inner (operand (node_in v n)) l
+with_role v (Excess place) l = on_inner (too_great place) l
+with_role v (Compound f) l = enclosing (compound (name_at v.names f.0)) l.inner l.outer
+with_role v (Bracketed b) l = enclosing (bracketed b) l.inner l.outer
+with_role v Closed l = record { inner = done; outer = l.inner ∷ l.outer }
 
-abbrev pub with_marks : View → List Mark → Layers → Layers
-with_marks v [] l = l
-with_marks v (m ∷ ms) l = with_mark v m (with_marks v ms l)
+abbrev pub with_roles : View → List Role → Layers → Layers
+with_roles v [] l = l
+with_roles v (m ∷ ms) l = with_role v m (with_roles v ms l)
 
 abbrev pub no_layers : Layers
 no_layers = record { inner = done; outer = [] }
 
--- the rows that marks spell
-abbrev pub rows_of : View → List Mark → Rows (List ℕ)
-rows_of v ms = (with_marks v ms no_layers).inner
+-- the rows that roles spell
+abbrev pub rows_of : View → List Role → Rows (List ℕ)
+rows_of v ms = (with_roles v ms no_layers).inner
 
 -- the roles of the words that are left
 
@@ -133,10 +133,10 @@ on_layers f (Err place) = Err place
 
 -- what a step leaves to be done
 abbrev pub left_by : View → Within → List Within → Step → Levels (List ℕ) → Result Layers ℕ
-left_by v c cs (On m d e) l = on_layers (with_mark v m) (roles_left d cs (expected_in v e) l)
+left_by v c cs (On m d e) l = on_layers (with_role v m) (roles_left d cs (expected_in v e) l)
 left_by v c cs (Skip e) l = roles_left c cs (expected_in v e) l
-left_by v c cs (Enter m d) l = on_layers (with_mark v m) (roles_left d (c ∷ cs) an_operand l)
-left_by v c cs Leave l = on_layers (with_mark v Closed) (roles_left (outermost cs) (drop 1 cs) an_operator l)
+left_by v c cs (Enter m d) l = on_layers (with_role v m) (roles_left d (c ∷ cs) an_operand l)
+left_by v c cs Leave l = on_layers (with_role v Closed) (roles_left (outermost cs) (drop 1 cs) an_operator l)
 left_by v c cs (Refused place) l = Err place
 
 -- the step is that of the word
@@ -154,26 +154,26 @@ pub record IsLeft (before after : Spot) : Type 0 where
   pub outer : reverse after.outer.items ≡ drop 1 (reverse before.outer.items)
   pub expected : after.expected ≡ ExpectsOperator
 
--- a word's mark joins, or the word can't stand there: in either case with whatever words behind it
-abbrev pub Advances : Spot → List Mark → WordHeld → Spot → List Mark → Option ℕ → Type 0
+-- a word's role joins, or the word can't stand there: in either case with whatever words behind it
+abbrev pub Advances : Spot → List Role → WordHeld → Spot → List Role → Option ℕ → Type 0
 Advances before ms w after ns None =
     (v : View) (l : Levels (List ℕ)) →
-    on_layers (with_marks v ms) (left_at v before (with_word (word_in v w) l)) ≡ on_layers (with_marks v ns) (left_at v after l)
+    on_layers (with_roles v ms) (left_at v before (with_word (word_in v w) l)) ≡ on_layers (with_roles v ns) (left_at v after l)
 Advances before ms w after ns (Some place) = (v : View) (l : Levels (List ℕ)) → left_at v before (with_word (word_in v w) l) ≡ Err place
 
 -- no words are left
-abbrev pub IsEnded : ExpectedHeld → List Mark → ℕ → Roles → Type 0
-IsEnded e ms stop (Marks ns) = (e ≡ ExpectsOperator) × (ns.items ≡ ms)
+abbrev pub IsEnded : ExpectedHeld → List Role → ℕ → Roles → Type 0
+IsEnded e ms stop (Given ns) = (e ≡ ExpectsOperator) × (ns.items ≡ ms)
 IsEnded e ms stop (RolesRefused place) = (v : View) (c : Within) → roles c (expected_in v e) none stop ≡ Err place
 
--- a step's mark has the word's node
-abbrev pub MarkBelow : ℕ → Mark → Type 0
-MarkBelow n (Operand m) = m < n
-MarkBelow n m = Unit {0}
+-- a step's role has the word's node
+abbrev pub RoleBelow : ℕ → Role → Type 0
+RoleBelow n (Operand m) = m < n
+RoleBelow n m = Unit {0}
 
 abbrev pub StepBelow : ℕ → Step → Type 0
-StepBelow n (On m c e) = MarkBelow n m
-StepBelow n (Enter m c) = MarkBelow n m
+StepBelow n (On m c e) = RoleBelow n m
+StepBelow n (Enter m c) = RoleBelow n m
 StepBelow n s = Unit {0}
 
 abbrev pub OperandBelow : ℕ → AsOperandHeld → Type 0
@@ -186,19 +186,19 @@ WordBelow n (Other place a o) = OperandBelow n a
 WordBelow n w = Unit {0}
 
 abbrev pub RolesBelow : ℕ → Roles → Type 0
-RolesBelow n (Marks ms) = All (MarkBelow n) ms.items
+RolesBelow n (Given ms) = All (RoleBelow n) ms.items
 RolesBelow n (RolesRefused place) = Unit {0}
 
 -- the roles of a clause's words, where its brackets match
 abbrev pub HasRoles : ℕ → List WordHeld → Roles → Type 0
-HasRoles stop ws (Marks ms) =
+HasRoles stop ws (Given ms) =
     (v : View) → (levels_of stop (map (word_in v) ws)).outer ≡ [] →
-    (clause_roles stop (map (word_in v) ws) ≡ Ok (rows_of v ms.items)) × ((with_marks v ms.items no_layers).outer ≡ [])
+    (clause_roles stop (map (word_in v) ws) ≡ Ok (rows_of v ms.items)) × ((with_roles v ms.items no_layers).outer ≡ [])
 HasRoles stop ws (RolesRefused place) =
     (v : View) → (levels_of stop (map (word_in v) ws)).outer ≡ [] → clause_roles stop (map (word_in v) ws) ≡ Err place
 
 -- the first integer that is too great
-abbrev pub first_excess : List Mark → Option ℕ
+abbrev pub first_excess : List Role → Option ℕ
 first_excess [] = None
 first_excess (Excess place ∷ ms) = Some place
 first_excess (m ∷ ms) = first_excess ms
