@@ -5,8 +5,8 @@ use Rattle.std.specs.Str.{IsUtf8}
 use Rattle.std.proofs.lemmas.List.{append_assoc}
 use Rattle.op_logic.specs.Term.{Term, node, Args, no_args, arg}
 use Rattle.op_term.specs.Ops.{Table, IsTable}
-use Rattle.op_reader.specs.declared.within.Within.{Within}
-use Rattle.op_reader.specs.declared.within.Within.TheVariants.{Arguments}
+use Rattle.op_reader.specs.declared.row_kind.RowKind.{RowKind}
+use Rattle.op_reader.specs.declared.row_kind.RowKind.TheVariants.{Arguments}
 use Rattle.op_reader.specs.Roles.{an_operator}
 use Rattle.op_reader.specs.Terms.{args_of}
 use Rattle.op_writer.specs.declared.style.Style.{Style}
@@ -31,7 +31,7 @@ module _ (ops : Table) (table : IsTable ops) (n : ℕ) (style : Style) where
 
   -- a term within each bound
   abbrev pub Reads : Term Text → Type 0
-  Reads t = (bound : Bound) (c : Within) → Suits c (limit bound) → (ns : List Mark) → Behind ops table n bound ns
+  Reads t = (bound : Bound) (c : RowKind) → Suits c (limit bound) → (ns : List Mark) → Behind ops table n bound ns
       → Takes ops table n c (marks_of ops style t (within bound)) ns (row_of ops style t bound)
 
   abbrev pub AllRead : Args Text → Type 0
@@ -67,7 +67,7 @@ module _ (ops : Table) (table : IsTable ops) (n : ℕ) (style : Style) where
       (furthers us h.1 ns a.after a.edge false)) at e l)
 
   -- a compound in functional notation
-  pub functional : (f : Text) → IsUtf8 f → (t : Term Text) (us : Args Text) → Reads t → AllRead us → (c : Within) (ns : List Mark)
+  pub functional : (f : Text) → IsUtf8 f → (t : Term Text) (us : Args Text) → Reads t → AllRead us → (c : RowKind) (ns : List Mark)
       → Takes ops table n c (functional_marks f (marks_of ops style t ∷ all_marks ops style us)) ns (alone (node f (arg t us)))
   functional f u t us ht hs c ns at e l =
       let xs = marks_of ops style t (within argument) in let ys = further_marks (all_marks ops style us) in

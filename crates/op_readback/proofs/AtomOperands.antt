@@ -7,8 +7,8 @@ use Rattle.op_logic.proofs.Tests.{by_test}
 use Rattle.op_logic.specs.Term.{Term, node, atom, no_args, arg}
 use Rattle.op_term.specs.Ops.{Table, IsTable, prefix_in, infix_in, postfix_in}
 use Rattle.op_term.specs.declared.ops.Meaning.{Meaning}
-use Rattle.op_reader.specs.declared.within.Within.{Within}
-use Rattle.op_reader.specs.declared.within.Within.TheVariants.{Clause}
+use Rattle.op_reader.specs.declared.row_kind.RowKind.{RowKind}
+use Rattle.op_reader.specs.declared.row_kind.RowKind.TheVariants.{Clause}
 use Rattle.op_reader.specs.Row.{tree}
 use Rattle.op_writer.specs.declared.style.Style.{Style}
 use Rattle.op_writer.specs.declared.bound.Bound.{Bound}
@@ -59,7 +59,7 @@ module _ (ops : Table) (table : IsTable ops) (n : ℕ) (style : Style) where
   T = tokens
 
   -- operators in brackets where they are operands, other atoms as they are
-  plain-atom : (f : Text) (c : Within) (bound : Bound) → (is_operand bound && is_operator ops f) ≡ false → (ns : List Mark)
+  plain-atom : (f : Text) (c : RowKind) (bound : Bound) → (is_operand bound && is_operator ops f) ≡ false → (ns : List Mark)
       → Behind ops table n bound ns → Takes ops table n c (name f ∷ []) ns (alone (atom f))
   plain-atom f c bound q ns h at e l = atom-taken ops table n c f ns (λ at e. ((h at e).0, (h at e).1))
       (λ at e P p r. by_test (is_operand bound)
@@ -68,7 +68,7 @@ module _ (ops : Table) (table : IsTable ops) (n : ℕ) (style : Style) where
       (sym (ap (λ (x : Bool). x && is_operator ops f) o) ∙ q)))))
       (λ o. r ((h at e).2 o))) at e l
 
-  pub reads-atom : (f : Text) (c : Within) (bound : Bound) (ns : List Mark) → Behind ops table n bound ns
+  pub reads-atom : (f : Text) (c : RowKind) (bound : Bound) (ns : List Mark) → Behind ops table n bound ns
       → Takes ops table n c (atom_marks ops f bound) ns (alone (atom f))
   reads-atom f c bound ns h at e l = by_test (is_operand bound && is_operator ops f)
       (λ q. subst (λ (b : Bool). Taken ops n c (T at e l (in_brackets b (name f ∷ []) ++ ns)) ns (alone (atom f))) (sym q)
@@ -94,7 +94,7 @@ module _ (ops : Table) (table : IsTable ops) (n : ℕ) (style : Style) where
 
   -- a term in braces
   pub reads-braces : (f : Text) (a : Term Text) → f ≡ codes "{}" → Starts ops table n style a → Reads ops table n style a
-      → (c : Within) (ns : List Mark)
+      → (c : RowKind) (ns : List Mark)
       → Takes ops table n c (sign 123 ∷ (marks_of ops style a (within (Whole 1200)) ++ sign 125 ∷ [])) ns (alone (node f (arg a no_args)))
   reads-braces f a q sa ra c ns at e l =
       let xs = marks_of ops style a (within (Whole 1200)) in

@@ -8,8 +8,8 @@ use Rattle.op_term.specs.Ops.{Table}
 use Rattle.op_token.specs.declared.token.TokenKind.TheVariants.{OpenRound, CloseRound, OpenSquare, CloseSquare, OpenCurly, CloseCurly}
 use Rattle.op_token.specs.declared.token.TokenKind.TheVariants.{Comma, Bar}
 use Rattle.op_reader.specs.declared.bracket.Bracket.TheVariants.{Round, Square, Curly}
-use Rattle.op_reader.specs.declared.within.Within.{Within}
-use Rattle.op_reader.specs.declared.within.Within.TheVariants.{Clause, Arguments, Elements, Last}
+use Rattle.op_reader.specs.declared.row_kind.RowKind.{RowKind}
+use Rattle.op_reader.specs.declared.row_kind.RowKind.TheVariants.{Clause, Arguments, Elements, Last}
 use Rattle.op_reader.specs.Row.{Piece, operand as a_piece, tree}
 use Rattle.op_reader.specs.Words.{AsOperand, functor, Word, word, comma, bar, as_operator, is_empty_pair}
 use Rattle.op_reader.specs.Roles.{none, single, with_opening, levels_of, done, separator, tail, an_operand, an_operator, on_rows}
@@ -29,7 +29,7 @@ module _ (ops : Table) (n : ℕ) where
   abbrev T : ℕ → Edge → Bool → List Mark → List Known
   T = tokens
 
-  pub closed-round : (c : Within) (ns : List Mark) (at : ℕ) (e : Edge) (l : Bool)
+  pub closed-round : (c : RowKind) (ns : List Mark) (at : ℕ) (e : Edge) (l : Bool)
       → Ended ops n c an_operator (T at e l (sign 41 ∷ ns)) ns [] [] None
   closed-round c ns at e l = step (λ ks. Ended ops n c an_operator ks ns [] [] None) (sign 41) ns refl at e l (λ at1 l1 _ _ _.
       let js = T (at1 + 1) (edge_behind e (mark_piece (sign 41))) false ns in
@@ -45,7 +45,7 @@ module _ (ops : Table) (n : ℕ) where
         is_excess = refl;
       })
 
-  pub closed-square : (c : Within) (ns : List Mark) (at : ℕ) (e : Edge) (l : Bool)
+  pub closed-square : (c : RowKind) (ns : List Mark) (at : ℕ) (e : Edge) (l : Bool)
       → Ended ops n c an_operator (T at e l (sign 93 ∷ ns)) ns [] [] None
   closed-square c ns at e l = step (λ ks. Ended ops n c an_operator ks ns [] [] None) (sign 93) ns refl at e l (λ at1 l1 _ _ _.
       let js = T (at1 + 1) (edge_behind e (mark_piece (sign 93))) false ns in
@@ -61,7 +61,7 @@ module _ (ops : Table) (n : ℕ) where
         is_excess = refl;
       })
 
-  pub closed-curly : (c : Within) (ns : List Mark) (at : ℕ) (e : Edge) (l : Bool)
+  pub closed-curly : (c : RowKind) (ns : List Mark) (at : ℕ) (e : Edge) (l : Bool)
       → Ended ops n c an_operator (T at e l (sign 125 ∷ ns)) ns [] [] None
   closed-curly c ns at e l = step (λ ks. Ended ops n c an_operator ks ns [] [] None) (sign 125) ns refl at e l (λ at1 l1 _ _ _.
       let js = T (at1 + 1) (edge_behind e (mark_piece (sign 125))) false ns in
@@ -171,7 +171,7 @@ module _ (ops : Table) (n : ℕ) where
       ap (levels_of n) (no-pair ops (tok OpenCurly a b l, []) js h ∙ ap (λ (w : Word Text). w ∷ k_words ops false js)
       (if_false (is_empty_pair OpenCurly (firsts js)) _ _ h))
 
-  pub round-taken : (c : Within) (ms ns : List Mark) (row : List (Piece Text)) (ts : List (Term Text)) (tl : Option (Term Text))
+  pub round-taken : (c : RowKind) (ms ns : List Mark) (row : List (Piece Text)) (ts : List (Term Text)) (tl : Option (Term Text))
       (t : Term Text) → bracketed_of known Round (read row ts tl) ≡ Some t
       → ((at : ℕ) (e : Edge) → Ended ops n Clause an_operand (T at e false ms) ns row ts tl) → (at : ℕ) (e : Edge) (l : Bool)
       → Taken ops n c (T at e l (sign 40 ∷ ms)) ns (a_piece t ∷ [])
@@ -179,7 +179,7 @@ module _ (ops : Table) (n : ℕ) where
       let e1 = edge_behind e (mark_piece (sign 40)) in let js = T (at1 + 1) e1 false ms in
       in-brackets ops n c Round at1 _ js ns row ts tl t (round-opens at1 (at1 + 1) l1 js) (f (at1 + 1) e1) h)
 
-  pub square-taken : (c : Within) (ms ns : List Mark) (row : List (Piece Text)) (ts : List (Term Text)) (tl : Option (Term Text))
+  pub square-taken : (c : RowKind) (ms ns : List Mark) (row : List (Piece Text)) (ts : List (Term Text)) (tl : Option (Term Text))
       (t : Term Text) → bracketed_of known Square (read row ts tl) ≡ Some t
       → ((at : ℕ) (e : Edge) → is_empty_pair OpenSquare (firsts (T at e false ms)) ≡ false)
       → ((at : ℕ) (e : Edge) → Ended ops n Elements an_operand (T at e false ms) ns row ts tl) → (at : ℕ) (e : Edge) (l : Bool)
@@ -189,7 +189,7 @@ module _ (ops : Table) (n : ℕ) where
       let e1 = edge_behind e (mark_piece (sign 91)) in let js = T (at1 + 1) e1 false ms in
       in-brackets ops n c Square at1 _ js ns row ts tl t (square-opens at1 (at1 + 1) l1 js (k (at1 + 1) e1)) (f (at1 + 1) e1) h)
 
-  pub curly-taken : (c : Within) (ms ns : List Mark) (row : List (Piece Text)) (ts : List (Term Text)) (tl : Option (Term Text))
+  pub curly-taken : (c : RowKind) (ms ns : List Mark) (row : List (Piece Text)) (ts : List (Term Text)) (tl : Option (Term Text))
       (t : Term Text) → bracketed_of known Curly (read row ts tl) ≡ Some t
       → ((at : ℕ) (e : Edge) → is_empty_pair OpenCurly (firsts (T at e false ms)) ≡ false)
       → ((at : ℕ) (e : Edge) → Ended ops n Clause an_operand (T at e false ms) ns row ts tl) → (at : ℕ) (e : Edge) (l : Bool)
@@ -200,7 +200,7 @@ module _ (ops : Table) (n : ℕ) where
       in-brackets ops n c Curly at1 _ js ns row ts tl t (curly-opens at1 (at1 + 1) l1 js (k (at1 + 1) e1)) (f (at1 + 1) e1) h)
 
   -- a functor and its arguments
-  pub functor-taken : (c : Within) (f : Text) → IsUtf8 f → (ms ns : List Mark) (row : List (Piece Text)) (ts : List (Term Text))
+  pub functor-taken : (c : RowKind) (f : Text) → IsUtf8 f → (ms ns : List Mark) (row : List (Piece Text)) (ts : List (Term Text))
       (tl : Option (Term Text)) (t : Term Text) → compound_of f (read row ts tl) ≡ Some t
       → ((at : ℕ) (e : Edge) → Ended ops n Arguments an_operand (T at e false ms) ns row ts tl) → (at : ℕ) (e : Edge) (l : Bool)
       → Taken ops n c (T at e l (name f ∷ sign 40 ∷ ms)) ns (a_piece t ∷ [])

@@ -4,8 +4,8 @@ use Rattle.std.specs.Prelude.{codes, option_map, unwrap_or}
 use Rattle.std.proofs.lemmas.List.{append_assoc}
 use Rattle.op_logic.specs.Term.{Term, node, atom, no_args, arg}
 use Rattle.op_term.specs.Ops.{Table, IsTable}
-use Rattle.op_reader.specs.declared.within.Within.{Within}
-use Rattle.op_reader.specs.declared.within.Within.TheVariants.{Elements, Last}
+use Rattle.op_reader.specs.declared.row_kind.RowKind.{RowKind}
+use Rattle.op_reader.specs.declared.row_kind.RowKind.TheVariants.{Elements, Last}
 use Rattle.op_reader.specs.Words.{list_of}
 use Rattle.op_reader.specs.Roles.{an_operand, an_operator}
 use Rattle.op_writer.specs.declared.style.Style.{Style}
@@ -97,7 +97,7 @@ module _ (ops : Table) (table : IsTable ops) (n : ℕ) (style : Style) where
 
   -- a list
   pub reads-list : (f : Text) (a t : Term Text) (ys : List Mark) → f ≡ codes "." → Starts ops table n style a → Reads ops table n style a
-      → Tail t ys → (c : Within) (ns : List Mark)
+      → Tail t ys → (c : RowKind) (ns : List Mark)
       → Takes ops table n c (sign 91 ∷ (marks_of ops style a (within argument) ++ ys)) ns (alone (node f (arg a (arg t no_args))))
   reads-list f a t ys q sa ra d c ns at e l =
       let xs = marks_of ops style a (within argument) in

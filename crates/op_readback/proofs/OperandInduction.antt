@@ -7,8 +7,8 @@ use Rattle.op_logic.proofs.Tests.{by_test, if_true, if_false}
 use Rattle.op_logic.specs.Term.{Term, var, int, node, Args, no_args, arg, arity}
 use Rattle.op_term.specs.Ops.{Table, IsTable, prefix_in, infix_in, postfix_in}
 use Rattle.op_term.specs.declared.ops.Meaning.{Meaning}
-use Rattle.op_reader.specs.declared.within.Within.{Within}
-use Rattle.op_reader.specs.declared.within.Within.TheVariants.{Last}
+use Rattle.op_reader.specs.declared.row_kind.RowKind.{RowKind}
+use Rattle.op_reader.specs.declared.row_kind.RowKind.TheVariants.{Last}
 use Rattle.op_writer.specs.declared.style.Style.{Style}
 use Rattle.op_writer.specs.declared.bound.Bound.{Bound}
 use Rattle.op_writer.specs.declared.notation.Notation.{Notation}
@@ -97,7 +97,7 @@ module _ (ops : Table) (table : IsTable ops) (n : ℕ) (style : Style) where
 
   -- compounds, by their notation
   abbrev ReadsIn : Text → Term Text → Args Text → Notation → Type 0
-  ReadsIn f a ts nt = (bound : Bound) (c : Within) → Suits c (limit bound) → (ns : List Mark) → Behind ops table n bound ns
+  ReadsIn f a ts nt = (bound : Bound) (c : RowKind) → Suits c (limit bound) → (ns : List Mark) → Behind ops table n bound ns
       → Takes ops table n c (compound_marks f (marks_of ops style a ∷ all_marks ops style ts) bound nt) ns
       (notation_row (node f (arg a ts)) f (row_of ops style a ∷ rows_of ops style ts) bound nt)
 

@@ -11,8 +11,8 @@ use Rattle.op_term.specs.Ops.{Table, IsTable, IsMeaning, prefix_in, infix_in, po
 use Rattle.op_term.specs.declared.ops.OpKind.{OpKind}
 use Rattle.op_term.specs.declared.ops.OpKind.TheVariants.{Xfx, Xfy, Yfx, Fy, Fx, Xf, Yf}
 use Rattle.op_term.specs.declared.ops.Meaning.{Meaning}
-use Rattle.op_reader.specs.declared.within.Within.{Within}
-use Rattle.op_reader.specs.declared.within.Within.TheVariants.{Clause, Arguments, Elements, Last}
+use Rattle.op_reader.specs.declared.row_kind.RowKind.{RowKind}
+use Rattle.op_reader.specs.declared.row_kind.RowKind.TheVariants.{Clause, Arguments, Elements, Last}
 use Rattle.op_reader.specs.Row.{Piece, operator as an_op, tree}
 use Rattle.op_reader.specs.Words.{operator_of}
 use Rattle.op_writer.specs.declared.style.Style.TheVariants.{Quoted}
@@ -35,19 +35,19 @@ abbrev Text : Type 0
 Text = List ℕ
 
 -- rows within 999 stand anywhere, others in clauses
-abbrev pub Suits : Within → ℕ → Type 0
+abbrev pub Suits : RowKind → ℕ → Type 0
 Suits Clause p = Unit {0}
 Suits Arguments p = p ≤ 999
 Suits Elements p = p ≤ 999
 Suits Last p = p ≤ 999
 
-pub suits-weak : (c : Within) (p q : ℕ) → q ≤ p → Suits c p → Suits c q
+pub suits-weak : (c : RowKind) (p q : ℕ) → q ≤ p → Suits c p → Suits c q
 suits-weak Clause p q h s = tt
 suits-weak Arguments p q h s = omega (arith, h, s)
 suits-weak Elements p q h s = omega (arith, h, s)
 suits-weak Last p q h s = omega (arith, h, s)
 
-suits-comma : (c : Within) (p : ℕ) → p ≡ 1000 → Suits c p → c ≡ Clause
+suits-comma : (c : RowKind) (p : ℕ) → p ≡ 1000 → Suits c p → c ≡ Clause
 suits-comma Clause p e s = refl
 suits-comma Arguments p e s = absurd (omega (arith, e, s))
 suits-comma Elements p e s = absurd (omega (arith, e, s))
@@ -88,12 +88,12 @@ module _ (ops : Table) (table : IsTable ops) (n : ℕ) where
       }
 
   -- an operand's words, from any text that ends before it
-  abbrev pub Takes : Within → List Mark → List Mark → List (Piece Text) → Type 0
+  abbrev pub Takes : RowKind → List Mark → List Mark → List (Piece Text) → Type 0
   Takes c xs ns row = (at : ℕ) (e : Edge) (l : Bool) → Taken ops n c (T at e l (xs ++ ns)) ns row
 
   -- in brackets where it doesn't fit
-  pub boxed : (t : Term Text) (xs : List Mark) (row : List (Piece Text)) (p : ℕ) (b : Bool) (bound : Bound) (c : Within)
-      → ((c : Within) → Suits c p → (ns : List Mark) → Behind (Operand 0) ns → Takes c xs ns row)
+  pub boxed : (t : Term Text) (xs : List Mark) (row : List (Piece Text)) (p : ℕ) (b : Bool) (bound : Bound) (c : RowKind)
+      → ((c : RowKind) → Suits c p → (ns : List Mark) → Behind (Operand 0) ns → Takes c xs ns row)
       → (b ≡ true → Suits c p) → tree 1200 row ≡ Some t → (ns : List Mark) → Behind bound ns
       → Takes c (in_brackets (not b) xs) ns (cond b row (alone t))
   boxed t xs row p true bound c core s h ns f at e l = core c (s refl) ns (as-operand bound (Operand 0) ns refl f) at e l
@@ -123,9 +123,9 @@ module _ (ops : Table) (table : IsTable ops) (n : ℕ) where
 
   -- an infix operator and its operands
   pub infix-core : (f : Text) (m : Meaning) → infix_in ops f ≡ Some m → (xs ys : List Mark) (ra rb : List (Piece Text))
-      → ((c : Within) → Suits c (limit (left_of m)) → (ns : List Mark) → Behind (left_of m) ns → Takes c xs ns ra)
-      → ((c : Within) → Suits c (limit (right_of m)) → (ns : List Mark) → Behind (right_of m) ns → Takes c ys ns rb)
-      → (c : Within) → Suits c m.priority → (ns : List Mark) → Behind (Operand 0) ns
+      → ((c : RowKind) → Suits c (limit (left_of m)) → (ns : List Mark) → Behind (left_of m) ns → Takes c xs ns ra)
+      → ((c : RowKind) → Suits c (limit (right_of m)) → (ns : List Mark) → Behind (right_of m) ns → Takes c ys ns rb)
+      → (c : RowKind) → Suits c m.priority → (ns : List Mark) → Behind (Operand 0) ns
       → Takes c (xs ++ (infix_marks f ++ ys)) ns (ra ++ an_op (operator_of f m) ∷ rb)
   infix-core f m h xs ys ra rb ta tb c s ns b at e l =
       let k : IsMeaning is_infix m = subst (λ (o : Option Meaning). IfSome o (IsMeaning is_infix)) h (table.infixes f) in
@@ -142,8 +142,8 @@ module _ (ops : Table) (table : IsTable ops) (n : ℕ) where
   -- a prefix operator and its operand
   pub prefix-core : (f : Text) (m : Meaning) → prefix_in ops f ≡ Some m → (ys : List Mark) (rb : List (Piece Text))
       → ((ns : List Mark) (at : ℕ) (e : Edge) (l : Bool) → Begins ops (right_of m) e l (T at e l (ys ++ ns)))
-      → ((c : Within) → Suits c (limit (right_of m)) → (ns : List Mark) → Behind (right_of m) ns → Takes c ys ns rb)
-      → (c : Within) → Suits c m.priority → (ns : List Mark) → Behind (Operand 0) ns
+      → ((c : RowKind) → Suits c (limit (right_of m)) → (ns : List Mark) → Behind (right_of m) ns → Takes c ys ns rb)
+      → (c : RowKind) → Suits c m.priority → (ns : List Mark) → Behind (Operand 0) ns
       → Takes c (prefix_marks f ++ ys) ns (an_op (operator_of f m) ∷ rb)
   prefix-core f m h ys rb bb tb c s ns b at e l =
       let ro = right-operand m in
@@ -166,8 +166,8 @@ module _ (ops : Table) (table : IsTable ops) (n : ℕ) where
 
   -- an operand and its postfix operator
   pub postfix-core : (f : Text) (m : Meaning) → postfix_in ops f ≡ Some m → (xs : List Mark) (ra : List (Piece Text))
-      → ((c : Within) → Suits c (limit (left_of m)) → (ns : List Mark) → Behind (left_of m) ns → Takes c xs ns ra)
-      → (c : Within) → Suits c m.priority → (ns : List Mark) → Behind (Operand 0) ns
+      → ((c : RowKind) → Suits c (limit (left_of m)) → (ns : List Mark) → Behind (left_of m) ns → Takes c xs ns ra)
+      → (c : RowKind) → Suits c m.priority → (ns : List Mark) → Behind (Operand 0) ns
       → Takes c (xs ++ (sign 32 ∷ name f ∷ [])) ns (ra ++ an_op (operator_of f m) ∷ [])
   postfix-core f m h xs ra ta c s ns b at e l =
       let k : IsMeaning is_postfix m = subst (λ (o : Option Meaning). IfSome o (IsMeaning is_postfix)) h (table.postfixes f) in

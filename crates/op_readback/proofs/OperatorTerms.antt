@@ -6,7 +6,7 @@ use Rattle.op_logic.proofs.Tests.{if_true}
 use Rattle.op_logic.specs.Term.{Term, node, no_args, arg}
 use Rattle.op_term.specs.Ops.{Table, IsTable, IsMeaning, is_prefix, is_infix, is_postfix}
 use Rattle.op_term.specs.declared.ops.Meaning.{Meaning}
-use Rattle.op_reader.specs.declared.within.Within.{Within}
+use Rattle.op_reader.specs.declared.row_kind.RowKind.{RowKind}
 use Rattle.op_reader.specs.Row.{Piece, tree, operator as an_op}
 use Rattle.op_writer.specs.declared.style.Style.{Style}
 use Rattle.op_writer.specs.declared.bound.Bound.{Bound}
@@ -40,7 +40,7 @@ module _ (ops : Table) (table : IsTable ops) (n : ℕ) (style : Style) where
 
   pub reads-infix : (f : Text) (a b : Term Text) (m : Meaning) → notation_of ops style f 2 ≡ Infix m → Reads ops table n style a
       → Reads ops table n style b
-      → (bound : Bound) (c : Within) → Suits c (limit bound) → (ns : List Mark) → Behind ops table n bound ns
+      → (bound : Bound) (c : RowKind) → Suits c (limit bound) → (ns : List Mark) → Behind ops table n bound ns
       → Takes ops table n c (compound_marks f (marks_of ops style a ∷ marks_of ops style b ∷ []) bound (Infix m)) ns
       (notation_row (node f (arg a (arg b no_args))) f (row_of ops style a ∷ row_of ops style b ∷ []) bound (Infix m))
   reads-infix f a b m e ra rb bound c s ns h at k l =
@@ -57,7 +57,7 @@ module _ (ops : Table) (table : IsTable ops) (n : ℕ) (style : Style) where
       (rows-are-terms ops table style t (Whole 1200))) ns h at k l
 
   pub reads-postfix : (f : Text) (a : Term Text) (m : Meaning) → notation_of ops style f 1 ≡ Postfix m → Reads ops table n style a
-      → (bound : Bound) (c : Within) → Suits c (limit bound) → (ns : List Mark) → Behind ops table n bound ns
+      → (bound : Bound) (c : RowKind) → Suits c (limit bound) → (ns : List Mark) → Behind ops table n bound ns
       → Takes ops table n c (compound_marks f (marks_of ops style a ∷ []) bound (Postfix m)) ns (notation_row (node f (arg a no_args)) f
       (row_of ops style a ∷ []) bound (Postfix m))
   reads-postfix f a m e ra bound c s ns h at k l =
@@ -76,7 +76,7 @@ module _ (ops : Table) (table : IsTable ops) (n : ℕ) (style : Style) where
       → Begins ops bound e l (T at e l (marks_of ops style t (within bound) ++ ns))
 
   pub reads-prefix : (f : Text) (a : Term Text) (m : Meaning) → notation_of ops style f 1 ≡ Prefix m → Starts a → Reads ops table n style a
-      → (bound : Bound) (c : Within) → Suits c (limit bound) → (ns : List Mark) → Behind ops table n bound ns
+      → (bound : Bound) (c : RowKind) → Suits c (limit bound) → (ns : List Mark) → Behind ops table n bound ns
       → Takes ops table n c (compound_marks f (marks_of ops style a ∷ []) bound (Prefix m)) ns (notation_row (node f (arg a no_args)) f
       (row_of ops style a ∷ []) bound (Prefix m))
   reads-prefix f a m e sa ra bound c s ns h at k l =

@@ -13,8 +13,8 @@ use Rattle.op_term.specs.declared.ops.Meaning.{Meaning}
 use Rattle.op_token.specs.declared.token.Token.{Token}
 use Rattle.op_token.specs.declared.token.TokenKind.TheVariants.{Name, Integer, Comma}
 use Rattle.op_token.specs.Spelling.{least_magnitude}
-use Rattle.op_reader.specs.declared.within.Within.{Within}
-use Rattle.op_reader.specs.declared.within.Within.TheVariants.{Clause, Arguments, Elements, Last}
+use Rattle.op_reader.specs.declared.row_kind.RowKind.{RowKind}
+use Rattle.op_reader.specs.declared.row_kind.RowKind.TheVariants.{Clause, Arguments, Elements, Last}
 use Rattle.op_reader.specs.Row.{Operator, operand as a_piece}
 use Rattle.op_reader.specs.Words.{AsOperand, prefix, plain, sign as a_sign, AsOperator, joins, misplaced, Word, word, comma, operator_of}
 use Rattle.op_reader.specs.Words.{as_operator, integer_word, signed_or_bare, opens, magnitude_behind}
@@ -47,18 +47,18 @@ module _ (ops : Table) (table : IsTable ops) (n : ℕ) where
   abbrev T : ℕ → Edge → Bool → List Mark → List Known
   T = tokens
 
-  pub joins-roles : (c : Within) (p : ℕ) (a : AsOperand Text) (o : Operator Text) (ps : Parts Text) (stop : ℕ)
+  pub joins-roles : (c : RowKind) (p : ℕ) (a : AsOperand Text) (o : Operator Text) (ps : Parts Text) (stop : ℕ)
       → roles c an_operator (single (word p a (joins o)) ps) stop ≡ on_rows (operator o) (roles c (behind_operator o) ps stop)
   joins-roles Clause p a o ps stop = refl
   joins-roles Arguments p a o ps stop = refl
   joins-roles Elements p a o ps stop = refl
   joins-roles Last p a o ps stop = refl
 
-  pub infix-behind : (c : Within) (o : Operator Text) (ps : Parts Text) (stop : ℕ) → is_infix o.kind ≡ true
+  pub infix-behind : (c : RowKind) (o : Operator Text) (ps : Parts Text) (stop : ℕ) → is_infix o.kind ≡ true
       → roles c (behind_operator o) ps stop ≡ roles c an_operand ps stop
   infix-behind c o ps stop h = ap (λ (x : Expected Text). roles c x ps stop) (if_true (is_infix o.kind) _ _ h)
 
-  pub other-behind : (c : Within) (o : Operator Text) (ps : Parts Text) (stop : ℕ) → is_infix o.kind ≡ false
+  pub other-behind : (c : RowKind) (o : Operator Text) (ps : Parts Text) (stop : ℕ) → is_infix o.kind ≡ false
       → roles c (behind_operator o) ps stop ≡ roles c an_operator ps stop
   other-behind c o ps stop h = ap (λ (x : Expected Text). roles c x ps stop) (if_false (is_infix o.kind) _ _ h)
 
@@ -97,7 +97,7 @@ module _ (ops : Table) (table : IsTable ops) (n : ℕ) where
       by_test (is_reserved f) (λ e. some-none (postfix_in ops f) m h (ap (λ r. r.as_postfix) (table.reserved f e))) (λ e. e)
 
   -- a name as an operator between or behind operands
-  abbrev pub name-link : (c : Within) (f : Text) (m : Meaning) (to : Expected Text) → is_reserved f ≡ false
+  abbrev pub name-link : (c : RowKind) (f : Text) (m : Meaning) (to : Expected Text) → is_reserved f ≡ false
       → as_operator ops f ≡ joins (operator_of f m)
       → ((ps : Parts Text) (stop : ℕ) → roles c (behind_operator (operator_of f m)) ps stop ≡ roles c to ps stop)
       → (ms : List Mark) (at : ℕ) (e : Edge) (l : Bool) → Link ops n c an_operator to (operator_of f m) (T at e l (name f ∷ ms)) ms
@@ -114,7 +114,7 @@ module _ (ops : Table) (table : IsTable ops) (n : ℕ) where
             λ ps stop. joins-roles c w.place w.operand (operator_of f m) ps stop ∙ ap (on_rows (operator (operator_of f m))) (b ps stop);
       }
 
-  spaced-link : (c : Within) (from to : Expected Text) (o : Operator Text) (ks : List Known) (ms : List Mark)
+  spaced-link : (c : RowKind) (from to : Expected Text) (o : Operator Text) (ks : List Known) (ms : List Mark)
       → Link ops n c from to o ks (sign 32 ∷ ms) → Link ops n c from to o ks ms
   spaced-link c from to o ks ms x =
       record { after = x.after + 1; edge = Other; layout = true; the_word = x.the_word; words = x.words; is_roles = x.is_roles }
@@ -133,7 +133,7 @@ module _ (ops : Table) (table : IsTable ops) (n : ℕ) where
         is_roles = λ ps stop. ap (on_rows (operator o)) (infix-behind Clause o ps stop k);
       })
 
-  pub infix-link : (c : Within) (f : Text) (m : Meaning) → infix_in ops f ≡ Some m → is_infix m.kind ≡ true
+  pub infix-link : (c : RowKind) (f : Text) (m : Meaning) → infix_in ops f ≡ Some m → is_infix m.kind ≡ true
       → (bytes_eq f (codes ",") ≡ true → c ≡ Clause)
       → (ms : List Mark) (at : ℕ) (e : Edge) (l : Bool)
       → Link ops n c an_operator an_operand (operator_of f m) (T at e l (infix_marks f ++ ms)) ms
@@ -143,7 +143,7 @@ module _ (ops : Table) (table : IsTable ops) (n : ℕ) where
       by_test (bytes_eq f (codes ","))
       (λ b. subst (λ (xs : List Mark). Link ops n c an_operator an_operand o (T at e l (xs ++ ms)) ms)
       (sym (if_true (bytes_eq f (codes ",")) _ _ b))
-      (subst (λ (c : Within). Link ops n c an_operator an_operand o (T at e l (sign 44 ∷ ms)) ms) (sym (q b))
+      (subst (λ (c : RowKind). Link ops n c an_operator an_operand o (T at e l (sign 44 ∷ ms)) ms) (sym (q b))
       (comma-link o k (sym (ap (as_operator ops) ((bytes_eq-Decides f (codes ",")).0 b)) ∙ as-infix f m h) ms at e l)))
       (λ b. subst (λ (xs : List Mark). Link ops n c an_operator an_operand o (T at e l (xs ++ ms)) ms)
       (sym (if_false (bytes_eq f (codes ",")) _ _ b))
@@ -154,14 +154,14 @@ module _ (ops : Table) (table : IsTable ops) (n : ℕ) where
       (sym (if_false (bytes_eq f (codes ";") || is_symbolic (name_text Quoted f)) _ _ s))
       (spaced-link c an_operator an_operand o (T (at + 1) Other true (name f ∷ sign 32 ∷ ms)) ms (nl (sign 32 ∷ ms) (at + 1) Other true)))))
 
-  abbrev pub postfix-link : (c : Within) (f : Text) (m : Meaning) → postfix_in ops f ≡ Some m → is_infix m.kind ≡ false
+  abbrev pub postfix-link : (c : RowKind) (f : Text) (m : Meaning) → postfix_in ops f ≡ Some m → is_infix m.kind ≡ false
       → (ms : List Mark) (at : ℕ) (e : Edge) (l : Bool)
       → Link ops n c an_operator an_operator (operator_of f m) (T at e l (sign 32 ∷ name f ∷ ms)) ms
   postfix-link c f m h k ms at e l =
       name-link c f m an_operator (postfix-unreserved f m h) (as-postfix f m h) (λ ps stop. other-behind c (operator_of f m) ps stop k) ms
       (at + 1) Other true
 
-  pub postfix-tight : (c : Within) (f : Text) (m : Meaning) (h : postfix_in ops f ≡ Some m) (k : is_infix m.kind ≡ false) (ms : List Mark)
+  pub postfix-tight : (c : RowKind) (f : Text) (m : Meaning) (h : postfix_in ops f ≡ Some m) (k : is_infix m.kind ≡ false) (ms : List Mark)
       (at : ℕ) (e : Edge) (l : Bool) → (postfix-link c f m h k ms at e l).layout ≡ false
   postfix-tight c f m h k ms at e l = refl
 
@@ -172,7 +172,7 @@ module _ (ops : Table) (table : IsTable ops) (n : ℕ) where
       by_test (bytes_eq f (codes "-")) (λ e. no-negative ops (tok Name 0 0 false, f) js (h e))
       (λ e. if_false (minus_name (tok Name 0 0 false, f)) _ _ e)
 
-  prefix-link-of : (c : Within) (f : Text) (m : Meaning) (e2 : Edge) (ks : List Known) (ms : List Mark) → prefix_in ops f ≡ Some m
+  prefix-link-of : (c : RowKind) (f : Text) (m : Meaning) (e2 : Edge) (ks : List Known) (ms : List Mark) → prefix_in ops f ≡ Some m
       → (w : NameWord ops f ms e2 ks)
       → opens (firsts (T w.after e2 false ms)) ≡ false
       → (bytes_eq f (codes "-") ≡ true → magnitude_behind (firsts (T w.after e2 false ms)) ≡ None)
@@ -193,7 +193,7 @@ module _ (ops : Table) (table : IsTable ops) (n : ℕ) where
       by_test (bytes_eq t (codes "-")) (λ e. ap (λ (x : Edge). is_apart x 40) (if_true (bytes_eq t (codes "-")) _ _ e))
       (λ e. ap (λ (x : Edge). is_apart x 40) (if_false (bytes_eq t (codes "-")) _ _ e))
 
-  pub prefix-link : (c : Within) (f : Text) (m : Meaning) (bound : Bound) → prefix_in ops f ≡ Some m → is_operand bound ≡ true
+  pub prefix-link : (c : RowKind) (f : Text) (m : Meaning) (bound : Bound) → prefix_in ops f ≡ Some m → is_operand bound ≡ true
       → (ms : List Mark) → ((at : ℕ) (e : Edge) (l : Bool) → Begins ops bound e l (T at e l ms)) → (at : ℕ) (e : Edge) (l : Bool)
       → Link ops n c an_operand an_operand (operator_of f m) (T at e l (prefix_marks f ++ ms)) ms
   prefix-link c f m bound h o ms b at e l = by_test (is_symbolic (name_text Quoted f))
@@ -211,7 +211,7 @@ module _ (ops : Table) (table : IsTable ops) (n : ℕ) where
       (prefix-link-of c f m e2 (T at e l (name f ∷ sign 32 ∷ ms)) (sign 32 ∷ ms) h w (x.laid refl) (λ q. x.laid_digit refl) (x.alone o))))
 
   -- atoms: no prefix operators, or before what ends an operand
-  pub atom-taken : (c : Within) (f : Text) (ns : List Mark)
+  pub atom-taken : (c : RowKind) (f : Text) (ns : List Mark)
       → ((at : ℕ) (e : Edge) → (opens (firsts (T at e false ns)) ≡ false) × (magnitude_behind (firsts (T at e false ns)) ≡ None))
       → ((at : ℕ) (e : Edge) (P : Type 0) → (prefix_in ops f ≡ None → P) → (k_alone ops (T at e false ns) ≡ true → P) → P)
       → (at : ℕ) (e : Edge) (l : Bool) → Taken ops n c (T at e l (name f ∷ ns)) ns (a_piece (atom f) ∷ [])
@@ -235,7 +235,7 @@ module _ (ops : Table) (table : IsTable ops) (n : ℕ) where
       ≡ over (λ ps. single (word a (a_sign (int (negsuc k))) op) (single w ps)) (levels_of n ws))
       (sym (if_false (nat_lt m least_magnitude) _ _ e)) refl)
 
-  pub int-taken : (c : Within) (i : ℤ) → IsSmall i → (ns : List Mark) (at : ℕ) (e : Edge) (l : Bool)
+  pub int-taken : (c : RowKind) (i : ℤ) → IsSmall i → (ns : List Mark) (at : ℕ) (e : Edge) (l : Bool)
       → Taken ops n c (T at e l (number i ∷ ns)) ns (a_piece (int i) ∷ [])
   int-taken c (pos k) h ns at e l =
       step (λ ks. Taken ops n c ks ns (a_piece (int (pos k)) ∷ [])) (number (pos k)) ns refl at e l (λ at1 l1 _ _ _.

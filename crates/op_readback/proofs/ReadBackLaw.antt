@@ -7,7 +7,7 @@ use Rattle.op_term.specs.Ops.{Table, IsTable}
 use Rattle.op_token.specs.declared.token.TokenFaultKind.TheVariants.{NumberRange}
 use Rattle.op_term.specs.declared.quotes.DoubleQuotes.{DoubleQuotes}
 use Rattle.op_reader.specs.declared.fault.ReadFaultKind.TheVariants.{Token as BadToken, Unbalanced, NoOperand, Priority}
-use Rattle.op_reader.specs.declared.within.Within.TheVariants.{Clause}
+use Rattle.op_reader.specs.declared.row_kind.RowKind.TheVariants.{Clause}
 use Rattle.op_reader.specs.FirstClause.{unmatched}
 use Rattle.op_reader.specs.Row.{Piece, tree}
 use Rattle.op_reader.specs.Roles.{Levels, none, Rows, done, an_operand, roles, clause_roles}

@@ -5,7 +5,7 @@ use Rattle.std.proofs.Math.ListN.{drop_of_length-le}
 use Rattle.std.specs.Prelude.{Result, Ok, Err, reverse, map}
 use Rattle.op_reader.specs.declared.role.Role.{Role}
 use Rattle.op_reader.specs.declared.word.Word.{Word as WordHeld}
-use Rattle.op_reader.specs.declared.within.Within.TheVariants.{Clause}
+use Rattle.op_reader.specs.declared.row_kind.RowKind.TheVariants.{Clause}
 use Rattle.op_reader.specs.declared.roles.Spot.{Spot}
 use Rattle.op_reader.specs.declared.roles.Roles.{Roles}
 use Rattle.op_reader.specs.declared.roles.Roles.TheVariants.{Given, Refused as RolesRefused}
@@ -27,9 +27,9 @@ roles_more v ms ns m (Ok l) e = ap Ok (with_roles_append v ms m l ∙ ap (λ ks.
 pub left_behind : (v : View) (before after : Spot) (l : Levels (List ℕ)) → IsLeft before after →
     roles_left (outermost (reverse before.outer.items)) (drop 1 (reverse before.outer.items)) an_operator l ≡ left_at v after l
 left_behind v before after l h =
-    ap (λ c. roles_left c (drop 1 (reverse before.outer.items)) an_operator l) (sym h.within)
-    ∙ ap (λ cs. roles_left after.within cs an_operator l) (sym h.outer)
-    ∙ ap (λ e. roles_left after.within (reverse after.outer.items) (expected_in v e) l) (sym h.expected)
+    ap (λ c. roles_left c (drop 1 (reverse before.outer.items)) an_operator l) (sym h.kind)
+    ∙ ap (λ cs. roles_left after.kind cs an_operator l) (sym h.outer)
+    ∙ ap (λ e. roles_left after.kind (reverse after.outer.items) (expected_in v e) l) (sym h.expected)
 
 -- the roles of a clause, where no closing bracket is without a partner
 alone_err : (r : Result (Rows (List ℕ)) ℕ) (place : ℕ) → beside r (Ok []) ≡ Err place → r ≡ Err place
@@ -96,7 +96,7 @@ finished stop ws i ms spot (Given ns) h so_far ended = λ v outer.
     let whole : roles_left Clause [] an_operand (levels_of stop (map (word_in v) ws)) ≡ Ok (with_roles v ms no_layers) =
     so_far v
     ∙ ap (λ l. on_layers (with_roles v ms) (left_at v spot l)) (none_left v stop ws i h)
-    ∙ ap (λ e. on_layers (with_roles v ms) (beside (roles spot.within (expected_in v e) none stop) (Ok []))) ended.0 in (
+    ∙ ap (λ e. on_layers (with_roles v ms) (beside (roles spot.kind (expected_in v e) none stop) (Ok []))) ended.0 in (
       whole_ok stop (map (word_in v) ws) (with_roles v ms no_layers) outer whole ∙ ap (λ ks. Ok (rows_of v ks)) (sym ended.1),
       ap (λ ks. (with_roles v ks no_layers).outer) ended.1 ∙ whole_outer stop (map (word_in v) ws) (with_roles v ms no_layers) outer whole,
     )
@@ -104,4 +104,4 @@ finished stop ws i ms spot (RolesRefused place) h so_far ended = λ v outer.
     whole_err stop (map (word_in v) ws) place outer
     (so_far v
     ∙ ap (λ l. on_layers (with_roles v ms) (left_at v spot l)) (none_left v stop ws i h)
-    ∙ ap (λ r. on_layers (with_roles v ms) (beside r (Ok []))) (ended v spot.within))
+    ∙ ap (λ r. on_layers (with_roles v ms) (beside r (Ok []))) (ended v spot.kind))

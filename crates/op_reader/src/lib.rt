@@ -15,6 +15,7 @@ pub mod reading_laws;
 mod role;
 mod roles;
 mod row;
+pub mod row_kind;
 pub mod row_laws;
 mod row_node;
 mod term_reader;
@@ -22,7 +23,6 @@ mod terms;
 mod text_node;
 mod token_text;
 mod variable;
-pub mod within;
 mod word;
 mod words;
 

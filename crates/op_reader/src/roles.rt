@@ -6,7 +6,7 @@ ghost use Rattle.op_reader.specs.inner.RoleLists.{HasRoles, first_excess, expect
 
 use crate::bracket::Bracket;
 use crate::role::Role;
-use crate::within::Within;
+use crate::row_kind::RowKind;
 use crate::word::{AsOperand, AsOperator, Operator, Word};
 use op_base::Memory;
 use op_term::{OpKind, Sym};
@@ -27,11 +27,11 @@ pub(crate) enum Expected {
 #[derive(Clone, Copy, Debug)]
 enum Step {
     /// It has a role, and then this comes next in the row, or in the tail.
-    On(Role, Within, Expected),
+    On(Role, RowKind, Expected),
     /// It has no role of its own.
     Skip(Expected),
     /// It opens a bracket.
-    Enter(Role, Within),
+    Enter(Role, RowKind),
     /// It closes the innermost bracket.
     Leave,
     /// It can't stand here.
@@ -64,33 +64,33 @@ fn behind(operator: Operator) -> Expected
     }
 }
 
-fn inside(bracket: Bracket) -> Within
+fn inside(bracket: Bracket) -> RowKind
     ensures { result ≡ the_inside bracket }
 {
     match bracket {
-        Bracket::Square => Within::Elements,
-        _ => Within::Clause,
+        Bracket::Square => RowKind::Elements,
+        _ => RowKind::Clause,
     }
 }
 
-fn on_operand(within: Within, word: Word) -> Step
-    ensures step { IsStep within Expected.Operand word result }
+fn on_operand(kind: RowKind, word: Word) -> Step
+    ensures step { IsStep kind Expected.Operand word result }
     ensures below { (n : ℕ) → WordBelow n word → StepBelow n result }
 {
     match word {
         Word::Opened(_, bracket) => Step::Enter(Role::Bracketed(bracket), inside(bracket)),
         Word::Other(_, AsOperand::Functor(name), _) => Step::Skip(Expected::Arguments(name)),
         Word::Other(_, AsOperand::Sign(node), _) => {
-            Step::On(Role::Operand(node), within, Expected::Number)
+            Step::On(Role::Operand(node), kind, Expected::Number)
         }
         Word::Other(_, AsOperand::Prefix(operator), _) => {
-            Step::On(Role::Operator(operator), within, Expected::Operand)
+            Step::On(Role::Operator(operator), kind, Expected::Operand)
         }
         Word::Other(_, AsOperand::Plain(node), _) => {
-            Step::On(Role::Operand(node), within, Expected::Operator)
+            Step::On(Role::Operand(node), kind, Expected::Operator)
         }
         Word::Other(place, AsOperand::Excess, _) => {
-            Step::On(Role::Excess(place), within, Expected::Operator)
+            Step::On(Role::Excess(place), kind, Expected::Operator)
         }
         Word::Closed(place) => Step::Refused(place),
         Word::Comma(place, _) => Step::Refused(place),
@@ -98,58 +98,58 @@ fn on_operand(within: Within, word: Word) -> Step
     }
 }
 
-fn on_comma(within: Within, place: u64, comma: AsOperator) -> Step
-    ensures step { IsStep within Expected.Operator (Word.Comma place comma) result }
+fn on_comma(kind: RowKind, place: u64, comma: AsOperator) -> Step
+    ensures step { IsStep kind Expected.Operator (Word.Comma place comma) result }
     ensures below { (n : ℕ) → StepBelow n result }
 {
-    match within {
-        Within::Clause => match comma {
+    match kind {
+        RowKind::Clause => match comma {
             AsOperator::Joins(operator) => {
-                Step::On(Role::Operator(operator), within, behind(operator))
+                Step::On(Role::Operator(operator), kind, behind(operator))
             }
             AsOperator::Misplaced => Step::Refused(place),
         },
-        Within::Arguments => Step::On(Role::Separator, within, Expected::Operand),
-        Within::Elements => Step::On(Role::Separator, within, Expected::Operand),
-        Within::Last => Step::Refused(place),
+        RowKind::Arguments => Step::On(Role::Separator, kind, Expected::Operand),
+        RowKind::Elements => Step::On(Role::Separator, kind, Expected::Operand),
+        RowKind::Last => Step::Refused(place),
     }
 }
 
-fn on_bar(within: Within, place: u64) -> Step
-    ensures step { IsStep within Expected.Operator (Word.Bar place) result }
+fn on_bar(kind: RowKind, place: u64) -> Step
+    ensures step { IsStep kind Expected.Operator (Word.Bar place) result }
     ensures below { (n : ℕ) → StepBelow n result }
 {
-    match within {
-        Within::Elements => Step::On(Role::Tail, Within::Last, Expected::Operand),
-        Within::Clause => Step::Refused(place),
-        Within::Arguments => Step::Refused(place),
-        Within::Last => Step::Refused(place),
+    match kind {
+        RowKind::Elements => Step::On(Role::Tail, RowKind::Last, Expected::Operand),
+        RowKind::Clause => Step::Refused(place),
+        RowKind::Arguments => Step::Refused(place),
+        RowKind::Last => Step::Refused(place),
     }
 }
 
-fn on_operator(within: Within, word: Word) -> Step
-    ensures step { IsStep within Expected.Operator word result }
+fn on_operator(kind: RowKind, word: Word) -> Step
+    ensures step { IsStep kind Expected.Operator word result }
     ensures below { (n : ℕ) → WordBelow n word → StepBelow n result }
 {
     match word {
         Word::Opened(place, _) => Step::Refused(place),
         Word::Closed(_) => Step::Leave,
-        Word::Comma(place, comma) => on_comma(within, place, comma),
-        Word::Bar(place) => on_bar(within, place),
+        Word::Comma(place, comma) => on_comma(kind, place, comma),
+        Word::Bar(place) => on_bar(kind, place),
         Word::Other(_, _, AsOperator::Joins(operator)) => {
-            Step::On(Role::Operator(operator), within, behind(operator))
+            Step::On(Role::Operator(operator), kind, behind(operator))
         }
         Word::Other(place, _, AsOperator::Misplaced) => Step::Refused(place),
     }
 }
 
 // A functor is followed by the opening bracket of its arguments.
-fn on_arguments(within: Within, name: Sym, word: Word) -> Step
-    ensures step { IsStep within (Expected.Arguments name) word result }
+fn on_arguments(kind: RowKind, name: Sym, word: Word) -> Step
+    ensures step { IsStep kind (Expected.Arguments name) word result }
     ensures below { (n : ℕ) → WordBelow n word → StepBelow n result }
 {
     match word {
-        Word::Opened(_, _) => Step::Enter(Role::Compound(name), Within::Arguments),
+        Word::Opened(_, _) => Step::Enter(Role::Compound(name), RowKind::Arguments),
         Word::Closed(place) => Step::Refused(place),
         Word::Comma(place, _) => Step::Refused(place),
         Word::Bar(place) => Step::Refused(place),
@@ -158,8 +158,8 @@ fn on_arguments(within: Within, name: Sym, word: Word) -> Step
 }
 
 // The number behind a sign is in the sign's term.
-fn on_number(within: Within, word: Word) -> Step
-    ensures step { IsStep within Expected.Number word result }
+fn on_number(kind: RowKind, word: Word) -> Step
+    ensures step { IsStep kind Expected.Number word result }
     ensures below { (n : ℕ) → WordBelow n word → StepBelow n result }
 {
     match word {
@@ -171,30 +171,30 @@ fn on_number(within: Within, word: Word) -> Step
     }
 }
 
-fn step_of(within: Within, expected: Expected, word: Word) -> Step
-    ensures step { IsStep within expected word result }
+fn step_of(kind: RowKind, expected: Expected, word: Word) -> Step
+    ensures step { IsStep kind expected word result }
     ensures below { (n : ℕ) → WordBelow n word → StepBelow n result }
 {
     match expected {
-        Expected::Operand => on_operand(within, word),
-        Expected::Operator => on_operator(within, word),
-        Expected::Arguments(name) => on_arguments(within, name, word),
-        Expected::Number => on_number(within, word),
+        Expected::Operand => on_operand(kind, word),
+        Expected::Operator => on_operator(kind, word),
+        Expected::Arguments(name) => on_arguments(kind, name, word),
+        Expected::Number => on_number(kind, word),
     }
 }
 
-/// Where the next word stands: what is expected, where its row stands, and where the rows around it stand, the outermost first.
+/// Where the next word stands: what is expected, the kind of its row, and the kinds of the rows around it, the outermost first.
 #[derive(Drop)]
 struct Spot {
     expected: Expected,
-    within: Within,
-    outer: Vec<Within>,
+    kind: RowKind,
+    outer: Vec<RowKind>,
 }
 
 fn leave(spot: &mut Spot)
     ensures { IsLeft spot.old spot.new }
 {
-    spot.within = spot.outer.pop().unwrap_or(Within::Clause);
+    spot.kind = spot.outer.pop().unwrap_or(RowKind::Clause);
     spot.expected = Expected::Operator;
 }
 
@@ -203,10 +203,10 @@ fn advance(spot: &mut Spot, roles: &mut Vec<Role>, word: Word) -> Result<Option<
     ensures advances { IfOk result (Advances spot.old roles.old.items word spot.new roles.new.items) }
     ensures below { OnOk result ((n : ℕ) → WordBelow n word → All (RoleBelow n) roles.old.items → All (RoleBelow n) roles.new.items) }
 {
-    match step_of(spot.within, spot.expected, word) {
-        Step::On(role, within, expected) => {
+    match step_of(spot.kind, spot.expected, word) {
+        Step::On(role, kind, expected) => {
             roles.push(role)?;
-            spot.within = within;
+            spot.kind = kind;
             spot.expected = expected;
             Ok(None)
         }
@@ -214,10 +214,10 @@ fn advance(spot: &mut Spot, roles: &mut Vec<Role>, word: Word) -> Result<Option<
             spot.expected = expected;
             Ok(None)
         }
-        Step::Enter(role, within) => {
+        Step::Enter(role, kind) => {
             roles.push(role)?;
-            spot.outer.push(spot.within)?;
-            spot.within = within;
+            spot.outer.push(spot.kind)?;
+            spot.kind = kind;
             spot.expected = Expected::Operand;
             Ok(None)
         }
@@ -250,7 +250,7 @@ pub(crate) fn roles_of(alloc: Global, words: &[Word], stop: u64) -> Result<Roles
     let mut roles = Vec::new(alloc);
     let mut spot = Spot {
         expected: Expected::Operand,
-        within: Within::Clause,
+        kind: RowKind::Clause,
         outer: Vec::new(alloc),
     };
     for word in words {

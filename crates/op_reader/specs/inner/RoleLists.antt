@@ -3,8 +3,8 @@ use Rattle.std.specs.Prelude.{◌≡◌, ◌<◌, ℕ, map, drop, reverse, All, 
 use Rattle.op_logic.specs.Term.{Term}
 use Rattle.op_logic.specs.Names.{name_at, named}
 use Rattle.op_term.specs.Places.{term_at}
-use Rattle.op_reader.specs.declared.within.Within.{Within}
-use Rattle.op_reader.specs.declared.within.Within.TheVariants.{Clause}
+use Rattle.op_reader.specs.declared.row_kind.RowKind.{RowKind}
+use Rattle.op_reader.specs.declared.row_kind.RowKind.TheVariants.{Clause}
 use Rattle.op_reader.specs.declared.word.Operator.{Operator as OperatorHeld}
 use Rattle.op_reader.specs.declared.word.AsOperand.{AsOperand as AsOperandHeld}
 use Rattle.op_reader.specs.declared.word.AsOperand.TheVariants.{Functor, Sign, Prefix, Plain, Excess as ExcessHeld}
@@ -104,7 +104,7 @@ expected_in v (ExpectsArguments f) = arguments_of (name_at v.names f.0)
 expected_in v Number = a_number
 
 -- around a clause there is none
-abbrev pub outermost : List Within → Within
+abbrev pub outermost : List RowKind → RowKind
 outermost [] = Clause
 outermost (c ∷ cs) = c
 
@@ -119,12 +119,12 @@ in_front (Ok r) (Err place) = Err place
 in_front (Err place) rs = Err place
 
 -- behind each closing bracket an operator is expected, in the row around it
-abbrev pub outer_roles : List Within → List (Level (List ℕ)) → Result (List (Rows (List ℕ))) ℕ
+abbrev pub outer_roles : List RowKind → List (Level (List ℕ)) → Result (List (Rows (List ℕ))) ℕ
 outer_roles cs [] = Ok []
 outer_roles cs (l ∷ ls) = in_front (roles (outermost cs) an_operator l.parts l.stop) (outer_roles (drop 1 cs) ls)
 
--- what is expected next, in a row that stands within the first of these
-abbrev pub roles_left : Within → List Within → Expected (List ℕ) → Levels (List ℕ) → Result Layers ℕ
+-- in a row of this kind, where the rows around it are of these kinds, and where this is expected next
+abbrev pub roles_left : RowKind → List RowKind → Expected (List ℕ) → Levels (List ℕ) → Result Layers ℕ
 roles_left c cs e l = beside (roles c e l.inner.parts l.inner.stop) (outer_roles cs l.outer)
 
 abbrev pub on_layers : (Layers → Layers) → Result Layers ℕ → Result Layers ℕ
@@ -132,7 +132,7 @@ on_layers f (Ok l) = Ok (f l)
 on_layers f (Err place) = Err place
 
 -- what a step leaves to be done
-abbrev pub left_by : View → Within → List Within → Step → Levels (List ℕ) → Result Layers ℕ
+abbrev pub left_by : View → RowKind → List RowKind → Step → Levels (List ℕ) → Result Layers ℕ
 left_by v c cs (On m d e) l = on_layers (with_role v m) (roles_left d cs (expected_in v e) l)
 left_by v c cs (Skip e) l = roles_left c cs (expected_in v e) l
 left_by v c cs (Enter m d) l = on_layers (with_role v m) (roles_left d (c ∷ cs) an_operand l)
@@ -140,17 +140,18 @@ left_by v c cs Leave l = on_layers (with_role v Closed) (roles_left (outermost c
 left_by v c cs (Refused place) l = Err place
 
 -- the step is that of the word
-abbrev pub IsStep : Within → ExpectedHeld → WordHeld → Step → Type 0
+abbrev pub IsStep : RowKind → ExpectedHeld → WordHeld → Step → Type 0
 IsStep c e w s =
-    (v : View) (cs : List Within) (l : Levels (List ℕ)) → roles_left c cs (expected_in v e) (with_word (word_in v w) l) ≡ left_by v c cs s l
+    (v : View) (cs : List RowKind) (l : Levels (List ℕ)) →
+    roles_left c cs (expected_in v e) (with_word (word_in v w) l) ≡ left_by v c cs s l
 
 -- what the words that are left make at a spot
 abbrev pub left_at : View → Spot → Levels (List ℕ) → Result Layers ℕ
-left_at v spot l = roles_left spot.within (reverse spot.outer.items) (expected_in v spot.expected) l
+left_at v spot l = roles_left spot.kind (reverse spot.outer.items) (expected_in v spot.expected) l
 
 -- behind a closing bracket
 pub record IsLeft (before after : Spot) : Type 0 where
-  pub within : after.within ≡ outermost (reverse before.outer.items)
+  pub kind : after.kind ≡ outermost (reverse before.outer.items)
   pub outer : reverse after.outer.items ≡ drop 1 (reverse before.outer.items)
   pub expected : after.expected ≡ ExpectsOperator
 
@@ -164,7 +165,7 @@ Advances before ms w after ns (Some place) = (v : View) (l : Levels (List ℕ)) 
 -- no words are left
 abbrev pub IsEnded : ExpectedHeld → List Role → ℕ → Roles → Type 0
 IsEnded e ms stop (Given ns) = (e ≡ ExpectsOperator) × (ns.items ≡ ms)
-IsEnded e ms stop (RolesRefused place) = (v : View) (c : Within) → roles c (expected_in v e) none stop ≡ Err place
+IsEnded e ms stop (RolesRefused place) = (v : View) (c : RowKind) → roles c (expected_in v e) none stop ≡ Err place
 
 -- a step's role has the word's node
 abbrev pub RoleBelow : ℕ → Role → Type 0

@@ -17,8 +17,8 @@ pub returns-in_ok-push-in-Enter-2-clause-advances : goal.returns-in_ok-push-in-E
 returns-in_ok-push-in-Enter-2-clause-advances c v l =
     ap (on_layers (with_roles v c.args.roles.now.items)) (c.in-Enter.ensures.step v (reverse c.args.spot.now.outer.items) l)
     ∙ ap (λ cs. on_layers (with_roles v c.args.roles.now.items) (on_layers (with_role v c.in-Enter.role)
-    (roles_left c.in-Enter.within cs an_operand l))) (sym (ap reverse c.in_ok-push-in-Enter-2.ensures.items
-    ∙ reverse-append c.args.spot.now.outer.items (c.args.spot.now.within ∷ [])))
+    (roles_left c.in-Enter.kind cs an_operand l))) (sym (ap reverse c.in_ok-push-in-Enter-2.ensures.items
+    ∙ reverse-append c.args.spot.now.outer.items (c.args.spot.now.kind ∷ [])))
     ∙ roles_more v c.args.roles.now.items c.push-in-Enter.new.self.items c.in-Enter.role _ c.in_ok-push-in-Enter.ensures.items
 
 pub returns-in_ok-push-in-Leave-clause-advances : goal.returns-in_ok-push-in-Leave-clause-advances

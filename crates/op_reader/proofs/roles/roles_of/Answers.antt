@@ -1,6 +1,6 @@
 use Rattle.std.proofs.Common.{◌+◌, ◌∙◌, subst, sym, ap, [], ℕ, drop}
 use Rattle.std.specs.Prelude.{map, Option, All}
-use Rattle.op_reader.specs.declared.within.Within.TheVariants.{Clause}
+use Rattle.op_reader.specs.declared.row_kind.RowKind.TheVariants.{Clause}
 use Rattle.op_reader.specs.Roles.{levels_of, an_operand}
 use Rattle.op_reader.specs.inner.RoleLists.{WordBelow, word_in, roles_left, on_layers, with_roles, left_at, Advances}
 use Rattle.op_reader.specs.declared.word.Word.{Word}

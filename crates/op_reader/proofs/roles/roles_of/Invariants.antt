@@ -1,6 +1,6 @@
 use Rattle.std.proofs.Common.{◌≡◌, drop, [], ℕ}
 use Rattle.std.specs.Prelude.{map, All}
-use Rattle.op_reader.specs.declared.within.Within.TheVariants.{Clause}
+use Rattle.op_reader.specs.declared.row_kind.RowKind.TheVariants.{Clause}
 use Rattle.op_reader.specs.Roles.{levels_of, an_operand}
 use Rattle.op_reader.specs.inner.RoleLists.{WordBelow, RoleBelow, View, word_in, with_roles, on_layers, roles_left, left_at}
 use Rattle.op_reader.proofs.roles.roles_of.Given as goal

@@ -1,9 +1,11 @@
-/// Where a row stands, which says what a comma and a bar are.
+/// The kind of a row says what a comma and a bar are in it.
 #[derive(Clone, Copy, Debug)]
-pub enum Within {
+pub enum RowKind {
     /// A clause, or the inside of `( )` and `{ }`.
     Clause,
+    /// The arguments of a compound.
     Arguments,
+    /// The elements of a list.
     Elements,
     /// The tail of a list.
     Last,
