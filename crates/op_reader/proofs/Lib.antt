@@ -2,8 +2,6 @@ mod AddedOperators
 mod ClauseOutcomes
 mod ClosedSpines
 mod FirstClauses
-mod HeldPieces
-mod HeldRows
 mod JoinedRoles
 mod JoinedWords
 mod LevelNodes
@@ -15,8 +13,10 @@ mod ReadVariables
 mod ReadingOutcomes
 mod RefusedRows
 mod RowNames
+mod RowPieces
 mod RowRoots
 mod RowShape
+mod RowStates
 mod RowsVariables
 mod ShownNodes
 pub mod Spines

@@ -1,4 +1,4 @@
--- What a row that is taken from the left holds of its pieces so far.
+-- The state of a row that is taken from the left: what is known of its pieces so far.
 use Rattle.std.specs.Prelude.{◌≡◌, ◌<◌, ℕ, map, Bool, true, false, if◌then◌else◌, List, [], ◌∷◌, ◌++◌, Option, Some, None, option_map}
 use Rattle.std.specs.Option.{MatchOption, IfSome}
 use Rattle.op_logic.specs.Term.{Term}
@@ -11,18 +11,18 @@ use Rattle.op_reader.specs.declared.row.Part.{Part}
 
 -- the operators down the right side of the tree so far, each with its left operand's node; the finished part at the lower end,
 -- unless an operand comes next; and whether the row is refused, for good
-pub record Held : Type 0 where
+pub record RowState : Type 0 where
   pub branches : List Branch
   pub last : Option Part
   pub is_refused : Bool
 
 -- no pieces
-abbrev pub no_pieces : Held
+abbrev pub no_pieces : RowState
 no_pieces = record { branches = []; last = None; is_refused = false }
 
 -- whether an operand comes next; else an operator, or the end
-abbrev pub expects_operand : Held → Bool
-expects_operand held = elim held.last [ None ↦ true | Some part ↦ false ]
+abbrev pub expects_operand : RowState → Bool
+expects_operand row = elim row.last [ None ↦ true | Some part ↦ false ]
 
 abbrev pub operator_of : ℕ → Meaning → Operator ℕ
 operator_of name meaning = record { name = name; priority = meaning.priority; kind = meaning.kind }
@@ -31,26 +31,26 @@ operator_of name meaning = record { name = name; priority = meaning.priority; ki
 abbrev pub arm_of : List (Term ℕ) → Branch → Arm ℕ
 arm_of ts b = record { op = operator_of b.name.0 b.meaning; left = option_map (term_at ts) b.left }
 
-abbrev pub spine_held : List (Term ℕ) → Held → Term ℕ → ℕ → Option (Spine ℕ)
-spine_held ts held t priority =
-    if held.is_refused then None else Some (record { arms = map (arm_of ts) held.branches; last = t; priority = priority })
+abbrev pub row_spine : List (Term ℕ) → RowState → Term ℕ → ℕ → Option (Spine ℕ)
+row_spine ts row t priority =
+    if row.is_refused then None else Some (record { arms = map (arm_of ts) row.branches; last = t; priority = priority })
 
--- the pieces so far are these: where an operator comes next, what is held is their spine; where an operand comes next, it is
+-- the pieces so far are these: where an operator comes next, the state is their spine; where an operand comes next, it is
 -- their spine with whichever operand
-abbrev pub Stands : List (Term ℕ) → List (Piece ℕ) → Held → Type 0
-Stands ts ps held =
-    MatchOption held.last
-    ((t : Term ℕ) → spine (ps ++ operand t ∷ []) ≡ spine_held ts held t 0)
-    (λ part. spine ps ≡ spine_held ts held (term_at ts part.node) part.priority)
+abbrev pub Stands : List (Term ℕ) → List (Piece ℕ) → RowState → Type 0
+Stands ts ps row =
+    MatchOption row.last
+    ((t : Term ℕ) → spine (ps ++ operand t ∷ []) ≡ row_spine ts row t 0)
+    (λ part. spine ps ≡ row_spine ts row (term_at ts part.node) part.priority)
 
--- each node that is held is below n
+-- each node of the state is below n
 abbrev pub BranchesBelow : ℕ → List Branch → Type 0
 BranchesBelow n [] = Unit {0}
 BranchesBelow n (b ∷ bs) = IfSome b.left (λ at. at < n) × BranchesBelow n bs
 
-pub record AreBelow (n : ℕ) (held : Held) : Type 0 where
-  pub branches : BranchesBelow n held.branches
-  pub last : IfSome held.last (λ part. part.node < n)
+pub record AreBelow (n : ℕ) (row : RowState) : Type 0 where
+  pub branches : BranchesBelow n row.branches
+  pub last : IfSome row.last (λ part. part.node < n)
 
 -- a node with the row's tree, or none where the row is refused
 abbrev pub IsTreeOf : List (Term ℕ) → ℕ → List (Piece ℕ) → Option ℕ → Type 0

@@ -1,4 +1,4 @@
--- What is held stands for the pieces so far, and for one more.
+-- The state of a row stands for the pieces so far, and for one more.
 use Rattle.std.proofs.Common.{◌≡◌, ℕ, ◌<◌, ◌≤◌, Bool, true, false, List, [], ◌∷◌, ◌++◌, Option, Some, None, map, length, refl, ap, sym, ◌∙◌}
 use Rattle.std.proofs.Common.{arith, subst, leb, append_assoc}
 use Rattle.std.specs.Option.{option_map, option_and_then, MatchOption}
@@ -13,7 +13,7 @@ use Rattle.op_term.specs.declared.ops.Meaning.{Meaning}
 use Rattle.op_term.specs.declared.symbols.Sym.{Sym}
 use Rattle.op_reader.specs.Row.{Piece, operand, operator, Operator, left_bound, with_one, tree}
 use Rattle.op_reader.specs.inner.Spine.{Arm, Spine, ended, whole_priority, spine}
-use Rattle.op_reader.specs.inner.Held.{Held, expects_operand, arm_of, operator_of, spine_held, Stands, BranchesBelow}
+use Rattle.op_reader.specs.inner.RowState.{RowState, expects_operand, arm_of, operator_of, row_spine, Stands, BranchesBelow}
 use Rattle.op_reader.specs.inner.Adding.{whole_term, taken, added, added_to, IsClosed, AreFalling, IsSameTo, branch_bound, last_is_below}
 use Rattle.op_reader.specs.inner.Adding.{spine_at}
 use Rattle.op_reader.specs.declared.row.Branch.{Branch}
@@ -25,18 +25,18 @@ use Rattle.op_reader.proofs.RowRoots.{right_within}
 use Rattle.op_reader.proofs.AddedOperators.{false_by}
 
 -- where an operator comes next
-pub stands_last : (ts : List (Term ℕ)) (ps : List (Piece ℕ)) (held : Held) (part : Part) → Stands ts ps held → held.last ≡ Some part
-    → spine ps ≡ spine_held ts held (term_at ts part.node) part.priority
-stands_last ts ps held part h e =
-    MatchOption-at_some ((t : Term ℕ) → spine (ps ++ operand t ∷ []) ≡ spine_held ts held t 0)
-    (λ (p : Part). spine ps ≡ spine_held ts held (term_at ts p.node) p.priority) part e h
+pub stands_last : (ts : List (Term ℕ)) (ps : List (Piece ℕ)) (row : RowState) (part : Part) → Stands ts ps row → row.last ≡ Some part
+    → spine ps ≡ row_spine ts row (term_at ts part.node) part.priority
+stands_last ts ps row part h e =
+    MatchOption-at_some ((t : Term ℕ) → spine (ps ++ operand t ∷ []) ≡ row_spine ts row t 0)
+    (λ (p : Part). spine ps ≡ row_spine ts row (term_at ts p.node) p.priority) part e h
 
 -- where an operand comes next
-pub stands_open : (ts : List (Term ℕ)) (ps : List (Piece ℕ)) (held : Held) → Stands ts ps held → held.last ≡ None → (t : Term ℕ)
-    → spine (ps ++ operand t ∷ []) ≡ spine_held ts held t 0
-stands_open ts ps held h e =
-    MatchOption-at_none ((t : Term ℕ) → spine (ps ++ operand t ∷ []) ≡ spine_held ts held t 0)
-    (λ (p : Part). spine ps ≡ spine_held ts held (term_at ts p.node) p.priority) e h
+pub stands_open : (ts : List (Term ℕ)) (ps : List (Piece ℕ)) (row : RowState) → Stands ts ps row → row.last ≡ None → (t : Term ℕ)
+    → spine (ps ++ operand t ∷ []) ≡ row_spine ts row t 0
+stands_open ts ps row h e =
+    MatchOption-at_none ((t : Term ℕ) → spine (ps ++ operand t ∷ []) ≡ row_spine ts row t 0)
+    (λ (p : Part). spine ps ≡ row_spine ts row (term_at ts p.node) p.priority) e h
 
 -- each branch allows what the last one does
 allow_all : (ts : List (Term ℕ)) (p : ℕ) (bs : List Branch) (q : ℕ) → AreFalling (map (arm_of ts) bs) q → last_is_below p bs ≡ false
@@ -49,11 +49,11 @@ allow_all ts p (b ∷ c ∷ bs) q f h =
     (omega (arith, i.0, f.0, w), i)
 
 -- an infix or postfix operator behind a row that is not refused
-module _ (ts us : List (Term ℕ)) (ps : List (Piece ℕ)) (held : Held) (part left : Part) (bs : List Branch) (o : Operator ℕ)
-    (stands : Stands ts ps held) (last : held.last ≡ Some part) (held_not : held.is_refused ≡ false)
-    (same : IsSameTo o.priority (spine_at ts held.branches part) (spine_at us bs left)) (stops : last_is_below o.priority bs ≡ false) where
-  spine_before : spine ps ≡ Some (spine_at ts held.branches part)
-  spine_before = stands_last ts ps held part stands last ∙ if_false _ _ _ held_not
+module _ (ts us : List (Term ℕ)) (ps : List (Piece ℕ)) (row : RowState) (part left : Part) (bs : List Branch) (o : Operator ℕ)
+    (stands : Stands ts ps row) (last : row.last ≡ Some part) (not_refused : row.is_refused ≡ false)
+    (same : IsSameTo o.priority (spine_at ts row.branches part) (spine_at us bs left)) (stops : last_is_below o.priority bs ≡ false) where
+  spine_before : spine ps ≡ Some (spine_at ts row.branches part)
+  spine_before = stands_last ts ps row part stands last ∙ if_false _ _ _ not_refused
 
   taken_after : (made : Term ℕ → Spine ℕ) → option_and_then (added_to o (taken o made)) (spine ps)
       ≡ option_map (below_arms (map (arm_of us) bs)) (taken o made (ended (term_at us left.node) left.priority))
@@ -61,7 +61,7 @@ module _ (ts us : List (Term ℕ)) (ps : List (Piece ℕ)) (held : Held) (part l
       ap (option_and_then (added_to o (taken o made))) spine_before
       ∙ (same.to_added o made refl
       ∙ added_below o (taken o made) (map (arm_of us) bs) (term_at us left.node) left.priority
-      (allow_all us o.priority bs left.priority (same.falls (spine_falls (length ps) ps (spine_at ts held.branches part) spine_before))
+      (allow_all us o.priority bs left.priority (same.falls (spine_falls (length ps) ps (spine_at ts row.branches part) spine_before))
       stops))
 
   refused_after : (made : Term ℕ → Spine ℕ) → left_bound o < left.priority → option_and_then (added_to o (taken o made)) (spine ps) ≡ None
@@ -76,9 +76,9 @@ module _ (ts us : List (Term ℕ)) (ps : List (Piece ℕ)) (held : Held) (part l
       taken_after made ∙ ap (option_map (below_arms (map (arm_of us) bs))) (if_true _ _ _ (le-leb left.priority (left_bound o) h))
 
 -- a row that is refused stays refused
-pub none_before : (ts : List (Term ℕ)) (ps : List (Piece ℕ)) (held : Held) (part : Part) → Stands ts ps held → held.last ≡ Some part
-    → held.is_refused ≡ true → spine ps ≡ None
-none_before ts ps held part stands last h = stands_last ts ps held part stands last ∙ if_true _ _ _ h
+pub none_before : (ts : List (Term ℕ)) (ps : List (Piece ℕ)) (row : RowState) (part : Part) → Stands ts ps row → row.last ≡ Some part
+    → row.is_refused ≡ true → spine ps ≡ None
+none_before ts ps row part stands last h = stands_last ts ps row part stands last ∙ if_true _ _ _ h
 
 two_more : (ps : List (Piece ℕ)) (o : Operator ℕ) (t : Term ℕ)
     → spine ((ps ++ operator o ∷ []) ++ operand t ∷ []) ≡ spine (ps ++ operator o ∷ operand t ∷ [])
@@ -106,9 +106,10 @@ map_push ts items bs b e = sym (ap (map (arm_of ts)) e ∙ map-append (arm_of ts
 abbrev spine_with_arms : List (Arm ℕ) → Term ℕ → ℕ → Option (Spine ℕ)
 spine_with_arms arms t q = Some (record { arms = arms; last = t; priority = q })
 
-module _ (ts us : List (Term ℕ)) (ps : List (Piece ℕ)) (held : Held) (part left : Part) (bs : List Branch) (name : Sym) (meaning : Meaning)
-    (some : 0 < meaning.priority) (stands : Stands ts ps held) (last : held.last ≡ Some part) (held_not : held.is_refused ≡ false)
-    (same : IsSameTo meaning.priority (spine_at ts held.branches part) (spine_at us bs left))
+module _ (ts us : List (Term ℕ)) (ps : List (Piece ℕ)) (row : RowState) (part left : Part) (bs : List Branch) (name : Sym)
+    (meaning : Meaning)
+    (some : 0 < meaning.priority) (stands : Stands ts ps row) (last : row.last ≡ Some part) (not_refused : row.is_refused ≡ false)
+    (same : IsSameTo meaning.priority (spine_at ts row.branches part) (spine_at us bs left))
     (stops : last_is_below meaning.priority bs ≡ false) where
   abbrev o : Operator ℕ
   o = operator_of name.0 meaning
@@ -117,7 +118,7 @@ module _ (ts us : List (Term ℕ)) (ps : List (Piece ℕ)) (held : Held) (part l
       → spine ((ps ++ operator o ∷ []) ++ operand t ∷ []) ≡ None
   infix_refused k h t =
       two_more ps o t ∙ (spine-infix o t k some ps
-      ∙ refused_after ts us ps held part left bs o stands last held_not same stops (by_infix o t) h)
+      ∙ refused_after ts us ps row part left bs o stands last not_refused same stops (by_infix o t) h)
 
   pub infix_taken : is_infix meaning.kind ≡ true → left.priority ≤ left_bound o → (items : List Branch)
       → items ≡ bs ++ branch_of name meaning (Some left.node) ∷ [] → (t : Term ℕ) →
@@ -125,12 +126,12 @@ module _ (ts us : List (Term ℕ)) (ps : List (Piece ℕ)) (held : Held) (part l
   infix_taken k h items e t =
       two_more ps o t
       ∙ (spine-infix o t k some ps
-      ∙ (accepted_after ts us ps held part left bs o stands last held_not same stops (by_infix o t) h
+      ∙ (accepted_after ts us ps row part left bs o stands last not_refused same stops (by_infix o t) h
       ∙ ap (λ (arms : List (Arm ℕ)). spine_with_arms arms t 0) (map_push us items bs (branch_of name meaning (Some left.node)) e)))
 
   pub postfix_refused : is_postfix meaning.kind ≡ true → left_bound o < left.priority → spine (ps ++ operator o ∷ []) ≡ None
   postfix_refused k h =
-      spine-postfix o k some ps ∙ refused_after ts us ps held part left bs o stands last held_not same stops (by_postfix o) h
+      spine-postfix o k some ps ∙ refused_after ts us ps row part left bs o stands last not_refused same stops (by_postfix o) h
 
   pub postfix_taken : is_postfix meaning.kind ≡ true → left.priority ≤ left_bound o → (vs : List (Term ℕ)) (now : Part) → IsKept us vs
       → BranchesBelow (length us) bs →
@@ -138,7 +139,7 @@ module _ (ts us : List (Term ℕ)) (ps : List (Piece ℕ)) (held : Held) (part l
       (term_at vs now.node) now.priority
   postfix_taken k h vs now kept there c =
       spine-postfix o k some ps
-      ∙ (accepted_after ts us ps held part left bs o stands last held_not same stops (by_postfix o) h
+      ∙ (accepted_after ts us ps row part left bs o stands last not_refused same stops (by_postfix o) h
       ∙ (ap (λ (arms : List (Arm ℕ)). spine_with_arms arms (with_one o.name (term_at us left.node)) o.priority)
       (append-nil (map (arm_of us) bs) ∙ arms_kept us vs kept bs there)
       ∙ (ap (λ (t : Term ℕ). spine_with_arms (map (arm_of vs) bs) t o.priority) (sym c.term)
@@ -151,57 +152,57 @@ added_refused ts o x [] t q h = cc
 added_refused ts o x (b ∷ []) t q h = added_here o x (arm_of ts b) [] t q (ltb-true (branch_bound b) o.priority h)
 added_refused ts o x (b ∷ c ∷ bs) t q h = added_none o x (arm_of ts b) (map (arm_of ts) (c ∷ bs)) t q (added_refused ts o x (c ∷ bs) t q h)
 
-module _ (ts : List (Term ℕ)) (ps : List (Piece ℕ)) (held : Held) (name : Sym) (meaning : Meaning) (k : is_prefix meaning.kind ≡ true)
-    (some : 0 < meaning.priority) (stands : Stands ts ps held) (last : held.last ≡ None) (held_not : held.is_refused ≡ false) where
+module _ (ts : List (Term ℕ)) (ps : List (Piece ℕ)) (row : RowState) (name : Sym) (meaning : Meaning) (k : is_prefix meaning.kind ≡ true)
+    (some : 0 < meaning.priority) (stands : Stands ts ps row) (last : row.last ≡ None) (not_refused : row.is_refused ≡ false) where
   abbrev p : Operator ℕ
   p = operator_of name.0 meaning
 
-  open_before : (t : Term ℕ) → spine (ps ++ operand t ∷ []) ≡ spine_with_arms (map (arm_of ts) held.branches) t 0
-  open_before t = stands_open ts ps held stands last t ∙ if_false _ _ _ held_not
+  open_before : (t : Term ℕ) → spine (ps ++ operand t ∷ []) ≡ spine_with_arms (map (arm_of ts) row.branches) t 0
+  open_before t = stands_open ts ps row stands last t ∙ if_false _ _ _ not_refused
 
-  pub prefix_refused : last_is_below meaning.priority held.branches ≡ true → (t : Term ℕ)
+  pub prefix_refused : last_is_below meaning.priority row.branches ≡ true → (t : Term ℕ)
       → spine ((ps ++ operator p ∷ []) ++ operand t ∷ []) ≡ None
   prefix_refused h t =
       two_more ps p t
       ∙ (spine-prefix p t k some ps
       ∙ (ap (option_and_then (added_to p (by_prefix p t))) (open_before t)
-      ∙ added_refused ts p t held.branches t 0 h))
+      ∙ added_refused ts p t row.branches t 0 h))
 
-  pub prefix_taken : last_is_below meaning.priority held.branches ≡ false → (items : List Branch)
-      → items ≡ held.branches ++ branch_of name meaning None ∷ [] → (t : Term ℕ) →
+  pub prefix_taken : last_is_below meaning.priority row.branches ≡ false → (items : List Branch)
+      → items ≡ row.branches ++ branch_of name meaning None ∷ [] → (t : Term ℕ) →
       spine ((ps ++ operator p ∷ []) ++ operand t ∷ []) ≡ spine_with_arms (map (arm_of ts) items) t 0
   prefix_taken h items e t =
-      let arms = map (arm_of ts) held.branches in
+      let arms = map (arm_of ts) row.branches in
       two_more ps p t
       ∙ (spine-prefix p t k some ps
       ∙ (ap (option_and_then (added_to p (by_prefix p t))) (open_before t)
       ∙ (added_below p (by_prefix p t) arms t 0
-      (allow_all ts meaning.priority held.branches 0 (spine_falls (length (ps ++ operand t ∷ [])) (ps ++ operand t ∷ [])
+      (allow_all ts meaning.priority row.branches 0 (spine_falls (length (ps ++ operand t ∷ [])) (ps ++ operand t ∷ [])
       (record { arms = arms; last = t; priority = 0 }) (open_before t)) h)
-      ∙ ap (λ (xs : List (Arm ℕ)). spine_with_arms xs t 0) (map_push ts items held.branches (branch_of name meaning None) e))))
+      ∙ ap (λ (xs : List (Arm ℕ)). spine_with_arms xs t 0) (map_push ts items row.branches (branch_of name meaning None) e))))
 
 -- the end of a row
-module _ (ts us : List (Term ℕ)) (ps : List (Piece ℕ)) (held : Held) (part : Part) (bound : ℕ) (stands : Stands ts ps held)
-    (last : held.last ≡ Some part) where
+module _ (ts us : List (Term ℕ)) (ps : List (Piece ℕ)) (row : RowState) (part : Part) (bound : ℕ) (stands : Stands ts ps row)
+    (last : row.last ≡ Some part) where
   tree_by_spine : (o : Option (Spine ℕ)) → spine ps ≡ o → tree bound ps ≡ option_and_then (closed bound) o
   tree_by_spine o e = tree_closed (length ps) bound ps ∙ ap (option_and_then (closed bound)) e
 
-  pub tree_refused : held.is_refused ≡ true → tree bound ps ≡ None
-  tree_refused h = tree_by_spine None (none_before ts ps held part stands last h)
+  pub tree_refused : row.is_refused ≡ true → tree bound ps ≡ None
+  tree_refused h = tree_by_spine None (none_before ts ps row part stands last h)
 
-  module _ (held_not : held.is_refused ≡ false) (whole : Part) (term : term_at us whole.node
-      ≡ whole_term (spine_at ts held.branches part)) (priority : whole.priority ≡ whole_priority (spine_at ts held.branches part)) where
-    by_held : tree bound ps ≡ closed bound (spine_at ts held.branches part)
-    by_held = tree_by_spine (Some (spine_at ts held.branches part)) (stands_last ts ps held part stands last ∙ if_false _ _ _ held_not)
+  module _ (not_refused : row.is_refused ≡ false) (whole : Part) (term : term_at us whole.node
+      ≡ whole_term (spine_at ts row.branches part)) (priority : whole.priority ≡ whole_priority (spine_at ts row.branches part)) where
+    by_row : tree bound ps ≡ closed bound (spine_at ts row.branches part)
+    by_row = tree_by_spine (Some (spine_at ts row.branches part)) (stands_last ts ps row part stands last ∙ if_false _ _ _ not_refused)
 
     pub tree_above : bound < whole.priority → tree bound ps ≡ None
     tree_above h =
-        by_held ∙ if_false _ _ _ (false_by (leb (whole_priority (spine_at ts held.branches part)) bound)
-        (λ y. let z = leb-true (whole_priority (spine_at ts held.branches part)) bound y in omega arith))
+        by_row ∙ if_false _ _ _ (false_by (leb (whole_priority (spine_at ts row.branches part)) bound)
+        (λ y. let z = leb-true (whole_priority (spine_at ts row.branches part)) bound y in omega arith))
 
     pub tree_found : whole.priority ≤ bound → tree bound ps ≡ Some (term_at us whole.node)
     tree_found h =
-        by_held ∙ (if_true _ _ _ (le-leb (whole_priority (spine_at ts held.branches part)) bound (omega arith))
+        by_row ∙ (if_true _ _ _ (le-leb (whole_priority (spine_at ts row.branches part)) bound (omega arith))
         ∙ ap (λ (t : Term ℕ). Some t) (sym term))
 
 -- an operand is expected, or isn't
@@ -213,23 +214,23 @@ some_of : (o : Option Part) → elim o as (λ _. Bool) [ None ↦ true | Some pa
 some_of None h = cc
 some_of (Some part) h = (part, refl)
 
-pub expected_none : (held : Held) → expects_operand held ≡ true → held.last ≡ None
-expected_none held h = none_of held.last h
+pub expected_none : (row : RowState) → expects_operand row ≡ true → row.last ≡ None
+expected_none row h = none_of row.last h
 
-pub expected_some : (held : Held) → expects_operand held ≡ false → (part : Part) × (held.last ≡ Some part)
-expected_some held h = some_of held.last h
+pub expected_some : (row : RowState) → expects_operand row ≡ false → (part : Part) × (row.last ≡ Some part)
+expected_some row h = some_of row.last h
 
-pub none_expected : (held : Held) → held.last ≡ None → expects_operand held ≡ true
-none_expected held h = ap (λ (o : Option Part). elim o as (λ _. Bool) [ None ↦ true | Some part ↦ false ]) h
+pub none_expected : (row : RowState) → row.last ≡ None → expects_operand row ≡ true
+none_expected row h = ap (λ (o : Option Part). elim o as (λ _. Bool) [ None ↦ true | Some part ↦ false ]) h
 
-pub as_open : (ts : List (Term ℕ)) (ps : List (Piece ℕ)) (held : Held) → held.last ≡ None
-    → ((t : Term ℕ) → spine (ps ++ operand t ∷ []) ≡ spine_held ts held t 0) → Stands ts ps held
-as_open ts ps held e h =
-    subst (λ (o : Option Part). MatchOption o ((t : Term ℕ) → spine (ps ++ operand t ∷ []) ≡ spine_held ts held t 0)
-    (λ (p : Part). spine ps ≡ spine_held ts held (term_at ts p.node) p.priority)) (sym e) h
+pub as_open : (ts : List (Term ℕ)) (ps : List (Piece ℕ)) (row : RowState) → row.last ≡ None
+    → ((t : Term ℕ) → spine (ps ++ operand t ∷ []) ≡ row_spine ts row t 0) → Stands ts ps row
+as_open ts ps row e h =
+    subst (λ (o : Option Part). MatchOption o ((t : Term ℕ) → spine (ps ++ operand t ∷ []) ≡ row_spine ts row t 0)
+    (λ (p : Part). spine ps ≡ row_spine ts row (term_at ts p.node) p.priority)) (sym e) h
 
-pub as_last : (ts : List (Term ℕ)) (ps : List (Piece ℕ)) (held : Held) (part : Part) → held.last ≡ Some part
-    → spine ps ≡ spine_held ts held (term_at ts part.node) part.priority → Stands ts ps held
-as_last ts ps held part e h =
-    subst (λ (o : Option Part). MatchOption o ((t : Term ℕ) → spine (ps ++ operand t ∷ []) ≡ spine_held ts held t 0)
-    (λ (p : Part). spine ps ≡ spine_held ts held (term_at ts p.node) p.priority)) (sym e) h
+pub as_last : (ts : List (Term ℕ)) (ps : List (Piece ℕ)) (row : RowState) (part : Part) → row.last ≡ Some part
+    → spine ps ≡ row_spine ts row (term_at ts part.node) part.priority → Stands ts ps row
+as_last ts ps row part e h =
+    subst (λ (o : Option Part). MatchOption o ((t : Term ℕ) → spine (ps ++ operand t ∷ []) ≡ row_spine ts row t 0)
+    (λ (p : Part). spine ps ≡ row_spine ts row (term_at ts p.node) p.priority)) (sym e) h
