@@ -12,7 +12,7 @@ use Rattle.op_reader.specs.Row.{Piece, Operator, operand as a_piece, operator as
 use Rattle.op_reader.specs.Words.{functor, plain, AsOperator, Word, word}
 use Rattle.op_reader.specs.Roles.{Parts, single, enclosed, Levels, level, with_opening, levels_of, Rows, operator, operand, compound}
 use Rattle.op_reader.specs.Roles.{bracketed, inside, Expected, an_operand, an_operator, on_rows, on_both, roles}
-use Rattle.op_reader.specs.Terms.{known, Read, with_piece, compound_of, bracketed_of, as_operand, read_rows, first_of, excess_in}
+use Rattle.op_reader.specs.Terms.{known, ReadRows, with_piece, compound_of, bracketed_of, as_operand, read_rows, first_of, excess_in}
 use Rattle.op_writer.specs.declared.edge.Edge.{Edge}
 use Rattle.op_readback.proofs.Marks.{Mark}
 use Rattle.op_readback.proofs.MarkTokens.{Known, tokens}
@@ -24,22 +24,22 @@ Text = List ℕ
 abbrev pub over : (Parts Text → Parts Text) → Levels Text → Levels Text
 over q l = record { inner = level (q l.inner.parts) l.inner.stop; outer = l.outer }
 
-abbrev pub with_row : List (Piece Text) → Read Text → Read Text
+abbrev pub with_row : List (Piece Text) → ReadRows Text → ReadRows Text
 with_row row r = record { row = row ++ r.row; rest = r.rest; tail = r.tail }
 
-abbrev pub read : List (Piece Text) → List (Term Text) → Option (Term Text) → Read Text
+abbrev pub read : List (Piece Text) → List (Term Text) → Option (Term Text) → ReadRows Text
 read row ts tl = record { row = row; rest = ts; tail = tl }
 
 rows-rows : (f g : Rows Text → Rows Text) (r : Result (Rows Text) ℕ) → on_rows f (on_rows g r) ≡ on_rows (λ rs. f (g rs)) r
 rows-rows f g (Ok r) = refl
 rows-rows f g (Err p) = refl
 
-row-row : (xs ys : List (Piece Text)) (r : Option (Read Text)) → option_map (with_row xs) (option_map (with_row ys) r)
+row-row : (xs ys : List (Piece Text)) (r : Option (ReadRows Text)) → option_map (with_row xs) (option_map (with_row ys) r)
     ≡ option_map (with_row (xs ++ ys)) r
 row-row xs ys None = refl
 row-row xs ys (Some r) = ap (λ (zs : List (Piece Text)). Some (read zs r.rest r.tail)) (sym (append_assoc xs ys r.row))
 
-pub piece-row : (p : Piece Text) (r : Option (Read Text)) → option_map (with_piece p) r ≡ option_map (with_row (p ∷ [])) r
+pub piece-row : (p : Piece Text) (r : Option (ReadRows Text)) → option_map (with_piece p) r ≡ option_map (with_row (p ∷ [])) r
 piece-row p None = refl
 piece-row p (Some r) = refl
 
@@ -174,7 +174,8 @@ module _ (ops : Table) (n : ℕ) where
     rows = bracketed b e.rows;
     is_roles = λ ps stop. ap (λ (x : Result (Rows Text) ℕ). on_both (bracketed b) x (roles c an_operator ps stop)) e.is_roles
         ∙ both (bracketed b) e.rows (roles c an_operator ps stop);
-    is_read = λ rs. ap (λ (x : Option (Read Text)). as_operand (option_and_then (bracketed_of known b) x) (read_rows known rs)) e.is_read
+    is_read = λ rs. ap (λ (x : Option (ReadRows Text)). as_operand (option_and_then (bracketed_of known b) x) (read_rows known rs))
+        e.is_read
         ∙ (ap (λ (x : Option (Term Text)). as_operand x (read_rows known rs)) k ∙ piece-row (a_piece t) (read_rows known rs));
     is_excess = λ rs. ap (λ (x : Option ℕ). first_of x (excess_in rs)) e.is_excess;
   }
@@ -198,7 +199,7 @@ module _ (ops : Table) (n : ℕ) where
     rows = compound f e.rows;
     is_roles = λ ps stop. ap (λ (x : Result (Rows Text) ℕ). on_both (compound f) x (roles c an_operator ps stop)) e.is_roles
         ∙ both (compound f) e.rows (roles c an_operator ps stop);
-    is_read = λ rs. ap (λ (x : Option (Read Text)). as_operand (option_and_then (compound_of f) x) (read_rows known rs)) e.is_read
+    is_read = λ rs. ap (λ (x : Option (ReadRows Text)). as_operand (option_and_then (compound_of f) x) (read_rows known rs)) e.is_read
         ∙ (ap (λ (x : Option (Term Text)). as_operand x (read_rows known rs)) k ∙ piece-row (a_piece t) (read_rows known rs));
     is_excess = λ rs. ap (λ (x : Option ℕ). first_of x (excess_in rs)) e.is_excess;
   }

@@ -11,7 +11,7 @@ use Rattle.op_reader.specs.declared.row_kind.RowKind.TheVariants.{Clause}
 use Rattle.op_reader.specs.FirstClause.{unmatched}
 use Rattle.op_reader.specs.Row.{Piece, tree}
 use Rattle.op_reader.specs.Roles.{Levels, none, Rows, done, an_operand, roles, clause_roles}
-use Rattle.op_reader.specs.Terms.{known, Read, read_rows, term_of, excess_in}
+use Rattle.op_reader.specs.Terms.{known, ReadRows, read_rows, term_of, excess_in}
 use Rattle.op_reader.specs.Reading.{Outcome, term, refused, refused_or, first_place, rows_outcome, words_outcome}
 use Rattle.op_writer.specs.declared.style.Style.{Style}
 use Rattle.op_writer.specs.declared.style.Style.TheVariants.{Quoted, Canonical}
@@ -45,7 +45,7 @@ module _ (ops : Table) (table : IsTable ops) (style : Style) where
       ap (λ (l : Levels Text). roles Clause an_operand l.inner.parts l.inner.stop) a.words ∙ a.is_roles none (n + 1) in
       let is_read : read_rows known rs ≡ Some (read row [] None) = a.is_read done
       ∙ ap (λ (xs : List (Piece Text)). Some (read xs [] None)) (append-nil row) in
-      let has_term : term_of known rs ≡ Some t = ap (option_and_then (λ (r : Read Text). tree 1200 r.row)) is_read ∙ w in
+      let has_term : term_of known rs ≡ Some t = ap (option_and_then (λ (r : ReadRows Text). tree 1200 r.row)) is_read ∙ w in
       let place = first_place (firsts ks) in
       ap (λ (x : Option ℕ). refused_or Unbalanced x (words_outcome place [] (n + 1) (n + 2) (k_words ops false ks))) b
       ∙ (ap (λ (x : Result (Rows Text) ℕ). elim x as (λ _. Outcome) [

@@ -9,7 +9,7 @@ use Rattle.op_term.specs.declared.quotes.DoubleQuotes.{DoubleQuotes}
 use Rattle.op_reader.specs.declared.fault.ReadFault.{ReadFault}
 use Rattle.op_reader.specs.declared.fault.ReadFaultKind.TheVariants.{Unbalanced}
 use Rattle.op_reader.specs.declared.term_reader.Reading.{Reading}
-use Rattle.op_reader.specs.declared.level.ListNames.{ListNames}
+use Rattle.op_reader.specs.declared.read_rows.ListNames.{ListNames}
 use Rattle.op_reader.specs.declared.word.Word.{Word as WordHeld}
 use Rattle.op_reader.specs.FirstClause.{sentence, unmatched}
 use Rattle.op_reader.specs.Words.{source, words_of, variables_of, named_from}

@@ -1,14 +1,14 @@
+mod AddedNodes
 mod AddedOperators
 mod ClauseOutcomes
 mod ClosedSpines
 mod FirstClauses
 mod JoinedRoles
 mod JoinedWords
-mod LevelNodes
 mod ListNodes
 mod MatchedBrackets
 mod OperatorSpines
-mod PendingLevels
+mod PendingRows
 mod ReadVariables
 mod ReadingOutcomes
 mod RefusedRows

@@ -10,7 +10,7 @@ use Rattle.op_logic.proofs.NameTables.{name_at-below, name_at-past}
 use Rattle.op_logic.proofs.Tests.{by_order}
 use Rattle.op_token.specs.declared.token.TokenFaultKind.TheVariants.{NumberRange}
 use Rattle.op_reader.specs.declared.fault.ReadFaultKind.TheVariants.{Token as BadToken, NoOperand, Priority}
-use Rattle.op_reader.specs.declared.level.ListNames.{ListNames}
+use Rattle.op_reader.specs.declared.read_rows.ListNames.{ListNames}
 use Rattle.op_reader.specs.declared.role.Role.{Role}
 use Rattle.op_reader.specs.declared.role.Role.TheVariants.{Separator, Tail, Operator, Operand, Excess, Compound, Bracketed, Closed}
 use Rattle.op_reader.specs.Roles.{Rows, operand, clause_roles}
@@ -22,7 +22,7 @@ use Rattle.op_reader.specs.Terms.{Known, known, term_of, first_of, excess_in}
 use Rattle.op_reader.specs.Reading.{Outcome, term, refused, refused_or, rows_outcome, words_outcome}
 use Rattle.op_reader.specs.inner.RoleLists.{View, view, Layers, on_inner, with_role, with_roles, no_layers, rows_of, first_excess}
 use Rattle.op_reader.specs.inner.RoleLists.{RoleBelow}
-use Rattle.op_reader.specs.inner.Level.{known_in}
+use Rattle.op_reader.specs.inner.ReadRows.{known_in}
 use Rattle.op_reader.specs.Passes.{AreListNames, Tells, HasKnownNames}
 use Rattle.op_reader.proofs.ShownNodes.{term_later}
 

@@ -2,37 +2,37 @@ ghost use Rattle.std.specs.Prelude.{◌≡◌, ◌<◌, ◌≤◌, ℕ, List, []
 ghost use Rattle.std.specs.Prelude.{option_and_then, IfOk, IfSome, OnOk};
 ghost use Rattle.op_reader.specs.Terms.{term_of as the_term_of, as_operand as the_as_operand};
 ghost use Rattle.op_reader.specs.inner.RoleLists.{RoleBelow, View, Layers, node_in, with_role, rows_of};
-ghost use Rattle.op_reader.specs.inner.Level.{Extends, level_in, known_in, LevelBelow, Reads, PendingBelow, Popped};
+ghost use Rattle.op_reader.specs.inner.ReadRows.{Extends, rows_in, known_in, RowsBelow, Reads, PendingBelow, Popped};
 
 use crate::bracket::Bracket;
-use crate::enclosed::{bracketed_of, compound_of, term_of_level};
-use crate::level::{Level, ListNames, add_operand, add_piece, make_tail, separate};
+use crate::enclosed::{bracketed_of, compound_of, term_of_rows};
 use crate::piece::Piece;
+use crate::read_rows::{ListNames, ReadRows, add_operand, add_piece, make_tail, separate};
 use crate::role::Role;
 use op_base::Memory;
 use op_term::{Builder, Sym};
 use std::alloc::Global;
 use std::mem;
 
-/// The rows that are not finished, from their ends: the innermost level, and those around it, the outermost first.
+/// The rows that are not finished, from their ends: those in the innermost brackets, and those around them, the outermost first.
 #[derive(Drop)]
 pub(crate) struct Pending {
-    pub inner: Level,
-    pub outer: Vec<Level>,
+    pub inner: ReadRows,
+    pub outer: Vec<ReadRows>,
 }
 
-// Takes the innermost level away; where no other is left, an empty one takes its place.
-fn pop(alloc: Global, pending: &mut Pending) -> Level
+// Takes the innermost rows away; where no others are left, none take their place.
+fn pop(alloc: Global, pending: &mut Pending) -> ReadRows
     ensures value { result ≡ pending.old.inner }
     ensures popped { Popped pending.old pending.new }
 {
     match pending.outer.pop() {
-        Some(level) => {
-            let innermost = mem::replace(&mut pending.inner, level);
+        Some(rows) => {
+            let innermost = mem::replace(&mut pending.inner, rows);
             return innermost;
         }
         None => {
-            let innermost = mem::replace(&mut pending.inner, Level::new(alloc));
+            let innermost = mem::replace(&mut pending.inner, ReadRows::new(alloc));
             return innermost;
         }
     }
@@ -43,15 +43,15 @@ fn push(alloc: Global, pending: &mut Pending) -> Result<(), Memory>
         → Reads v names pending.new (with_role v Role.Closed l)) }
     ensures below { OnOk result ((n : ℕ) → PendingBelow n pending.old → PendingBelow n pending.new) }
 {
-    let level = mem::replace(&mut pending.inner, Level::new(alloc));
-    pending.outer.push(level)?;
+    let rows = mem::replace(&mut pending.inner, ReadRows::new(alloc));
+    pending.outer.push(rows)?;
     Ok(())
 }
 
-// An opening bracket: the innermost level is finished, and is an operand of the next.
+// An opening bracket: the innermost rows are finished, and are an operand of the next.
 fn enclose(pending: &mut Pending, found: Option<u64>) -> Result<(), Memory>
-    ensures added { OnOk result ((v : View) → level_in v pending.new.inner
-        ≡ the_as_operand (option_map (node_in v) found) (level_in v pending.old.inner)) }
+    ensures added { OnOk result ((v : View) → rows_in v pending.new.inner
+        ≡ the_as_operand (option_map (node_in v) found) (rows_in v pending.old.inner)) }
     ensures outer { pending.new.outer ≡ pending.old.outer }
     ensures below { OnOk result ((n : ℕ) → IfSome found (λ m. m < n) → PendingBelow n pending.old → PendingBelow n pending.new) }
 {
@@ -70,8 +70,8 @@ fn open_compound(
     ensures below { OnOk result (PendingBelow (length nodes.new) pending.new) }
     ensures kept { take (length nodes.old) nodes.new ≡ nodes.old }
 {
-    let level = pop(alloc, pending);
-    let found = compound_of(alloc, nodes, name, level)?;
+    let rows = pop(alloc, pending);
+    let found = compound_of(alloc, nodes, name, rows)?;
     enclose(pending, found)?;
     Ok(())
 }
@@ -89,8 +89,8 @@ fn open_bracket(
     ensures below { OnOk result (PendingBelow (length nodes.new) pending.new) }
     ensures kept { take (length nodes.old) nodes.new ≡ nodes.old }
 {
-    let level = pop(alloc, pending);
-    let found = bracketed_of(alloc, nodes, known, bracket, level)?;
+    let rows = pop(alloc, pending);
+    let found = bracketed_of(alloc, nodes, known, bracket, rows)?;
     enclose(pending, found)?;
     Ok(())
 }
@@ -150,7 +150,7 @@ pub(crate) fn term_node(
     ensures kept { take (length nodes.old) nodes.new ≡ nodes.old }
 {
     let mut pending = Pending {
-        inner: Level::new(alloc),
+        inner: ReadRows::new(alloc),
         outer: Vec::new(alloc),
     };
     let mut i = roles.len();
@@ -159,6 +159,6 @@ pub(crate) fn term_node(
         take_role(alloc, nodes, known, &mut pending, roles[i])?;
     }
     let Pending { inner, outer: _ } = pending;
-    let found = term_of_level(alloc, nodes, inner)?;
+    let found = term_of_rows(alloc, nodes, inner)?;
     Ok(found)
 }

@@ -5,7 +5,7 @@ use Rattle.op_logic.specs.Term.{node}
 use Rattle.op_logic.specs.Names.{name_at}
 use Rattle.op_reader.specs.inner.RoleLists.{node_in}
 use Rattle.op_reader.specs.Terms.{args_of}
-use Rattle.op_reader.proofs.LevelNodes.{compound_seen, turned}
+use Rattle.op_reader.proofs.AddedNodes.{compound_seen, turned}
 use Rattle.op_reader.proofs.enclosed.compound_node.Goals as goal
 
 pub returns-clause-term : goal.returns-clause-term

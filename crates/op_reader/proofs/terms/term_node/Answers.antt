@@ -4,9 +4,9 @@ use Rattle.op_reader.specs.declared.role.Role.{Role}
 use Rattle.op_reader.specs.inner.RoleLists.{Layers, with_roles, no_layers}
 use Rattle.std.proofs.lemmas.List.Elements.{All-same, All-nil}
 use Rattle.op_reader.specs.declared.terms.Pending.{Pending}
-use Rattle.op_reader.specs.inner.Level.{Reads, LevelBelow}
+use Rattle.op_reader.specs.inner.ReadRows.{Reads, RowsBelow}
 use Rattle.op_reader.proofs.ShownNodes.{kept_all, kept_kept}
-use Rattle.op_reader.proofs.PendingLevels.{reads_none, roles_back}
+use Rattle.op_reader.proofs.PendingRows.{reads_none, roles_back}
 use Rattle.op_reader.proofs.terms.term_node.Goals as goal
 
 pub roles-init : goal.roles-init
@@ -17,8 +17,8 @@ roles-init c =
           (reads_none v c.args.known p (c.new.ensures.empty v) c.new-2.ensures.items);
       below = record {
         inner = c.new.ensures.below (length c.args.nodes.now);
-        outer = All-same (LevelBelow (length c.args.nodes.now))
-            c.new-2.result.items [] c.new-2.ensures.items (All-nil (LevelBelow (length c.args.nodes.now)));
+        outer = All-same (RowsBelow (length c.args.nodes.now))
+            c.new-2.result.items [] c.new-2.ensures.items (All-nil (RowsBelow (length c.args.nodes.now)));
       };
       kept = kept_all c.args.nodes.now;
     }

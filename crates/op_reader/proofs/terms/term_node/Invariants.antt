@@ -1,6 +1,6 @@
 use Rattle.std.proofs.Common.{◌≡◌, ◌≤◌, length, take, drop}
 use Rattle.op_reader.specs.inner.RoleLists.{View, with_roles, no_layers}
-use Rattle.op_reader.specs.inner.Level.{Extends, Reads, PendingBelow}
+use Rattle.op_reader.specs.inner.ReadRows.{Extends, Reads, PendingBelow}
 use Rattle.op_reader.proofs.terms.term_node.Given as goal
 
 abbrev pub invariant-roles : goal.invariant-roles

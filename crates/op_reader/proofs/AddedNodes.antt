@@ -10,7 +10,7 @@ use Rattle.op_reader.specs.declared.piece.Piece.TheVariants.{Operand, Operator a
 use Rattle.op_reader.specs.Row.{operand, tree}
 use Rattle.op_reader.specs.inner.RoleLists.{View, node_in}
 use Rattle.op_reader.specs.inner.Pieces.{piece_at, PieceBelow}
-use Rattle.op_reader.specs.inner.Level.{Extends, piece_in}
+use Rattle.op_reader.specs.inner.ReadRows.{Extends, piece_in}
 use Rattle.op_reader.proofs.RowNames.{piece_renamed, tree_renamed}
 use Rattle.op_reader.proofs.ShownNodes.{term_later, kept_kept, kept_new, new_below, named_list}
 use Rattle.std.proofs.lemmas.List.{reverse-append}

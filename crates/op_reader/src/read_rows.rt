@@ -8,7 +8,7 @@ ghost use Rattle.op_reader.specs.Terms.{separated as the_separated, tailed as th
 ghost use Rattle.op_reader.specs.Terms.{bracketed_of as the_bracketed_of, as_operand as the_as_operand, with_piece};
 ghost use Rattle.op_reader.specs.inner.RoleLists.{View, node_in};
 ghost use Rattle.op_reader.specs.inner.Pieces.{PieceBelow};
-ghost use Rattle.op_reader.specs.inner.Level.{Extends, row_in, nodes_in, level_in, known_in, LevelBelow, piece_in};
+ghost use Rattle.op_reader.specs.inner.ReadRows.{Extends, row_in, nodes_in, rows_in, known_in, RowsBelow, piece_in};
 
 use crate::bracket::Bracket;
 use crate::list_node::list_node;
@@ -27,9 +27,10 @@ pub(crate) struct ListNames {
     pub braces: Sym,
 }
 
-/// A row, and the terms of the rows behind it, each from its end. It has failed where one of these rows has no tree.
+/// The rows in one pair of brackets, or of a clause, that are read from their end: the first of them so far, and the terms of those
+/// behind it. They have failed where one of them has no tree.
 #[derive(Drop)]
-pub(crate) struct Level {
+pub(crate) struct ReadRows {
     pub row: Vec<Piece>,
     pub rest: Vec<u64>,
     pub tail: Option<u64>,
@@ -55,13 +56,13 @@ pub(crate) fn tree_node(
     Ok(found)
 }
 
-impl Level {
+impl ReadRows {
     /// No pieces, and no rows behind them.
-    pub(crate) fn new(alloc: Global) -> Level
-        ensures empty { (v : View) → level_in v result ≡ Some (record { row = []; rest = []; tail = None }) }
-        ensures below { (n : ℕ) → LevelBelow n result }
+    pub(crate) fn new(alloc: Global) -> ReadRows
+        ensures empty { (v : View) → rows_in v result ≡ Some (record { row = []; rest = []; tail = None }) }
+        ensures below { (n : ℕ) → RowsBelow n result }
     {
-        Level {
+        ReadRows {
             row: Vec::new(alloc),
             rest: Vec::new(alloc),
             tail: None,
@@ -71,69 +72,77 @@ impl Level {
 }
 
 /// Puts a piece in front of the row.
-pub(crate) fn add_piece(level: &mut Level, piece: Piece) -> Result<(), Memory>
-    ensures added { OnOk result ((v : View) → level_in v level.new ≡ option_map (with_piece (piece_in v piece)) (level_in v level.old)) }
-    ensures below { OnOk result ((n : ℕ) → PieceBelow n piece → LevelBelow n level.old → LevelBelow n level.new) }
+pub(crate) fn add_piece(rows: &mut ReadRows, piece: Piece) -> Result<(), Memory>
+    ensures added { OnOk result ((v : View) → rows_in v rows.new ≡ option_map (with_piece (piece_in v piece)) (rows_in v rows.old)) }
+    ensures below { OnOk result ((n : ℕ) → PieceBelow n piece → RowsBelow n rows.old → RowsBelow n rows.new) }
 {
-    level.row.push(piece)?;
+    rows.row.push(piece)?;
     Ok(())
 }
 
 /// Puts a finished term as an operand in front of the row; none where it has failed.
-pub(crate) fn add_operand(level: &mut Level, found: Option<u64>) -> Result<(), Memory>
-    ensures added { OnOk result ((v : View) → level_in v level.new ≡ the_as_operand (option_map (node_in v) found) (level_in v level.old)) }
-    ensures below { OnOk result ((n : ℕ) → IfSome found (λ m. m < n) → LevelBelow n level.old → LevelBelow n level.new) }
+pub(crate) fn add_operand(rows: &mut ReadRows, found: Option<u64>) -> Result<(), Memory>
+    ensures added { OnOk result ((v : View) → rows_in v rows.new ≡ the_as_operand (option_map (node_in v) found) (rows_in v rows.old)) }
+    ensures below { OnOk result ((n : ℕ) → IfSome found (λ m. m < n) → RowsBelow n rows.old → RowsBelow n rows.new) }
 {
     match found {
         Some(node) => {
-            level.row.push(Piece::Operand(node))?;
+            rows.row.push(Piece::Operand(node))?;
             Ok(())
         }
         None => {
-            level.failed = true;
+            rows.failed = true;
             Ok(())
         }
     }
 }
 
 /// Finishes the row, and begins the one before it.
-pub(crate) fn separate(alloc: Global, nodes: &mut Builder, level: &mut Level) -> Result<(), Memory>
-    requires { LevelBelow (length nodes.old) level.old }
+pub(crate) fn separate(
+    alloc: Global,
+    nodes: &mut Builder,
+    rows: &mut ReadRows,
+) -> Result<(), Memory>
+    requires { RowsBelow (length nodes.old) rows.old }
     ensures separated { OnOk result ((v : View) → Extends v nodes.new
-        → level_in v level.new ≡ option_and_then the_separated (level_in v level.old)) }
-    ensures below { OnOk result (LevelBelow (length nodes.new) level.new) }
+        → rows_in v rows.new ≡ option_and_then the_separated (rows_in v rows.old)) }
+    ensures below { OnOk result (RowsBelow (length nodes.new) rows.new) }
     ensures kept { take (length nodes.old) nodes.new ≡ nodes.old }
 {
-    let row = mem::replace(&mut level.row, Vec::new(alloc));
+    let row = mem::replace(&mut rows.row, Vec::new(alloc));
     match tree_node(alloc, nodes, row, 999)? {
         Some(node) => {
-            level.rest.push(node)?;
+            rows.rest.push(node)?;
             Ok(())
         }
         None => {
-            level.failed = true;
+            rows.failed = true;
             Ok(())
         }
     }
 }
 
 /// Finishes the row as a list's tail, and begins the one before it.
-pub(crate) fn make_tail(alloc: Global, nodes: &mut Builder, level: &mut Level) -> Result<(), Memory>
-    requires { LevelBelow (length nodes.old) level.old }
+pub(crate) fn make_tail(
+    alloc: Global,
+    nodes: &mut Builder,
+    rows: &mut ReadRows,
+) -> Result<(), Memory>
+    requires { RowsBelow (length nodes.old) rows.old }
     ensures tailed { OnOk result ((v : View) → Extends v nodes.new
-        → level_in v level.new ≡ option_and_then the_tailed (level_in v level.old)) }
-    ensures below { OnOk result (LevelBelow (length nodes.new) level.new) }
+        → rows_in v rows.new ≡ option_and_then the_tailed (rows_in v rows.old)) }
+    ensures below { OnOk result (RowsBelow (length nodes.new) rows.new) }
     ensures kept { take (length nodes.old) nodes.new ≡ nodes.old }
 {
-    let row = mem::replace(&mut level.row, Vec::new(alloc));
+    let row = mem::replace(&mut rows.row, Vec::new(alloc));
     match tree_node(alloc, nodes, row, 999)? {
         Some(node) => {
-            level.rest.clear();
-            level.tail = Some(node);
+            rows.rest.clear();
+            rows.tail = Some(node);
             Ok(())
         }
         None => {
-            level.failed = true;
+            rows.failed = true;
             Ok(())
         }
     }

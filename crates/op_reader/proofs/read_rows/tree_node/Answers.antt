@@ -1,11 +1,11 @@
 use Rattle.std.proofs.Common.{ap, sym, ◌∙◌, map, List, length, subst, All}
 use Rattle.std.proofs.lemmas.List.Sorted.{All-permutation}
 use Rattle.op_reader.specs.Row.{tree}
-use Rattle.op_reader.specs.inner.Level.{piece_in}
+use Rattle.op_reader.specs.inner.ReadRows.{piece_in}
 use Rattle.op_reader.specs.inner.Pieces.{PieceBelow}
 use Rattle.op_reader.specs.declared.piece.Piece.{Piece}
-use Rattle.op_reader.proofs.LevelNodes.{tree_seen}
-use Rattle.op_reader.proofs.level.tree_node.Goals as goal
+use Rattle.op_reader.proofs.AddedNodes.{tree_seen}
+use Rattle.op_reader.proofs.read_rows.tree_node.Goals as goal
 
 pub returns-clause-term : goal.returns-clause-term
 returns-clause-term c v k =
