@@ -8,8 +8,8 @@ use Rattle.op_term.specs.declared.ops.OpKind.TheVariants.{Xfx, Xfy, Yfx, Fy, Fx,
 use Rattle.op_term.specs.declared.ops.Meaning.{Meaning}
 use Rattle.op_term.specs.Ops.{is_y_left, is_y_right}
 use Rattle.op_reader.specs.Row.{Piece, operand, operator, Operator, Split, split_at, top, leftmost, rightmost, root, root_among}
-use Rattle.op_reader.proofs.Splits.{extended, top-append, leftmost-here, leftmost-more, rightmost-here, rightmost-there, leftmost-there}
-use Rattle.op_reader.proofs.Splits.{leftmost-splits}
+use Rattle.op_reader.proofs.RowSplits.{extended, top-append, leftmost-here, leftmost-more, rightmost-here, rightmost-there, leftmost-there}
+use Rattle.op_reader.proofs.RowSplits.{leftmost-splits}
 use Rattle.op_writer.specs.declared.bound.Bound.{Bound}
 use Rattle.op_writer.specs.declared.bound.Bound.TheVariants.{Whole, Operand, Left, Right}
 use Rattle.op_writer.specs.Text.{fits, left_of, right_of}

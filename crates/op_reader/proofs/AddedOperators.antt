@@ -13,7 +13,7 @@ use Rattle.op_reader.specs.Row.{Piece, operand, operator, Operator, Split, split
 use Rattle.op_reader.specs.Row.{tree_of}
 use Rattle.op_reader.specs.inner.Spine.{Arm, Spine, ended, under, whole_priority, spine_within, spine_of}
 use Rattle.op_reader.specs.inner.Adding.{added, added_to}
-use Rattle.op_reader.proofs.Splits.{extended}
+use Rattle.op_reader.proofs.RowSplits.{extended}
 use Rattle.op_reader.proofs.RowRoots.{stays, none, over, clash, outcome, right_below}
 use Rattle.op_reader.proofs.Spines.{is_single, single_or, right_at, spine_split, spine_step, spine_single}
 

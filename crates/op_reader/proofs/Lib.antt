@@ -16,11 +16,11 @@ mod RowNames
 mod RowPieces
 mod RowRoots
 mod RowShape
+pub mod RowSplits
 mod RowStates
 mod RowsVariables
 mod ShownNodes
 pub mod Spines
-pub mod Splits
 mod TokensVariables
 mod TreeVariables
 mod VariableNames
