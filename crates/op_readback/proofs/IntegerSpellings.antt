@@ -19,7 +19,7 @@ use Rattle.op_token.specs.Class.{class_of}
 use Rattle.op_token.specs.Spelling.{begins, spelled, number_of, digit_value, is_fraction, least_magnitude, ranged}
 use Rattle.op_base.specs.Characters.{is_word}
 use Rattle.op_readback.proofs.QuotedNames.{and-parts}
-use Rattle.op_readback.proofs.MarkSpellings.{Stops, run-all, or-neither}
+use Rattle.op_readback.proofs.NameSpellings.{Stops, run-all, or-neither}
 
 -- digits of a number
 pub record IsDigits (n : ℕ) (ds : List ℕ) : Type 0 where

@@ -14,8 +14,8 @@ use Rattle.op_reader.specs.Roles.{Parts, single, enclosed, Levels, level, with_o
 use Rattle.op_reader.specs.Roles.{bracketed, inside, Expected, an_operand, an_operator, on_rows, on_both, roles}
 use Rattle.op_reader.specs.Terms.{known, ReadRows, with_piece, compound_of, bracketed_of, as_operand, read_rows, first_of, excess_in}
 use Rattle.op_writer.specs.declared.edge.Edge.{Edge}
-use Rattle.op_readback.proofs.Marks.{Mark}
-use Rattle.op_readback.proofs.MarkTokens.{Known, tokens}
+use Rattle.op_readback.proofs.Lexemes.{Lexeme}
+use Rattle.op_readback.proofs.LexemeTokens.{Known, tokens}
 use Rattle.op_readback.proofs.KnownWords.{k_words}
 
 abbrev Text : Type 0
@@ -48,7 +48,7 @@ module _ (ops : Table) (n : ℕ) where
   lv ks = levels_of n (k_words ops false ks)
 
   -- some words are an operand, or some operators and operands, where an operand is expected
-  pub record Taken (c : RowKind) (ks : List Known) (ns : List Mark) (row : List (Piece Text)) : Type 0 where
+  pub record Taken (c : RowKind) (ks : List Known) (ns : List Lexeme) (row : List (Piece Text)) : Type 0 where
     pub after : ℕ
     pub edge : Edge
     pub parts : Parts Text → Parts Text
@@ -59,7 +59,7 @@ module _ (ops : Table) (n : ℕ) where
     pub is_excess : (rs : Rows Text) → excess_in (rows rs) ≡ excess_in rs
 
   -- one word is an operator, behind which something is expected
-  pub record Link (c : RowKind) (from to : Expected Text) (o : Operator Text) (ks : List Known) (ns : List Mark) : Type 0 where
+  pub record Link (c : RowKind) (from to : Expected Text) (o : Operator Text) (ks : List Known) (ns : List Lexeme) : Type 0 where
     pub after : ℕ
     pub edge : Edge
     pub layout : Bool
@@ -67,7 +67,7 @@ module _ (ops : Table) (n : ℕ) where
     pub words : lv ks ≡ over (single the_word) (lv (tokens after edge layout ns))
     pub is_roles : (ps : Parts Text) (stop : ℕ) → roles c from (single the_word ps) stop ≡ on_rows (operator o) (roles c to ps stop)
 
-  pub infix-taken : (c : RowKind) (o : Operator Text) (ks : List Known) (ms1 ms2 ns : List Mark) (ra rb : List (Piece Text))
+  pub infix-taken : (c : RowKind) (o : Operator Text) (ks : List Known) (ms1 ms2 ns : List Lexeme) (ra rb : List (Piece Text))
       → (a : Taken c ks ms1 ra) → Link c an_operator an_operand o (tokens a.after a.edge false ms1) ms2
       → ((at : ℕ) (e : Edge) (l : Bool) → Taken c (tokens at e l ms2) ns rb)
       → Taken c ks ns (ra ++ an_op o ∷ rb)
@@ -90,7 +90,7 @@ module _ (ops : Table) (n : ℕ) where
         is_excess = λ rs. a.is_excess (operator o (b.rows rs)) ∙ b.is_excess rs;
       }
 
-  pub prefix-taken : (c : RowKind) (o : Operator Text) (ks : List Known) (ms ns : List Mark) (rb : List (Piece Text))
+  pub prefix-taken : (c : RowKind) (o : Operator Text) (ks : List Known) (ms ns : List Lexeme) (rb : List (Piece Text))
       → Link c an_operand an_operand o ks ms → ((at : ℕ) (e : Edge) (l : Bool) → Taken c (tokens at e l ms) ns rb)
       → Taken c ks ns (an_op o ∷ rb)
   prefix-taken c o ks ms ns rb l f =
@@ -109,7 +109,7 @@ module _ (ops : Table) (n : ℕ) where
       }
 
   -- the last word of a postfix operator; no text without a space is behind it
-  pub postfix-taken : (c : RowKind) (o : Operator Text) (ks : List Known) (ms ns : List Mark) (ra : List (Piece Text))
+  pub postfix-taken : (c : RowKind) (o : Operator Text) (ks : List Known) (ms ns : List Lexeme) (ra : List (Piece Text))
       → (a : Taken c ks ms ra) → (l : Link c an_operator an_operator o (tokens a.after a.edge false ms) ns) → l.layout ≡ false
       → Taken c ks ns (ra ++ an_op o ∷ [])
   postfix-taken c o ks ms ns ra a l q = record {
@@ -127,7 +127,7 @@ module _ (ops : Table) (n : ℕ) where
   }
 
   -- the words up to a closing bracket, where an operator or an operand is expected: the terms of the rows that follow
-  pub record Ended (c : RowKind) (expected : Expected Text) (ks : List Known) (ns : List Mark) (row : List (Piece Text))
+  pub record Ended (c : RowKind) (expected : Expected Text) (ks : List Known) (ns : List Lexeme) (row : List (Piece Text))
       (ts : List (Term Text)) (tl : Option (Term Text)) : Type 0 where
     pub after : ℕ
     pub edge : Edge
@@ -144,7 +144,7 @@ module _ (ops : Table) (n : ℕ) where
     pub is_excess : excess_in rows ≡ None
 
   -- an operand before such an end
-  pub filled : (c : RowKind) (ks : List Known) (ms ns : List Mark) (row : List (Piece Text)) (ts : List (Term Text))
+  pub filled : (c : RowKind) (ks : List Known) (ms ns : List Lexeme) (row : List (Piece Text)) (ts : List (Term Text))
       (tl : Option (Term Text))
       → (a : Taken c ks ms row) → Ended c an_operator (tokens a.after a.edge false ms) ns [] ts tl → Ended c an_operand ks ns row ts tl
   filled c ks ms ns row ts tl a e = record {
@@ -161,7 +161,7 @@ module _ (ops : Table) (n : ℕ) where
   }
 
   -- a part in brackets is an operand
-  pub in-brackets : (c : RowKind) (b : Bracket) (place : ℕ) (ks ks1 : List Known) (ns : List Mark) (row : List (Piece Text))
+  pub in-brackets : (c : RowKind) (b : Bracket) (place : ℕ) (ks ks1 : List Known) (ns : List Lexeme) (row : List (Piece Text))
       (ts : List (Term Text)) (tl : Option (Term Text)) (t : Term Text)
       → lv ks ≡ with_opening place b (lv ks1).inner (lv ks1).outer → Ended (inside b) an_operand ks1 ns row ts tl
       → bracketed_of known b (read row ts tl) ≡ Some t
@@ -185,7 +185,7 @@ module _ (ops : Table) (n : ℕ) where
       both f r (Err p) = refl
 
   -- a functor with its arguments is an operand
-  pub with-arguments : (c : RowKind) (f : Text) (place opening : ℕ) (op : AsOperator Text) (ks ks0 ks1 : List Known) (ns : List Mark)
+  pub with-arguments : (c : RowKind) (f : Text) (place opening : ℕ) (op : AsOperator Text) (ks ks0 ks1 : List Known) (ns : List Lexeme)
       (row : List (Piece Text)) (ts : List (Term Text)) (tl : Option (Term Text)) (t : Term Text)
       → lv ks ≡ over (single (word place (functor f) op)) (lv ks0) → lv ks0 ≡ with_opening opening Round (lv ks1).inner (lv ks1).outer
       → Ended Arguments an_operand ks1 ns row ts tl
@@ -209,7 +209,7 @@ module _ (ops : Table) (n : ℕ) where
       both f r (Err p) = refl
 
   -- one word is an operand
-  pub one-taken : (c : RowKind) (place : ℕ) (t : Term Text) (op : AsOperator Text) (ks : List Known) (at : ℕ) (e : Edge) (ns : List Mark)
+  pub one-taken : (c : RowKind) (place : ℕ) (t : Term Text) (op : AsOperator Text) (ks : List Known) (at : ℕ) (e : Edge) (ns : List Lexeme)
       → lv ks ≡ over (single (word place (plain t) op)) (lv (tokens at e false ns)) → Taken c ks ns (a_piece t ∷ [])
   one-taken c place t op ks at e ns w = record {
     after = at;

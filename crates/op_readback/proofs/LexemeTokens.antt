@@ -26,12 +26,12 @@ use Rattle.op_base.specs.Characters.{is_symbol, is_word, is_small}
 use Rattle.op_writer.specs.Spelling.{is_symbolic, is_word_name, is_other_token, is_unquoted, name_text, quoted, escaped}
 use Rattle.op_writer.specs.Pieces.{edge_at, edge_of, prefix_edge, edge_behind, is_apart, set_apart, spaced}
 use Rattle.op_readback.specs.ReadBack.{IsSmall}
-use Rattle.op_readback.proofs.Marks.{Mark, sign, name, prefix_name, number, mark_piece}
+use Rattle.op_readback.proofs.Lexemes.{Lexeme, sign, name, prefix_name, number, lexeme_piece}
 use Rattle.op_readback.proofs.QuotedNames.{and-parts}
-use Rattle.op_readback.proofs.MarkSpellings.{Stops, or-neither, by-symbol, word-spelled, symbol-spelled, quoted-spelled}
+use Rattle.op_readback.proofs.NameSpellings.{Stops, or-neither, by-symbol, word-spelled, symbol-spelled, quoted-spelled}
 use Rattle.op_readback.proofs.IntegerSpellings.{IsDigits, EndsNumber, decimal-digits, number-spelled}
-use Rattle.op_readback.proofs.MarkTexts.{by-name, by-sign, is_sign, mark_text, IsMark, starts_quote, is_risky, IsClean, begun}
-use Rattle.op_readback.proofs.MarkTexts.{unquoted-text, quoted-name-text}
+use Rattle.op_readback.proofs.LexemeTexts.{by-name, by-sign, is_sign, lexeme_text, IsLexeme, starts_quote, is_risky, IsClean, begun}
+use Rattle.op_readback.proofs.LexemeTexts.{unquoted-text, quoted-name-text}
 
 -- the last byte of a text
 pub last-of : (p : ℕ → Bool) (b : ℕ) (bs : List ℕ) → list_all p (b ∷ bs) ≡ true
@@ -108,7 +108,7 @@ negative-edge e n (b ∷ bs) d =
     ap (λ (o : Option ℕ). option_map_or edge_at o e) (ap (slice_get (45 ∷ b ∷ bs)) i)
     ∙ edge-of-all (has Decimal) Word (λ b h. word-edge b (digit-word b h)) e b bs d.digits
 
--- what stands behind a mark
+-- what stands behind a lexeme
 abbrev pub Apart : Edge → List ℕ → Type 0
 Apart e [] = Unit {0}
 Apart e (b ∷ bs) = is_apart e b ≡ false
@@ -134,7 +134,7 @@ apart-prefix f (b ∷ bs) h = by_test (bytes_eq f (codes "-"))
     (λ e. (or-neither (is_symbol b) (b == 40) (subst (λ (x : Edge). is_apart x b ≡ false)
     (if_false (bytes_eq f (codes "-")) Minus Prefix e) h)).0)
 
--- the tokens of a mark, each with the name that it is
+-- the tokens of a lexeme, each with the name that it is
 abbrev pub Known : Type 0
 Known = Token × List ℕ
 
@@ -152,12 +152,12 @@ name_tokens f at l =
     (cond (bytes_eq f (codes "{}")) ((tok OpenCurly at (at + 1) l, []) ∷ (tok CloseCurly (at + 1) (at + 2) false, []) ∷ [])
     (cond (is_unquoted f) ((tok Name at (at + length f) l, f) ∷ []) ((tok QuotedName at (at + length (quoted f)) l, f) ∷ [])))
 
-abbrev pub mark_tokens : Mark → ℕ → Bool → List Known
-mark_tokens (sign b) at l = (tok (sign_kind b) at (at + 1) l, []) ∷ []
-mark_tokens (name f) at l = name_tokens f at l
-mark_tokens (prefix_name f) at l = (tok Name at (at + length f) l, f) ∷ []
-mark_tokens (number (pos n)) at l = (tok (Integer n) at (at + length (decimal n)) l, []) ∷ []
-mark_tokens (number (negsuc n)) at l =
+abbrev pub lexeme_tokens : Lexeme → ℕ → Bool → List Known
+lexeme_tokens (sign b) at l = (tok (sign_kind b) at (at + 1) l, []) ∷ []
+lexeme_tokens (name f) at l = name_tokens f at l
+lexeme_tokens (prefix_name f) at l = (tok Name at (at + length f) l, f) ∷ []
+lexeme_tokens (number (pos n)) at l = (tok (Integer n) at (at + length (decimal n)) l, []) ∷ []
+lexeme_tokens (number (negsuc n)) at l =
     (tok Name at (at + 1) l, codes "-") ∷ (tok (Integer (suc n)) (at + 1) (at + 1 + length (decimal (suc n))) false, []) ∷ []
 
 abbrev pub pushes : List Known → Lexed → Lexed
@@ -196,11 +196,11 @@ lex-space rest at l minus r g =
     ap (λ (n : ℕ). lex (suc at) n true false rest) (let q : at + 1 - suc at ≡ 0 = omega arith in q)
     ∙ (ap (λ (n : ℕ). lex n 0 true false rest) (let q : suc at ≡ at + 1 = omega arith in q) ∙ g)
 
--- each mark gives its tokens
-abbrev Lexes : Mark → Edge → Type 0
-Lexes m e = (rest : List ℕ) (at : ℕ) (l minus : Bool) (r : Lexed) → After (edge_behind e (mark_piece m)) (is_risky m) rest
-    → ((k : Bool) → lex (at + length (mark_text m)) 0 false k rest ≡ r)
-    → lex at 0 l minus (mark_text m ++ rest) ≡ pushes (mark_tokens m at l) r
+-- each lexeme gives its tokens
+abbrev Lexes : Lexeme → Edge → Type 0
+Lexes m e = (rest : List ℕ) (at : ℕ) (l minus : Bool) (r : Lexed) → After (edge_behind e (lexeme_piece m)) (is_risky m) rest
+    → ((k : Bool) → lex (at + length (lexeme_text m)) 0 false k rest ≡ r)
+    → lex at 0 l minus (lexeme_text m ++ rest) ≡ pushes (lexeme_tokens m at l) r
 
 abbrev SignLexes : ℕ → Type 0
 SignLexes b = (b == 32) ≡ false → (rest : List ℕ) (at : ℕ) (l minus : Bool) (r : Lexed)
@@ -217,11 +217,11 @@ sign-lexes = by-sign SignLexes (λ h. absurd (let e : true ≡ false = h in cc))
     (λ _ rest at l minus r g. lex-token Comma 44 [] rest at l minus r refl g)
     (λ _ rest at l minus r g. lex-token Bar 124 [] rest at l minus r refl g)
 
--- a mark of one token
-one-token : (m : Mark) (f t rest : List ℕ) (kind : TokenKind) (at : ℕ) (l minus : Bool) (r : Lexed) → mark_text m ≡ t
-    → mark_tokens m at l ≡ (tok kind at (at + length t) l, f) ∷ [] → 0 < length t
-    → begins at minus (t ++ rest) ≡ Whole kind (at + length t) → ((k : Bool) → lex (at + length (mark_text m)) 0 false k rest ≡ r)
-    → lex at 0 l minus (mark_text m ++ rest) ≡ pushes (mark_tokens m at l) r
+-- a lexeme of one token
+one-token : (m : Lexeme) (f t rest : List ℕ) (kind : TokenKind) (at : ℕ) (l minus : Bool) (r : Lexed) → lexeme_text m ≡ t
+    → lexeme_tokens m at l ≡ (tok kind at (at + length t) l, f) ∷ [] → 0 < length t
+    → begins at minus (t ++ rest) ≡ Whole kind (at + length t) → ((k : Bool) → lex (at + length (lexeme_text m)) 0 false k rest ≡ r)
+    → lex at 0 l minus (lexeme_text m ++ rest) ≡ pushes (lexeme_tokens m at l) r
 one-token m f t rest kind at l minus r e toks some b g =
     ap (λ (x : List ℕ). lex at 0 l minus (x ++ rest)) e
     ∙ (lex-text kind t rest at l minus r some b (λ k. ap (λ (x : List ℕ). lex (at + length x) 0 false k rest) (sym e) ∙ g k)
@@ -355,37 +355,37 @@ number-lexes (negsuc n) h e rest at l minus r after g =
     ≡ suc (length (decimal (suc n))) =
     refl in let q : at + 1 + length (decimal (suc n)) ≡ at + length (45 ∷ decimal (suc n)) = omega (arith, z) in q) ∙ g k))
 
--- marks that are no spaces
-abbrev pub is_space : Mark → Bool
+-- lexemes that are no spaces
+abbrev pub is_space : Lexeme → Bool
 is_space (sign b) = b == 32
 is_space m = false
 
-mark-lexes : (m : Mark) → IsMark m → is_space m ≡ false → (e : Edge) → Lexes m e
-mark-lexes (sign b) h n e = λ rest at l minus r after g. sign-lexes b h n rest at l minus r g
-mark-lexes (name f) h n e = name-lexes f h e
-mark-lexes (prefix_name f) h n e = prefix-lexes f h e
-mark-lexes (number i) h n e = number-lexes i h e
+lexeme-lexes : (m : Lexeme) → IsLexeme m → is_space m ≡ false → (e : Edge) → Lexes m e
+lexeme-lexes (sign b) h n e = λ rest at l minus r after g. sign-lexes b h n rest at l minus r g
+lexeme-lexes (name f) h n e = name-lexes f h e
+lexeme-lexes (prefix_name f) h n e = prefix-lexes f h e
+lexeme-lexes (number i) h n e = number-lexes i h e
 
--- the tokens of marks, behind a text that ends so
+-- the tokens of lexemes, behind a text that ends so
 abbrev pub gap : Edge → List ℕ → Bool
 gap e [] = false
 gap e (b ∷ bs) = is_apart e b
 
-abbrev pub tokens : ℕ → Edge → Bool → List Mark → List Known
+abbrev pub tokens : ℕ → Edge → Bool → List Lexeme → List Known
 tokens at e l [] = []
 tokens at e l (m ∷ ms) =
     cond (is_space m) (tokens (at + 1) Other true ms)
-    (cond (gap e (mark_text m))
-    (mark_tokens m (at + 1) true ++ tokens (at + 1 + length (mark_text m)) (edge_behind e (mark_piece m)) false ms)
-    (mark_tokens m at l ++ tokens (at + length (mark_text m)) (edge_behind e (mark_piece m)) false ms))
+    (cond (gap e (lexeme_text m))
+    (lexeme_tokens m (at + 1) true ++ tokens (at + 1 + length (lexeme_text m)) (edge_behind e (lexeme_piece m)) false ms)
+    (lexeme_tokens m at l ++ tokens (at + length (lexeme_text m)) (edge_behind e (lexeme_piece m)) false ms))
 
-abbrev pub AreMarks : List Mark → Type 0
-AreMarks [] = Unit {0}
-AreMarks (m ∷ ms) = IsMark m × AreMarks ms
+abbrev pub AreLexemes : List Lexeme → Type 0
+AreLexemes [] = Unit {0}
+AreLexemes (m ∷ ms) = IsLexeme m × AreLexemes ms
 
--- the text of marks, with the space and the full stop behind it
-abbrev pub ended : Edge → List Mark → List ℕ
-ended e ms = spaced e (map mark_piece ms) ++ 32 ∷ 46 ∷ []
+-- the text of lexemes, with the space and the full stop behind it
+abbrev pub ended : Edge → List Lexeme → List ℕ
+ended e ms = spaced e (map lexeme_piece ms) ++ 32 ∷ 46 ∷ []
 
 pub space-apart : (e : Edge) → is_apart e 32 ≡ false
 space-apart Other = refl
@@ -394,12 +394,12 @@ space-apart Symbol = refl
 space-apart Prefix = refl
 space-apart Minus = refl
 
--- what stands behind a mark
-pub behind : (e : Edge) (q : Bool) (ms : List Mark) → AreMarks ms → IsClean q ms → After e q (ended e ms)
+-- what stands behind a lexeme
+pub behind : (e : Edge) (q : Bool) (ms : List Lexeme) → AreLexemes ms → IsClean q ms → After e q (ended e ms)
 behind e q [] h c = record { apart = space-apart e; quote = λ _. refl; fraction = refl }
 behind e q (m ∷ ms) h c =
     let b = begun m h.0 in
-    let more = spaced (edge_behind e (mark_piece m)) (map mark_piece ms) in
+    let more = spaced (edge_behind e (lexeme_piece m)) (map lexeme_piece ms) in
     let tail : List ℕ = 32 ∷ 46 ∷ [] in
     by_test (is_apart e b.first)
     (λ k. subst (After e q) (sym (ap (λ (x : List ℕ). (set_apart e x ++ more) ++ tail) b.bytes
@@ -417,9 +417,9 @@ behind e q (m ∷ ms) h c =
 abbrev pub end_token : ℕ → Token
 end_token n = tok End (n + 1) (n + 2) true
 
-abbrev pub whole : ℕ → Edge → Bool → List Mark → Lexed
+abbrev pub whole : ℕ → Edge → Bool → List Lexeme → Lexed
 whole at e l ms =
-    pushes (tokens at e l ms) (push (end_token (at + length (spaced e (map mark_piece ms)))) (record { tokens = []; fault = None }))
+    pushes (tokens at e l ms) (push (end_token (at + length (spaced e (map lexeme_piece ms)))) (record { tokens = []; fault = None }))
 
 pushes-append : (ks js : List Known) (r : Lexed) → pushes (ks ++ js) r ≡ pushes ks (pushes js r)
 pushes-append [] js r = refl
@@ -432,60 +432,60 @@ set-apart-is e (b ∷ bs) = refl
 abbrev ending : ℕ → Lexed
 ending n = push (end_token n) (record { tokens = []; fault = None })
 
--- a mark that is no space, with or without a space before it
-step : (m : Mark) (ms : List Mark) → IsMark m → is_space m ≡ false → (e : Edge)
-    → After (edge_behind e (mark_piece m)) (is_risky m) (ended (edge_behind e (mark_piece m)) ms)
-    → ((at : ℕ) (l minus : Bool) → lex at 0 l minus (ended (edge_behind e (mark_piece m)) ms) ≡ whole at
-    (edge_behind e (mark_piece m)) l ms)
+-- a lexeme that is no space, with or without a space before it
+step : (m : Lexeme) (ms : List Lexeme) → IsLexeme m → is_space m ≡ false → (e : Edge)
+    → After (edge_behind e (lexeme_piece m)) (is_risky m) (ended (edge_behind e (lexeme_piece m)) ms)
+    → ((at : ℕ) (l minus : Bool) → lex at 0 l minus (ended (edge_behind e (lexeme_piece m)) ms) ≡ whole at
+    (edge_behind e (lexeme_piece m)) l ms)
     → (at : ℕ) (l minus : Bool) → lex at 0 l minus (ended e (m ∷ ms)) ≡ whole at e l (m ∷ ms)
 step m ms h n e after rest at l minus =
-    let t = mark_text m in
-    let e2 = edge_behind e (mark_piece m) in
-    let more = spaced e2 (map mark_piece ms) in
+    let t = lexeme_text m in
+    let e2 = edge_behind e (lexeme_piece m) in
+    let more = spaced e2 (map lexeme_piece ms) in
     let tail : List ℕ = 32 ∷ 46 ∷ [] in
     let split : (x : List ℕ) → set_apart e t ≡ x → ended e (m ∷ ms) ≡ x ++ (more ++ tail) =
     (λ x q. ap (λ (y : List ℕ). (y ++ more) ++ tail) q ∙ append_assoc x more tail) in
-    let size : (x : List ℕ) → set_apart e t ≡ x → length (spaced e (map mark_piece (m ∷ ms))) ≡ length x + length more =
+    let size : (x : List ℕ) → set_apart e t ≡ x → length (spaced e (map lexeme_piece (m ∷ ms))) ≡ length x + length more =
     (λ x q. ap (λ (y : List ℕ). length (y ++ more)) q ∙ length-append x more) in
     by_test (gap e t)
     (λ k.
     let q = set-apart-is e t ∙ if_true (gap e t) (32 ∷ t) t k in
-    let toks : tokens at e l (m ∷ ms) ≡ mark_tokens m (at + 1) true ++ tokens (at + 1 + length t) e2 false ms =
+    let toks : tokens at e l (m ∷ ms) ≡ lexeme_tokens m (at + 1) true ++ tokens (at + 1 + length t) e2 false ms =
     if_false (is_space m) _ _ n ∙ if_true (gap e t) _ _ k in
-    let place : at + 1 + length t + length more ≡ at + length (spaced e (map mark_piece (m ∷ ms))) =
+    let place : at + 1 + length t + length more ≡ at + length (spaced e (map lexeme_piece (m ∷ ms))) =
     (let z = size (32 ∷ t) q in let y : length (32 ∷ t) ≡ suc (length t) = refl in omega (arith, z, y)) in
     ap (lex at 0 l minus) (split (32 ∷ t) q)
-    ∙ (lex-space (t ++ (more ++ tail)) at l minus _ (mark-lexes m h n e (more ++ tail) (at + 1) true false _ after
+    ∙ (lex-space (t ++ (more ++ tail)) at l minus _ (lexeme-lexes m h n e (more ++ tail) (at + 1) true false _ after
     (λ j. rest (at + 1 + length t) false j))
-    ∙ (ap (λ (x : ℕ). pushes (mark_tokens m (at + 1) true) (pushes (tokens (at + 1 + length t) e2 false ms) (ending x))) place
-    ∙ (sym (pushes-append (mark_tokens m (at + 1) true) (tokens (at + 1 + length t) e2 false ms)
-    (ending (at + length (spaced e (map mark_piece (m ∷ ms))))))
-    ∙ ap (λ (ks : List Known). pushes ks (ending (at + length (spaced e (map mark_piece (m ∷ ms)))))) (sym toks)))))
+    ∙ (ap (λ (x : ℕ). pushes (lexeme_tokens m (at + 1) true) (pushes (tokens (at + 1 + length t) e2 false ms) (ending x))) place
+    ∙ (sym (pushes-append (lexeme_tokens m (at + 1) true) (tokens (at + 1 + length t) e2 false ms)
+    (ending (at + length (spaced e (map lexeme_piece (m ∷ ms))))))
+    ∙ ap (λ (ks : List Known). pushes ks (ending (at + length (spaced e (map lexeme_piece (m ∷ ms)))))) (sym toks)))))
     (λ k.
     let q = set-apart-is e t ∙ if_false (gap e t) (32 ∷ t) t k in
-    let toks : tokens at e l (m ∷ ms) ≡ mark_tokens m at l ++ tokens (at + length t) e2 false ms =
+    let toks : tokens at e l (m ∷ ms) ≡ lexeme_tokens m at l ++ tokens (at + length t) e2 false ms =
     if_false (is_space m) _ _ n ∙ if_false (gap e t) _ _ k in
-    let place : at + length t + length more ≡ at + length (spaced e (map mark_piece (m ∷ ms))) = (let z = size t q in omega (arith, z)) in
+    let place : at + length t + length more ≡ at + length (spaced e (map lexeme_piece (m ∷ ms))) = (let z = size t q in omega (arith, z)) in
     ap (lex at 0 l minus) (split t q)
-    ∙ (mark-lexes m h n e (more ++ tail) at l minus _ after (λ j. rest (at + length t) false j)
-    ∙ (ap (λ (x : ℕ). pushes (mark_tokens m at l) (pushes (tokens (at + length t) e2 false ms) (ending x))) place
-    ∙ (sym (pushes-append (mark_tokens m at l) (tokens (at + length t) e2 false ms)
-    (ending (at + length (spaced e (map mark_piece (m ∷ ms))))))
-    ∙ ap (λ (ks : List Known). pushes ks (ending (at + length (spaced e (map mark_piece (m ∷ ms)))))) (sym toks)))))
+    ∙ (lexeme-lexes m h n e (more ++ tail) at l minus _ after (λ j. rest (at + length t) false j)
+    ∙ (ap (λ (x : ℕ). pushes (lexeme_tokens m at l) (pushes (tokens (at + length t) e2 false ms) (ending x))) place
+    ∙ (sym (pushes-append (lexeme_tokens m at l) (tokens (at + length t) e2 false ms)
+    (ending (at + length (spaced e (map lexeme_piece (m ∷ ms))))))
+    ∙ ap (λ (ks : List Known). pushes ks (ending (at + length (spaced e (map lexeme_piece (m ∷ ms)))))) (sym toks)))))
 
-space-step : (ms : List Mark) (e : Edge) → ((at : ℕ) (l minus : Bool) → lex at 0 l minus (ended Other ms) ≡ whole at Other l ms)
+space-step : (ms : List Lexeme) (e : Edge) → ((at : ℕ) (l minus : Bool) → lex at 0 l minus (ended Other ms) ≡ whole at Other l ms)
     → (at : ℕ) (l minus : Bool) → lex at 0 l minus (ended e (sign 32 ∷ ms)) ≡ whole at e l (sign 32 ∷ ms)
 space-step ms e rest at l minus =
-    let more = spaced Other (map mark_piece ms) in
-    let q : spaced e (map mark_piece (sign 32 ∷ ms)) ≡ 32 ∷ more =
+    let more = spaced Other (map lexeme_piece ms) in
+    let q : spaced e (map lexeme_piece (sign 32 ∷ ms)) ≡ 32 ∷ more =
     ap (λ (x : List ℕ). x ++ more) (if_false (is_apart e 32) (32 ∷ 32 ∷ []) (32 ∷ []) (space-apart e)) in
     ap (λ (x : List ℕ). lex at 0 l minus (x ++ 32 ∷ 46 ∷ [])) q
     ∙ (lex-space (more ++ 32 ∷ 46 ∷ []) at l minus _ (rest (at + 1) true false)
-    ∙ ap (λ (n : ℕ). pushes (tokens (at + 1) Other true ms) (ending n)) (let z : length (spaced e (map mark_piece (sign 32 ∷ ms)))
+    ∙ ap (λ (n : ℕ). pushes (tokens (at + 1) Other true ms) (ending n)) (let z : length (spaced e (map lexeme_piece (sign 32 ∷ ms)))
     ≡ suc (length more) = ap length q in
-    let p : at + 1 + length more ≡ at + length (spaced e (map mark_piece (sign 32 ∷ ms))) = omega (arith, z) in p))
+    let p : at + 1 + length more ≡ at + length (spaced e (map lexeme_piece (sign 32 ∷ ms))) = omega (arith, z) in p))
 
-spaced-out : (m : Mark) (ms : List Mark) → is_space m ≡ true → (e : Edge)
+spaced-out : (m : Lexeme) (ms : List Lexeme) → is_space m ≡ true → (e : Edge)
     → ((at : ℕ) (l minus : Bool) → lex at 0 l minus (ended Other ms) ≡ whole at Other l ms)
     → (at : ℕ) (l minus : Bool) → lex at 0 l minus (ended e (m ∷ ms)) ≡ whole at e l (m ∷ ms)
 spaced-out (sign b) ms k e rest at l minus =
@@ -495,7 +495,7 @@ spaced-out (name f) ms k e rest at l minus = absurd (let z : false ≡ true = k 
 spaced-out (prefix_name f) ms k e rest at l minus = absurd (let z : false ≡ true = k in cc)
 spaced-out (number i) ms k e rest at l minus = absurd (let z : false ≡ true = k in cc)
 
-pub lexed : (ms : List Mark) → AreMarks ms → (q : Bool) → IsClean q ms → (e : Edge) (at : ℕ) (l minus : Bool)
+pub lexed : (ms : List Lexeme) → AreLexemes ms → (q : Bool) → IsClean q ms → (e : Edge) (at : ℕ) (l minus : Bool)
     → lex at 0 l minus (ended e ms) ≡ whole at e l ms
 lexed [] h q c e at l minus =
     lex-space (46 ∷ []) at l minus _ (lex-token End 46 [] [] (at + 1) true false (record { tokens = []; fault = None }) refl (λ m. refl))
@@ -504,5 +504,5 @@ lexed [] h q c e at l minus =
     (let p : at + 0 + 1 + 1 ≡ at + 0 + 2 = omega arith in p)
 lexed (m ∷ ms) h q c e at l minus = by_test (is_space m)
     (λ k. spaced-out m ms k e (λ a b d. lexed ms h.1 (is_risky m) c.1 Other a b d) at l minus)
-    (λ k. step m ms h.0 k e (behind (edge_behind e (mark_piece m)) (is_risky m) ms h.1 c.1) (λ a b d. lexed ms h.1 (is_risky m) c.1
-    (edge_behind e (mark_piece m)) a b d) at l minus)
+    (λ k. step m ms h.0 k e (behind (edge_behind e (lexeme_piece m)) (is_risky m) ms h.1 c.1) (λ a b d. lexed ms h.1 (is_risky m) c.1
+    (edge_behind e (lexeme_piece m)) a b d) at l minus)

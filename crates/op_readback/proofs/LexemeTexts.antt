@@ -1,4 +1,4 @@
--- How the texts of marks begin and end.
+-- How the texts of lexemes begin and end.
 use Rattle.std.proofs.Common.{◌≡◌, ◌<◌, ◌^◌, ℕ, suc, pos, negsuc, Bool, true, false, not, ◌||◌, ◌==◌, List, [], ◌∷◌, ◌++◌, refl, sym, ◌∙◌}
 use Rattle.std.proofs.Common.{ap, subst, arith}
 use Rattle.std.specs.Prelude.{codes, nat_le, decimal}
@@ -15,9 +15,9 @@ use Rattle.op_base.specs.Characters.{is_symbol, is_word, is_small}
 use Rattle.op_writer.specs.Spelling.{is_symbolic, is_word_name, is_other_token, is_unquoted, name_text, quoted, escaped}
 use Rattle.op_writer.specs.Pieces.{text_of}
 use Rattle.op_readback.specs.ReadBack.{IsSmall}
-use Rattle.op_readback.proofs.Marks.{Mark, sign, name, prefix_name, number, mark_piece}
+use Rattle.op_readback.proofs.Lexemes.{Lexeme, sign, name, prefix_name, number, lexeme_piece}
 use Rattle.op_readback.proofs.QuotedNames.{and-parts}
-use Rattle.op_readback.proofs.MarkSpellings.{or-either, by-symbol}
+use Rattle.op_readback.proofs.NameSpellings.{or-either, by-symbol}
 use Rattle.op_readback.proofs.IntegerSpellings.{IsDigits, decimal-digits, not-is, and-left, and-right}
 
 -- the names that are written without quotes
@@ -37,8 +37,8 @@ by-name f p1 p2 p3 p4 p5 p6 h =
     not-true true h = absurd (let e : false ≡ true = h in cc)
     not-true false h = refl
 
-abbrev pub mark_text : Mark → List ℕ
-mark_text m = text_of (mark_piece m)
+abbrev pub lexeme_text : Lexeme → List ℕ
+lexeme_text m = text_of (lexeme_piece m)
 
 abbrev pub is_sign : ℕ → Bool
 is_sign b = b == 32 || b == 40 || b == 41 || b == 91 || b == 93 || b == 123 || b == 125 || b == 44 || b == 124
@@ -50,30 +50,30 @@ by-sign P p1 p2 p3 p4 p5 p6 p7 p8 p9 b h =
     (λ h. or-either _ _ h (λ h. or-either _ _ h (λ h. or-either _ _ h (λ h. or-either _ _ h (λ h. or-either _ _ h
     (at 32 p1) (at 40 p2)) (at 41 p3)) (at 91 p4)) (at 93 p5)) (at 123 p6)) (at 125 p7)) (at 44 p8)) (at 124 p9)
 
--- a mark that is written
-abbrev pub IsMark : Mark → Type 0
-IsMark (sign b) = is_sign b ≡ true
-IsMark (name f) = IsUtf8 f
-IsMark (prefix_name f) = (is_unquoted f ≡ true) × (is_symbolic f ≡ true) × (is_other_token f ≡ false)
-IsMark (number i) = IsSmall i
+-- a lexeme that is written
+abbrev pub IsLexeme : Lexeme → Type 0
+IsLexeme (sign b) = is_sign b ≡ true
+IsLexeme (name f) = IsUtf8 f
+IsLexeme (prefix_name f) = (is_unquoted f ≡ true) × (is_symbolic f ≡ true) × (is_other_token f ≡ false)
+IsLexeme (number i) = IsSmall i
 
--- whether a mark begins with a quote, and whether a quote behind it would be read with it
-abbrev pub starts_quote : Mark → Bool
+-- whether a lexeme begins with a quote, and whether a quote behind it would be read with it
+abbrev pub starts_quote : Lexeme → Bool
 starts_quote (name f) = not (is_unquoted f)
 starts_quote m = false
 
-abbrev pub is_risky : Mark → Bool
+abbrev pub is_risky : Lexeme → Bool
 is_risky (name f) = not (is_unquoted f)
 is_risky (number i) = true
 is_risky m = false
 
 -- no quote stands where it would be read with what is before it
-abbrev pub IsClean : Bool → List Mark → Type 0
+abbrev pub IsClean : Bool → List Lexeme → Type 0
 IsClean q [] = Unit {0}
 IsClean q (m ∷ ms) = (starts_quote m ≡ true → q ≡ false) × IsClean (is_risky m) ms
 
 -- how a text begins
-pub record Begun (m : Mark) (t : List ℕ) : Type 0 where
+pub record Begun (m : Lexeme) (t : List ℕ) : Type 0 where
   pub first : ℕ
   pub more : List ℕ
   pub bytes : t ≡ first ∷ more
@@ -98,13 +98,13 @@ symbol-dot b (c ∷ bs) s h o = and-right (b == 46) (has Decimal c) (symbol-digi
 symbol-quote : (b : ℕ) → is_symbol b ≡ true → (b == 39) ≡ false
 symbol-quote = by-symbol (λ b. (b == 39) ≡ false) refl refl refl refl refl refl refl refl refl refl refl refl refl refl refl refl refl
 
-symbolic-begun : (m : Mark) (t : List ℕ) → is_symbolic t ≡ true → is_other_token t ≡ false → Begun m t
+symbolic-begun : (m : Lexeme) (t : List ℕ) → is_symbolic t ≡ true → is_other_token t ≡ false → Begun m t
 symbolic-begun m [] h o = absurd (let e : false ≡ true = h in cc)
 symbolic-begun m (b ∷ bs) h o =
     let k = and-parts (is_symbol b) (list_all is_symbol bs) h in
     record { first = b; more = bs; bytes = refl; quote = λ _. symbol-quote b k.0; fraction = λ s. symbol-dot b bs s k.1 o }
 
-word-begun : (m : Mark) (t : List ℕ) → is_word_name t ≡ true → Begun m t
+word-begun : (m : Lexeme) (t : List ℕ) → is_word_name t ≡ true → Begun m t
 word-begun m [] h = absurd (let e : false ≡ true = h in cc)
 word-begun m (b ∷ bs) h =
     let k = and-parts (is_small b) (list_all is_word bs) h in
@@ -118,10 +118,10 @@ word-begun m (b ∷ bs) h =
           (not-is b 46 (omega (arith, l)));
     }
 
-literal-begun : (m : Mark) (t : List ℕ) (b : ℕ) (bs : List ℕ) → t ≡ b ∷ bs → (b == 39) ≡ false → (b == 46) ≡ false → Begun m t
+literal-begun : (m : Lexeme) (t : List ℕ) (b : ℕ) (bs : List ℕ) → t ≡ b ∷ bs → (b == 39) ≡ false → (b == 46) ≡ false → Begun m t
 literal-begun m t b bs e q d = record { first = b; more = bs; bytes = e; quote = λ _. q; fraction = λ s. no-dot b bs s d }
 
-digits-begun : (m : Mark) (n : ℕ) (ds : List ℕ) → IsDigits n ds → Begun m ds
+digits-begun : (m : Lexeme) (n : ℕ) (ds : List ℕ) → IsDigits n ds → Begun m ds
 digits-begun m n [] d = absurd (omega (arith, d.some))
 digits-begun m n (b ∷ bs) d =
     let k = and-parts (has Decimal b) (list_all (has Decimal) bs) d.digits in
@@ -141,7 +141,7 @@ unquoted-text f h = if_true (is_unquoted f) f (quoted f) h
 pub quoted-name-text : (f : List ℕ) → is_unquoted f ≡ false → name_text Quoted f ≡ quoted f
 quoted-name-text f h = if_false (is_unquoted f) f (quoted f) h
 
-unquoted-begun : (m : Mark) (f : List ℕ) → is_unquoted f ≡ true → Begun m f
+unquoted-begun : (m : Lexeme) (f : List ℕ) → is_unquoted f ≡ true → Begun m f
 unquoted-begun m f h = by-name f
     (λ e. literal-begun m f 91 (93 ∷ []) e refl refl)
     (λ e. literal-begun m f 123 (125 ∷ []) e refl refl)
@@ -151,7 +151,7 @@ unquoted-begun m f h = by-name f
     (λ s o. symbolic-begun m f s o)
     h
 
-pub begun : (m : Mark) → IsMark m → Begun m (mark_text m)
+pub begun : (m : Lexeme) → IsLexeme m → Begun m (lexeme_text m)
 begun (sign b) h =
     by-sign (λ b. Begun (sign b) (b ∷ [])) (literal-begun _ _ 32 [] refl refl refl) (literal-begun _ _ 40 [] refl refl refl)
     (literal-begun _ _ 41 [] refl refl refl)
