@@ -1,4 +1,4 @@
--- Fuel doesn't matter: the walk has one equation, by its rows.
+-- The depth doesn't matter: the walk satisfies its equations.
 use Rattle.std.proofs.Common.{◌≡◌, ℕ, zero, suc, ◌+◌, ◌-◌, ◌≤◌, ◌<◌, nat_le, Bool, true, false, List, [], ◌∷◌, Option, Some, None, refl, ap}
 use Rattle.std.proofs.Common.{◌∙◌, arith}
 use Rattle.std.proofs.lemmas.Bool.Decides.{nat_tests}
@@ -191,11 +191,11 @@ visit_by-same (suc f) (suc g) s I σ w below a b =
     visit_with-same (visit_by f s) (visit_by g s) s w.steps (λ I τ u low high. visit_by-same f g s I τ u high (omega arith) (omega arith))
     (visit_by-later f s) I σ w (omega arith) below
 
--- the walk, by its rows
-pub visit_rows : (s : Setup) (I : List Item) (σ : Bindings Text) (w : World) → w.steps ≤ s.budget
+-- the walk, by its equations
+pub visit_equations : (s : Setup) (I : List Item) (σ : Bindings Text) (w : World) → w.steps ≤ s.budget
     → visit s I σ w ≡ visit_with (visit s) s I σ w
 unfolding visit visit_by
-visit_rows s I σ w below =
+visit_equations s I σ w below =
     visit_with-same (visit_by (s.budget - w.steps) s) (visit s) s w.steps
     (λ I τ u low high. visit_by-same (s.budget - w.steps) (suc (s.budget - u.steps)) s I τ u high (omega arith) (omega arith))
     (visit_by-later (s.budget - w.steps) s) I σ w (omega arith) below
