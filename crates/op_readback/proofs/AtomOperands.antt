@@ -3,7 +3,7 @@ use Rattle.std.proofs.Common.{◌≡◌, ℕ, Bool, true, false, not, ◌||◌, 
 use Rattle.std.proofs.Common.{ap, subst}
 use Rattle.std.specs.Prelude.{codes, option_map}
 use Rattle.std.proofs.lemmas.List.{append_assoc}
-use Rattle.op_logic.proofs.Tests.{by_test}
+use Rattle.op_logic.proofs.BoolCases.{by_test}
 use Rattle.op_logic.specs.Term.{Term, node, atom, no_args, arg}
 use Rattle.op_term.specs.Ops.{Table, IsTable, prefix_in, infix_in, postfix_in}
 use Rattle.op_term.specs.declared.ops.Meaning.{Meaning}

@@ -2,7 +2,7 @@
 use Rattle.std.proofs.Common.{◌≡◌, ◌+◌, ℕ, Bool, false, List, [], ◌∷◌, Option, Some, None, refl, ◌∙◌, ap}
 use Rattle.std.specs.Prelude.{codes, option_map, option_and_then}
 use Rattle.std.specs.Str.{IsUtf8}
-use Rattle.op_logic.proofs.Tests.{if_false}
+use Rattle.op_logic.proofs.BoolCases.{if_false}
 use Rattle.op_logic.specs.Term.{Term}
 use Rattle.op_term.specs.Ops.{Table}
 use Rattle.op_token.specs.declared.token.TokenKind.TheVariants.{OpenRound, CloseRound, OpenSquare, CloseSquare, OpenCurly, CloseCurly}

@@ -4,7 +4,7 @@ use Rattle.std.proofs.Common.{is_some, refl, sym, ◌∙◌, ap}
 use Rattle.std.specs.Prelude.{codes, slice_index, option_and_then}
 use Rattle.std.specs.Option.{option_map_or}
 use Rattle.std.specs.Str.{bytes_eq}
-use Rattle.op_logic.proofs.Tests.{by_test, if_true, if_false}
+use Rattle.op_logic.proofs.BoolCases.{by_test, if_true, if_false}
 use Rattle.op_logic.specs.Term.{atom}
 use Rattle.op_term.specs.Ops.{Table, prefix_in}
 use Rattle.op_term.specs.declared.ops.Meaning.{Meaning}

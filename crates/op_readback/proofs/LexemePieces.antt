@@ -4,7 +4,7 @@ use Rattle.std.specs.Prelude.{codes}
 use Rattle.std.specs.Str.{bytes_eq}
 use Rattle.std.proofs.lemmas.List.{append_assoc, map-append}
 use Rattle.std.proofs.lemmas.Slice.Eq.{bytes_eq-Decides}
-use Rattle.op_logic.proofs.Tests.{by_test, if_true, if_false}
+use Rattle.op_logic.proofs.BoolCases.{by_test, if_true, if_false}
 use Rattle.op_logic.specs.Term.{Term, var, int, node, Args, no_args, arg, arity}
 use Rattle.op_term.specs.Ops.{Table}
 use Rattle.op_writer.specs.declared.style.Style.{Style}

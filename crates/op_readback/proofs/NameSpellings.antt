@@ -8,7 +8,7 @@ use Rattle.std.proofs.lemmas.Bool.{leb-true, lt-leb, eqb-true}
 use Rattle.std.proofs.lemmas.List.{append_assoc}
 use Rattle.std.proofs.lemmas.Str.{encodes-chars, chars-encodes}
 use lib.Utf8.{encodes, scalars}
-use Rattle.op_logic.proofs.Tests.{by_test, if_true, if_false}
+use Rattle.op_logic.proofs.BoolCases.{by_test, if_true, if_false}
 use Rattle.op_token.specs.declared.token.TokenKind.TheVariants.{Name, QuotedName}
 use Rattle.op_token.specs.declared.spelling.Spelling.TheVariants.{Whole}
 use Rattle.op_token.specs.declared.class.Class.{Class}

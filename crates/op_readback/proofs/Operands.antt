@@ -5,7 +5,7 @@ use Rattle.std.specs.Prelude.{codes}
 use Rattle.std.specs.Str.{bytes_eq}
 use Rattle.std.proofs.lemmas.List.{append_assoc}
 use Rattle.std.proofs.lemmas.Slice.Eq.{bytes_eq-Decides}
-use Rattle.op_logic.proofs.Tests.{by_test, if_true, if_false}
+use Rattle.op_logic.proofs.BoolCases.{by_test, if_true, if_false}
 use Rattle.op_logic.specs.Term.{Term}
 use Rattle.op_term.specs.Ops.{Table, IsTable, IsMeaning, prefix_in, infix_in, postfix_in, is_infix, is_postfix}
 use Rattle.op_term.specs.declared.ops.OpKind.{OpKind}

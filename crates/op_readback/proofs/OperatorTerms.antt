@@ -2,7 +2,7 @@
 use Rattle.std.proofs.Common.{◌≡◌, ◌≤◌, ℕ, Bool, true, cond, List, [], ◌∷◌, ◌++◌, Option, Some, sym, ◌∙◌, ap, subst, IfSome}
 use Rattle.std.specs.Prelude.{nat_le}
 use Rattle.std.proofs.lemmas.Bool.{le-leb}
-use Rattle.op_logic.proofs.Tests.{if_true}
+use Rattle.op_logic.proofs.BoolCases.{if_true}
 use Rattle.op_logic.specs.Term.{Term, node, no_args, arg}
 use Rattle.op_term.specs.Ops.{Table, IsTable, IsMeaning, is_prefix, is_infix, is_postfix}
 use Rattle.op_term.specs.declared.ops.Meaning.{Meaning}

@@ -2,7 +2,7 @@
 use Rattle.std.proofs.Common.{◌≡◌, ◌<◌, ◌≤◌, ◌-◌, ℕ, Bool, true, false, ◌||◌, ◌&&◌, List, [], ◌∷◌, ◌++◌, Option, Some, max, refl, sym, ◌∙◌}
 use Rattle.std.proofs.Common.{ap, subst, arith, ltb, eqb}
 use Rattle.std.proofs.lemmas.Bool.{leb-true, ltb-true, lt-ltb, eqb-true}
-use Rattle.op_logic.proofs.Tests.{by_test, by_order, if_true, if_false}
+use Rattle.op_logic.proofs.BoolCases.{by_test, by_order, if_true, if_false}
 use Rattle.op_term.specs.declared.ops.OpKind.{OpKind}
 use Rattle.op_term.specs.declared.ops.OpKind.TheVariants.{Xfx, Xfy, Yfx, Fy, Fx, Xf, Yf}
 use Rattle.op_term.specs.declared.ops.Meaning.{Meaning}

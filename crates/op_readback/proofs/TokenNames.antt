@@ -6,7 +6,7 @@ use Rattle.std.specs.Str.{bytes_eq, IsUtf8}
 use Rattle.std.proofs.Math.Seq.{take-append_seam, drop-append_seam, drop-append-add}
 use Rattle.std.proofs.lemmas.List.{append_assoc, get_or-append-add}
 use Rattle.std.proofs.lemmas.Bool.{eqb-true}
-use Rattle.op_logic.proofs.Tests.{by_test, if_true, if_false}
+use Rattle.op_logic.proofs.BoolCases.{by_test, if_true, if_false}
 use Rattle.op_token.specs.declared.token.TokenKind.{TokenKind}
 use Rattle.op_token.specs.declared.token.TokenKind.TheVariants.{Name, QuotedName, Integer, OpenRound, CloseRound, OpenSquare, CloseSquare}
 use Rattle.op_token.specs.declared.token.TokenKind.TheVariants.{OpenCurly, CloseCurly, Comma, Bar}

@@ -7,7 +7,7 @@ use Rattle.std.proofs.Math.Seq.{get_or-append_right}
 use Rattle.op_logic.specs.Term.{Term, var, int, node, Args, no_args, arg, rename_args}
 use Rattle.op_logic.specs.Names.{name_at, named, HasNames, ArgsHaveNames}
 use Rattle.op_logic.proofs.NameTables.{name_at-below, name_at-past}
-use Rattle.op_logic.proofs.Tests.{by_order}
+use Rattle.op_logic.proofs.BoolCases.{by_order}
 use Rattle.op_token.specs.declared.token.TokenFaultKind.TheVariants.{NumberRange}
 use Rattle.op_reader.specs.declared.fault.ReadFaultKind.TheVariants.{Token as BadToken, NoOperand, Priority}
 use Rattle.op_reader.specs.declared.read_rows.ListNames.{ListNames}

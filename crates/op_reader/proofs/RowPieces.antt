@@ -6,7 +6,7 @@ use Rattle.std.proofs.lemmas.Option.{MatchOption-at_some, MatchOption-at_none}
 use Rattle.std.proofs.lemmas.Bool.{le-leb, leb-true, ltb-true, ltb-false}
 use Rattle.std.proofs.lemmas.List.{map-append, append-nil}
 use Rattle.op_logic.specs.Term.{Term}
-use Rattle.op_logic.proofs.Tests.{if_true, if_false}
+use Rattle.op_logic.proofs.BoolCases.{if_true, if_false}
 use Rattle.op_term.specs.Ops.{is_prefix, is_infix, is_postfix}
 use Rattle.op_term.specs.Places.{term_at}
 use Rattle.op_term.specs.declared.ops.Meaning.{Meaning}

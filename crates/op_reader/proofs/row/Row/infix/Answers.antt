@@ -1,5 +1,5 @@
 use Rattle.std.proofs.Common.{◌∙◌, sym, subst, length, Some, ◌<◌, ◌≤◌, arith}
-use Rattle.op_logic.proofs.Tests.{if_true, if_false}
+use Rattle.op_logic.proofs.BoolCases.{if_true, if_false}
 use Rattle.op_reader.specs.Row.{left_bound}
 use Rattle.op_reader.specs.inner.RowState.{RowState, operator_of, Stands, BranchesBelow}
 use Rattle.op_reader.proofs.ClosedSpines.{branches_push}

@@ -1,5 +1,5 @@
 use Rattle.std.proofs.Common.{◌≡◌, ◌∙◌, sym, subst, length, ◌<◌, ◌≤◌, ◌++◌, ◌∷◌, [], true, false, arith}
-use Rattle.op_logic.proofs.Tests.{if_true, if_false}
+use Rattle.op_logic.proofs.BoolCases.{if_true, if_false}
 use Rattle.op_reader.specs.Row.{operator, left_bound}
 use Rattle.op_reader.specs.inner.RowState.{RowState, operator_of, Stands, expects_operand}
 use Rattle.op_reader.proofs.ClosedSpines.{kept_length, branches_more}

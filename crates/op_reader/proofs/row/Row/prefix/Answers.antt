@@ -1,5 +1,5 @@
 use Rattle.std.proofs.Common.{◌≡◌, ◌∙◌, ◌++◌, ◌∷◌, [], sym, ap, subst, true, false, None}
-use Rattle.op_logic.proofs.Tests.{if_true, if_false}
+use Rattle.op_logic.proofs.BoolCases.{if_true, if_false}
 use Rattle.op_reader.specs.Row.{operator}
 use Rattle.op_reader.specs.inner.RowState.{RowState, operator_of, Stands, expects_operand, BranchesBelow, AreBelow}
 use Rattle.op_reader.specs.inner.Adding.{last_is_below}

@@ -1,4 +1,4 @@
--- Cases by a test.
+-- Cases of a Bool, and what a conditional is in each; cases by the order of two numbers.
 use Rattle.std.proofs.Common.{◌≡◌, ℕ, ◌<◌, ◌≤◌, Bool, true, false, cond, ltb, refl}
 use Rattle.std.proofs.lemmas.Bool.{ltb-true, ltb-false}
 
