@@ -9,7 +9,7 @@ use Rattle.op_trace.specs.Run.{Run, steps_at}
 use Rattle.op_machine.specs.Machine.{to_come}
 use Rattle.op_session.specs.Traced.{Traced}
 use Rattle.op_token.specs.Cut.{cut_of, text_in, rest_in, IsOpen, IsFollowed}
-use Rattle.op_token.proofs.Cutting as cutting
+use Rattle.op_token.proofs.TermTexts as cutting
 use Rattle.op_session.specs.declared.feed.Feed.{Feed}
 use Rattle.op_session.specs.declared.status.Status.{Status}
 use Rattle.op_session.specs.declared.status.Status.TheVariants as status

@@ -6,7 +6,7 @@ use Rattle.op_base.specs.Characters.{is_layout}
 use Rattle.op_token.specs.declared.piece.Piece.{Piece}
 use Rattle.op_token.specs.declared.piece.Piece.TheVariants.{Text, NoEnd, Empty}
 use Rattle.op_token.specs.Cut.{cut_of, text_in, behind_layout, rest_in, is_text, texts, behind_texts, IsOpen, IsFollowed, IsUnended}
-use Rattle.op_token.proofs.Cutting as cutting
+use Rattle.op_token.proofs.TermTexts as cutting
 use Rattle.op_session.specs.Session.{commands_in, last_text}
 use Rattle.op_session.specs.inner.Behind.{commands_from, rest_texts}
 use Rattle.op_session.specs.Promise.{followed_texts, has_behind}
