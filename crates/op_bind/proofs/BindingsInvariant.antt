@@ -8,7 +8,7 @@ use Rattle.std.proofs.Math.ListN.{replicate}
 use Rattle.op_logic.specs.Term.{Term, var, int, node, Args, no_args, arg, IsWithin, ArgsWithin, occurs}
 use Rattle.op_logic.specs.Bind.{Bindings, apply, lookup, follow}
 use Rattle.op_logic.specs.Laws.{Acyclic}
-use Rattle.op_logic.proofs.Tests.{by_test, by_order, if_true, if_false}
+use Rattle.op_logic.proofs.BoolCases.{by_test, by_order, if_true, if_false}
 use Rattle.op_logic.proofs.AppliedBindings.{eq_of, of_eq}
 use Rattle.op_logic.proofs.FollowedTerms.{follow-bound, follow-unbound, follow-int, follow-node}
 use Rattle.op_term.specs.Places.{term_at, args_at}

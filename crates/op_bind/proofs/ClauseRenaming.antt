@@ -4,7 +4,7 @@ use Rattle.std.proofs.lemmas.Bool.{le-leb, lt-leb}
 use Rattle.std.proofs.lemmas.List.{get_or-take, length-take-le}
 use Rattle.op_logic.specs.Term.{Term, var, int, node, Args, no_args, arg, IsWithin, ArgsWithin, shift, shift_args}
 use Rattle.op_logic.specs.Bind.{Bindings, Solved}
-use Rattle.op_logic.proofs.Tests.{if_true, if_false}
+use Rattle.op_logic.proofs.BoolCases.{if_true, if_false}
 use Rattle.op_term.specs.Places.{term_at}
 use Rattle.op_bind.specs.State.{State, mark_of, undone, bindings, IsGoodMark}
 use Rattle.op_bind.specs.Within.{AllWithin}

@@ -4,7 +4,7 @@ use Rattle.std.proofs.Common.{reverse, All, Option, None, sym, ◌∙◌, ap, su
 use Rattle.std.specs.Ordering.{int_eq}
 use Rattle.op_logic.specs.Term.{Term, var, int, node, no_args, arg, args_of, arity}
 use Rattle.op_logic.specs.Bind.{Bindings, lookup, follow, Pairs, goes, zip_args, meet}
-use Rattle.op_logic.proofs.Tests.{by_test, if_true, if_false}
+use Rattle.op_logic.proofs.BoolCases.{by_test, if_true, if_false}
 use Rattle.op_logic.proofs.AppliedBindings.{eq_of}
 use Rattle.op_logic.proofs.FollowedTerms.{follow-free}
 use Rattle.op_logic.proofs.SolvedPairs.{and_right}

@@ -8,7 +8,7 @@ use Rattle.std.proofs.Math.Seq.{take-length}
 use Rattle.op_logic.specs.Term.{Term}
 use Rattle.op_logic.specs.Bind.{apply, Reduction, clash, goes, unify}
 use Rattle.op_logic.specs.Laws.{Acyclic, pay, steps_of, instance_of, Respects}
-use Rattle.op_logic.proofs.Tests.{if_true, if_false}
+use Rattle.op_logic.proofs.BoolCases.{if_true, if_false}
 use Rattle.op_logic.proofs.StepCounts.{unify-reduction, reduction-paid}
 use Rattle.op_logic.proofs.BudgetedUnifiers.{unify-equal, unify-none}
 use Rattle.op_term.specs.Places.{term_at}

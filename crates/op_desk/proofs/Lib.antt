@@ -1,4 +1,4 @@
+pub mod BlockLaws
 pub mod EntryLaws
 pub mod FrameLaws
-pub mod PieceLaws
 pub mod ShelfLaws

@@ -13,7 +13,7 @@ use op_base::Memory;
 use std::alloc::Global;
 
 // How many bytes of a file are asked for at a time.
-const PIECE: usize = 65536;
+const BLOCK: usize = 65536;
 
 /// Puts all the bytes on a channel. After a fault a front of them was put.
 pub fn put_all<D: Desk>(desk: &mut D, chan: Chan, bytes: &[u8]) -> Result<(), DeskFault>
@@ -57,30 +57,30 @@ pub fn take_all<D: Desk>(
     ensures counts { TakeCounts (D.read_faults desk.old) (D.read_faults desk.new)
         (D.write_faults desk.old) (D.write_faults desk.new) result }
 {
-    let mut piece = buffer(alloc)?;
+    let mut block = buffer(alloc)?;
     let mut bytes = Bytes::new(alloc);
     loop {
-        let count = fetch_piece(desk, name, bytes.len() as u64, &mut piece)?;
+        let count = fetch_block(desk, name, bytes.len() as u64, &mut block)?;
         if count == 0 {
             return Ok(bytes);
         }
         if limit - (bytes.len() as u64) < count as u64 {
             return Err(TakeFault::TooLong);
         }
-        bytes.append(&piece[..count])?;
+        bytes.append(&block[..count])?;
     }
 }
 
-// Room for one piece.
+// Room for one block.
 fn buffer(alloc: Global) -> Result<Vec<u8>, Memory>
     ensures { IfOk result (λ v. 0 < vec_len v) }
 {
-    let piece = vec![in alloc; 0u8; PIECE]?;
-    Ok(piece)
+    let block = vec![in alloc; 0u8; BLOCK]?;
+    Ok(block)
 }
 
 // The desk's `fetch`, with its fault as that of a whole file.
-fn fetch_piece<D: Desk>(
+fn fetch_block<D: Desk>(
     desk: &mut D,
     name: &str,
     from: u64,

@@ -4,7 +4,7 @@ use Rattle.std.proofs.lemmas.Bool.Decides.{Decides-eqb}
 use Rattle.op_logic.specs.Term.{Term, var, int, node, Args, no_args, arg, occurs, replace, replace_args}
 use Rattle.op_logic.specs.Bind.{Bindings, apply, lookup}
 use Rattle.op_logic.specs.Laws.{Acyclic}
-use Rattle.op_logic.proofs.Tests.{by_test, if_true, if_false}
+use Rattle.op_logic.proofs.BoolCases.{by_test, if_true, if_false}
 use Rattle.op_logic.proofs.Replacement.{replace-absent, occurs-replaced, occurs-replace}
 
 pub eq_of : (m n : ℕ) → (m == n) ≡ true → m ≡ n

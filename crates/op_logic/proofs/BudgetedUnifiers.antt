@@ -3,7 +3,7 @@ use Rattle.std.proofs.Common.{◌≡◌, ℕ, ◌-◌, leb, Bool, ◌++◌, Opti
 use Rattle.op_logic.specs.Term.{Term}
 use Rattle.op_logic.specs.Bind.{Bindings, Pairs, solve, within, unify}
 use Rattle.op_logic.specs.Laws.{Acyclic, AreEqual, Respects, Unifies}
-use Rattle.op_logic.proofs.Tests.{by_test, if_true, if_false}
+use Rattle.op_logic.proofs.BoolCases.{by_test, if_true, if_false}
 use Rattle.op_logic.proofs.SolvedPairs.{GoodEnd, GoodResult, solve-good}
 use Rattle.op_logic.proofs.MostGeneralUnifiers.{BestEnd, solve-best}
 

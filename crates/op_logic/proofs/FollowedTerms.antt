@@ -4,7 +4,7 @@ use Rattle.std.proofs.lemmas.Bool.{false≢true}
 use Rattle.op_logic.specs.Term.{Term, var, int, node, Args, occurs, replace}
 use Rattle.op_logic.specs.Bind.{Bindings, apply, lookup, follow, follow_on}
 use Rattle.op_logic.specs.Laws.{Acyclic}
-use Rattle.op_logic.proofs.Tests.{by_test, if_true, if_false}
+use Rattle.op_logic.proofs.BoolCases.{by_test, if_true, if_false}
 use Rattle.op_logic.proofs.Replacement.{replace-absent}
 use Rattle.op_logic.proofs.AppliedBindings.{eq_of, of_eq, lookup-here, lookup-there, none-here, none-there, apply-free}
 

@@ -1,4 +1,5 @@
 pub mod AppliedBindings
+pub mod BoolCases
 pub mod BudgetedUnifiers
 pub mod FollowedTerms
 pub mod Injective
@@ -10,5 +11,4 @@ pub mod ShiftedTerms
 pub mod SolvedPairs
 pub mod StepCounts
 pub mod Termination
-pub mod Tests
 pub mod UnifierNames

@@ -8,7 +8,7 @@ use Rattle.op_logic.specs.Term.{replace_args}
 use Rattle.op_logic.specs.Bind.{Bindings, apply, lookup, follow, Pairs, Reduction, clash, goes, zip_args, bind_reduction, meet, reduction}
 use Rattle.op_logic.specs.Bind.{Solved, add_steps, after, solve}
 use Rattle.op_logic.specs.Laws.{Acyclic, instance_of, instances_of, Respects, Unifies}
-use Rattle.op_logic.proofs.Tests.{by_test, by_order, if_true, if_false}
+use Rattle.op_logic.proofs.BoolCases.{by_test, by_order, if_true, if_false}
 use Rattle.op_logic.proofs.AppliedBindings.{eq_of, of_eq, apply_args, apply-int, apply-node, apply-free}
 use Rattle.op_logic.proofs.FollowedTerms.{by_follow, follow-free}
 use Rattle.op_logic.proofs.SolvedPairs.{IsFree, GoodReduction, good-reduction}

@@ -11,7 +11,7 @@ use Rattle.std.proofs.lemmas.Slice.Eq.{bytes_eq-Decides}
 use Rattle.std.proofs.Math.Seq.{get_or-append_seam}
 use Rattle.op_logic.specs.Term.{Term, var, int, node, Args, no_args, arg, rename_args}
 use Rattle.op_logic.specs.Names.{name_at, named, IsTable, HasNames, ArgsHaveNames}
-use Rattle.op_logic.proofs.Tests.{by_order, if_true, if_false}
+use Rattle.op_logic.proofs.BoolCases.{by_order, if_true, if_false}
 
 pub name_at-below : (names : List (List ℕ)) (n : ℕ) → n < length names → name_at names n ≡ get_or names n []
 name_at-below names n h = if_true _ _ _ (lt-ltb n (length names) h)

@@ -12,7 +12,7 @@ use Rattle.op_logic.specs.Bind.{Bindings, apply, follow, follow_on, Pairs, Reduc
 use Rattle.op_logic.specs.Bind.{reduction, Solved, add_steps, after, solve, within, unify}
 use Rattle.op_logic.specs.Laws.{rename_bindings, rename_pairs, rename_solved}
 use Rattle.op_logic.specs.Names.{name_at, IsTable}
-use Rattle.op_logic.proofs.Tests.{by_test}
+use Rattle.op_logic.proofs.BoolCases.{by_test}
 use Rattle.op_logic.proofs.NameTables.{same_number}
 
 if-map : {A B : Type 0} (g : A → B) (b : Bool) (x y : A) → g (cond b x y) ≡ cond b (g x) (g y)

@@ -7,7 +7,7 @@ use Rattle.op_logic.specs.Term.{Term, var, int, node, Args, no_args, arg, arity,
 use Rattle.op_logic.specs.Bind.{Bindings, apply, lookup, follow, Pairs, Reduction, clash, goes, zip_args, bind_reduction, meet, reduction}
 use Rattle.op_logic.specs.Bind.{Solved, add_steps, after, solve}
 use Rattle.op_logic.specs.Laws.{Acyclic, AreEqual}
-use Rattle.op_logic.proofs.Tests.{by_test, by_order, if_true, if_false}
+use Rattle.op_logic.proofs.BoolCases.{by_test, by_order, if_true, if_false}
 use Rattle.op_logic.proofs.AppliedBindings.{eq_of, of_eq, apply_args, apply-node, apply_args-arg, apply-bound, apply-append-same}
 use Rattle.op_logic.proofs.AppliedBindings.{lookup-here}
 use Rattle.op_logic.proofs.FollowedTerms.{apply-follow, follow-free}

@@ -6,7 +6,7 @@ use Rattle.op_logic.specs.Term.{Term, var, int, node, occurs, size}
 use Rattle.op_logic.specs.Bind.{Bindings, apply, follow, Pairs, Reduction, clash, goes, zip_args, bind_reduction, same_head, meet}
 use Rattle.op_logic.specs.Bind.{reduction, Solved, add_steps, after, solve, within, unify}
 use Rattle.op_logic.specs.Laws.{pay, steps_of}
-use Rattle.op_logic.proofs.Tests.{by_test, by_order, if_true, if_false}
+use Rattle.op_logic.proofs.BoolCases.{by_test, by_order, if_true, if_false}
 
 within-there : {A : Type 0} (n : ℕ) (r : A × ℕ) → r.1 ≤ n → within n (Some r) ≡ Some (r.0, n - r.1)
 within-there n r h = if_true _ _ _ (le-leb r.1 n h)

@@ -1,4 +1,4 @@
--- Each row of the machine makes one move.
+-- What the machine does in each case is one move.
 use Rattle.std.proofs.Common.{◌≡◌, ℕ, suc, ◌+◌, ◌-◌, ◌<◌, ◌≤◌, List, [], ◌∷◌, length, get_or, reverse, refl, sym, ap, ◌∙◌, subst}
 use Rattle.op_logic.specs.Term.{shift}
 use Rattle.op_logic.specs.Bind.{unify}

@@ -3,7 +3,7 @@ use Rattle.std.proofs.Common.{◌≡◌, ℕ, zero, suc, ◌+◌, ◌-◌, ◌<�
 use Rattle.std.proofs.Common.{arith, length-append}
 use Rattle.std.proofs.lemmas.List.{get_or_append_left, take-take}
 use Rattle.std.proofs.Math.Seq.{get_or-append_seam, take-append_seam, take-length}
-use Rattle.op_logic.proofs.Tests.{by_order}
+use Rattle.op_logic.proofs.BoolCases.{by_order}
 use Rattle.op_trace.specs.World.{head_number}
 use Rattle.op_machine.specs.declared.continuations.Item.{Item}
 use Rattle.op_machine.specs.declared.continuations.Item.TheVariants as item

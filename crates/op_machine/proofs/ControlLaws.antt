@@ -2,7 +2,7 @@
 use Rattle.std.proofs.Common.{◌≡◌, ◌≢◌, ℕ, suc, ◌<◌, Bool, true, false, List, take, codes, refl, sym, ap, ◌∙◌, subst, arith}
 use Rattle.std.specs.Bool.{OnTrue, OnFalse}
 use Rattle.std.proofs.lemmas.Slice.Eq.{bytes_eq-Decides}
-use Rattle.op_logic.proofs.Tests.{by_order, by_test}
+use Rattle.op_logic.proofs.BoolCases.{by_order, by_test}
 use Rattle.op_logic.proofs.NameTables.{same_number, name-more}
 use Rattle.op_logic.specs.Term.{Term, var, int, node, Args, no_args, arg, args_of, nth_arg, arity, atom}
 use Rattle.op_logic.specs.Names.{name_at, IsTable}

@@ -12,10 +12,10 @@ use Rattle.op_trace.specs.World.{World, same_barrier, Tries, First, Item, Goal, 
 use Rattle.op_trace.specs.Act.{Yield, Fails, Gives, Gives_again, Act, Setup}
 use Rattle.op_trace.specs.Visit.{Verdict, Failed, CutTo, Stopped, Spent, Visited, gives, with_turns, and_then, event_of, with_event, pays}
 use Rattle.op_trace.specs.Visit.{reaches, cut, shows, Control, TrueGoal, FailGoal, CutGoal, Conjunction, Disjunction, IfThenElse}
-use Rattle.op_trace.specs.Visit.{BoxedGoal, control, entered, Choice, Redo, Branch, More, Fail, Condition, matched, try_clause, alternatives}
-use Rattle.op_trace.specs.Visit.{Again, Inside, Clauses, Tried, inside, counted_as, acts, tries_again, entered_box, exits, yields}
-use Rattle.op_trace.specs.Visit.{branches, after, boxed, selected, solved, visit, visit_with}
-use Rattle.op_trace.proofs.WalkRows.{visit_rows}
+use Rattle.op_trace.specs.Visit.{BoxedGoal, control, entered, Choice, Redo, Branch, More, Fail, Condition, matched, try_clause}
+use Rattle.op_trace.specs.Visit.{alternatives, Again, Inside, Clauses, Tried, inside, counted_as, acts, tries_again, entered_box, exits}
+use Rattle.op_trace.specs.Visit.{yields, branches, after, boxed, selected, solved, visit, visit_with}
+use Rattle.op_trace.proofs.WalkEquations.{visit_equations}
 use Rattle.op_trace.proofs.WalkBarriers.{Only, visit-only}
 use Rattle.op_machine.specs.Resume.{resume, keep, with_more, State, Forward, Backward, Over, owed, Moved, silent, paid, invoked, chosen}
 use Rattle.op_machine.specs.Resume.{head_unified, tried, branched, at_solution, move, world_of, entered_state, acted, yielded, tried_again}
@@ -80,56 +80,57 @@ resume-cut s (Condition n t b σ J ∷ K) m w = go (same_barrier m (InCondition 
     go false false below = below
 
 -- with items behind it whose cuts keep the same, a cut can be made at once
-pub cut-row : (s : Setup) (m : Barrier) (J : List Item) (K : List Choice) (r : Verdict) (w : World) → Behind m K J → Only J r
+pub cut-equation : (s : Setup) (m : Barrier) (J : List Item) (K : List Choice) (r : Verdict) (w : World) → Behind m K J → Only J r
     → and_then (cut m r w) (resume s K) ≡ resume s (keep m K) r w
-cut-row s m J K Failed w b o = resume-cut s K m w
-cut-row s m J K (CutTo n) w b o =
+cut-equation s m J K Failed w b o = resume-cut s K m w
+cut-equation s m J K (CutTo n) w b o =
     resume-cut s K n w ∙ (ap (λ (L : List Choice). resume s L Failed w) (sym (b n o)) ∙ sym (resume-cut s (keep m K) n w))
-cut-row s m J K Stopped w b o = resume-Stopped s K w ∙ sym (resume-Stopped s (keep m K) w)
-cut-row s m J K Spent w b o = resume-Spent s K w ∙ sym (resume-Spent s (keep m K) w)
+cut-equation s m J K Stopped w b o = resume-Stopped s K w ∙ sym (resume-Stopped s (keep m K) w)
+cut-equation s m J K Spent w b o = resume-Spent s K w ∙ sym (resume-Spent s (keep m K) w)
 
-pub cuts-row : (s : Setup) (m : Barrier) (J : List Item) (K : List Choice) (σ : Bindings Text) (w : World) → Behind m K J
+pub cuts-equation : (s : Setup) (m : Barrier) (J : List Item) (K : List Choice) (σ : Bindings Text) (w : World) → Behind m K J
     → and_then (and_then (visit s J σ w) (cut m)) (resume s K) ≡ and_then (visit s J σ w) (resume s (keep m K))
-cuts-row s m J K σ w b =
+cuts-equation s m J K σ w b =
     and_then-assoc (visit s J σ w) (cut m) (resume s K)
-    ∙ ap (with_turns (visit s J σ w).turns) (cut-row s m J K (visit s J σ w).verdict (visit s J σ w).world b (visit-only s J σ w))
+    ∙ ap (with_turns (visit s J σ w).turns) (cut-equation s m J K (visit s J σ w).verdict (visit s J σ w).world b (visit-only s J σ w))
 
 -- what a move comes to
 abbrev pub comes : Setup → Moved → Visited
 comes s m = with_turns m.turns (owed s m.state)
 
-pub paid-row : (t : Bool) (s : Setup) (n : ℕ) (w : World) (h : World → Visited) (m : World → Moved) (K : List Choice)
+pub paid-equation : (t : Bool) (s : Setup) (n : ℕ) (w : World) (h : World → Visited) (m : World → Moved) (K : List Choice)
     → (and_then (h (record w { steps = w.steps + n })) (resume s K) ≡ comes s (m (record w { steps = w.steps + n })))
     → and_then (pays t s n w h) (resume s K) ≡ comes s (paid t s n w m)
 unfolding owed
-paid-row true s n w h m K e = e
-paid-row false s n w h m K e = resume-Spent s K _
+paid-equation true s n w h m K e = e
+paid-equation false s n w h m K e = resume-Spent s K _
 
-pub matched-row : (s : Setup) (c : Clause) (k : ℕ) (g : Term Text) (J : List Item) (w : World) (o : Option (Result Text)) (K : List Choice)
+pub matched-equation : (s : Setup) (c : Clause) (k : ℕ) (g : Term Text) (J : List Item) (w : World) (o : Option (Result Text))
+    (K : List Choice)
     → and_then (matched (visit s) s c k g J w o) (resume s K) ≡ comes s (head_unified s c k g J K w o)
 unfolding owed
-matched-row s c k g J w None K = resume-Spent s K _
-matched-row s c k g J w (Some (None, left)) K = refl
-matched-row s c k g J w (Some (Some τ, left)) K =
-    paid-row (nat_le (s.budget - left + c.variables) s.budget) s c.variables (record w { steps = s.budget - left })
+matched-equation s c k g J w None K = resume-Spent s K _
+matched-equation s c k g J w (Some (None, left)) K = refl
+matched-equation s c k g J w (Some (Some τ, left)) K =
+    paid-equation (nat_le (s.budget - left + c.variables) s.budget) s c.variables (record w { steps = s.budget - left })
     (λ u. visit s (entered w.variables c k g J) τ (record u { variables = u.variables + c.variables }))
     (λ u. silent (Forward (entered w.variables c k g J) K τ (record u { variables = u.variables + c.variables }))) K refl
 
-pub tried-row : (s : Setup) (c : Clause) (k : ℕ) (g : Term Text) (σ : Bindings Text) (J : List Item) (w : World) (K : List Choice)
+pub tried-equation : (s : Setup) (c : Clause) (k : ℕ) (g : Term Text) (σ : Bindings Text) (J : List Item) (w : World) (K : List Choice)
     → and_then (try_clause (visit s) s c k g σ J w) (resume s K) ≡ comes s (tried s c k g σ J K w)
-tried-row s c k g σ J w K =
+tried-equation s c k g σ J w K =
     let pairs : World → List (Term Text × Term Text) = λ u. (g, shift u.variables c.head) ∷ [] in
-    paid-row (nat_le (w.steps + 1) s.budget) s 1 w
+    paid-equation (nat_le (w.steps + 1) s.budget) s 1 w
     (λ u. matched (visit s) s c k g J u (unify text_eq (s.budget - u.steps) σ ((g, shift u.variables c.head) ∷ [])))
     (λ u. head_unified s c k g J K u (unify text_eq (s.budget - u.steps) σ ((g, shift u.variables c.head) ∷ []))) K
-    (matched-row s c k g J (record w { steps = w.steps + 1 })
+    (matched-equation s c k g J (record w { steps = w.steps + 1 })
     (unify text_eq (s.budget - (w.steps + 1)) σ ((g, shift w.variables c.head) ∷ [])) K)
 
--- a walk whose row makes a choice point
-pub push-row : (s : Setup) (v : Visited) (c : Choice) (K : List Choice)
+-- a walk whose equation makes a choice point
+pub push-equation : (s : Setup) (v : Visited) (c : Choice) (K : List Choice)
     → and_then (and_then v (after (visit s) s c)) (resume s K) ≡ and_then v (resume s (c ∷ K))
 unfolding resume
-push-row s v c K = and_then-assoc v (after (visit s) s c) (resume s K)
+push-equation s v c K = and_then-assoc v (after (visit s) s c) (resume s K)
 
 -- no further clauses are no choice point
 pub resume-with_more : (s : Setup) (cs : List Clause) (k : ℕ) (g : Term Text) (σ : Bindings Text) (J : List Item) (K : List Choice)
@@ -139,75 +140,78 @@ unfolding resume
 resume-with_more s [] k g σ J K r w = refl
 resume-with_more s (c ∷ cs) k g σ J K r w = refl
 
-pub entered_box-row : (i : Inside) (s : Setup) (k : ℕ) (g : Term Text) (J : List Item) (σ : Bindings Text) (w : World) (K : List Choice)
+pub entered_box-equation : (i : Inside) (s : Setup) (k : ℕ) (g : Term Text) (J : List Item) (σ : Bindings Text) (w : World)
+    (K : List Choice)
     → and_then (entered_box (visit s) s i k g σ J w) (resume s K) ≡ owed s (entered_state i k g J K σ w)
 unfolding owed resume
-entered_box-row (Clauses cs) s k g J σ w K = sym (resume-with_more s cs k g σ J K Failed w)
-entered_box-row Tried s k g J σ w K = refl
+entered_box-equation (Clauses cs) s k g J σ w K = sym (resume-with_more s cs k g σ J K Failed w)
+entered_box-equation Tried s k g J σ w K = refl
 
-pub boxed-row : (s : Setup) (g : Term Text) (J : List Item) (σ : Bindings Text) (w : World) (K : List Choice)
+pub boxed-equation : (s : Setup) (g : Term Text) (J : List Item) (σ : Bindings Text) (w : World) (K : List Choice)
     → and_then (boxed (visit s) s g J σ w) (resume s K) ≡ comes s (invoked g J K σ w)
 unfolding resume
-boxed-row s g J σ w K =
+boxed-equation s g J σ w K =
     let k : ℕ = w.calls + 1 in
     let u : World = record w { calls = k } in
     ap (with_turns (Shown (event_of port.Call k g σ J u) (with_event u) ∷ []))
     (and_then-assoc (entered_box (visit s) s (inside w.database g) k g σ J (with_event u)) (after (visit s) s (Fail k g σ J)) (resume s K)
-    ∙ entered_box-row (inside w.database g) s k g J σ (with_event u) (Fail k g σ J ∷ K))
+    ∙ entered_box-equation (inside w.database g) s k g J σ (with_event u) (Fail k g σ J ∷ K))
 
-pub acted-row : (t : Bool) (s : Setup) (a : Act) (w : World) (h : Yield → World → Visited) (m : Yield → World → Moved) (K : List Choice)
+pub acted-equation : (t : Bool) (s : Setup) (a : Act) (w : World) (h : Yield → World → Visited) (m : Yield → World → Moved)
+    (K : List Choice)
     → nat_le (w.steps + a.cost) s.budget ≡ t
     → ((u : World) → u.steps ≤ s.budget → and_then (h a.yield u) (resume s K) ≡ comes s (m a.yield u))
     → and_then (acts t s a w h) (resume s K) ≡ comes s (acted t s a w m)
 unfolding owed
-acted-row true s a w h m K test e =
+acted-equation true s a w h m K test e =
     let fits : w.steps + a.cost ≤ s.budget = grind (arith, nat_tests) in
     e (record (counted_as w a.after) { steps = w.steps + a.cost }) fits
-acted-row false s a w h m K test e = resume-Spent s K _
+acted-equation false s a w h m K test e = resume-Spent s K _
 
 -- the yield of a try
-pub yields-row : (s : Setup) (k : ℕ) (g : Term Text) (J : List Item) (σ : Bindings Text) (y : Yield) (w : World) (K : List Choice)
+pub yields-equation : (s : Setup) (k : ℕ) (g : Term Text) (J : List Item) (σ : Bindings Text) (y : Yield) (w : World) (K : List Choice)
     → w.steps ≤ s.budget
     → and_then (yields (visit s) s (visit_with (visit s) s J) k g J σ y w) (resume s K) ≡ comes s (yielded k g J K σ y w)
 unfolding owed visit_with
-yields-row s k g J σ Fails w K below = refl
-yields-row s k g J σ (Gives τ) w K below =
-    ap (λ (v : Visited). and_then v (resume s K)) (sym (visit_rows s (Exit k g ∷ J) τ w below))
-yields-row s k g J σ (Gives_again τ t) w K below =
-    push-row s (exits (visit s) s (visit_with (visit s) s J) k g J τ w) (Again t k g σ J) K
-    ∙ ap (λ (v : Visited). and_then v (resume s (Again t k g σ J ∷ K))) (sym (visit_rows s (Exit k g ∷ J) τ w below))
+yields-equation s k g J σ Fails w K below = refl
+yields-equation s k g J σ (Gives τ) w K below =
+    ap (λ (v : Visited). and_then v (resume s K)) (sym (visit_equations s (Exit k g ∷ J) τ w below))
+yields-equation s k g J σ (Gives_again τ t) w K below =
+    push-equation s (exits (visit s) s (visit_with (visit s) s J) k g J τ w) (Again t k g σ J) K
+    ∙ ap (λ (v : Visited). and_then v (resume s (Again t k g σ J ∷ K))) (sym (visit_equations s (Exit k g ∷ J) τ w below))
 
-pub again-row : (s : Setup) (t : Tries) (k : ℕ) (g : Term Text) (σ : Bindings Text) (J : List Item) (w : World) (K : List Choice)
+pub again-equation : (s : Setup) (t : Tries) (k : ℕ) (g : Term Text) (σ : Bindings Text) (J : List Item) (w : World) (K : List Choice)
     → and_then (tries_again (visit s) s t k g σ J w) (resume s K) ≡ comes s (tried_again s t k g σ J K w)
 unfolding owed
-again-row s t k g σ J w K =
-    paid-row (nat_le (w.steps + 1) s.budget) s 1 w (visit s (Try t k g ∷ J) σ) (λ u. silent (Forward (Try t k g ∷ J) K σ u)) K refl
+again-equation s t k g σ J w K =
+    paid-equation (nat_le (w.steps + 1) s.budget) s 1 w (visit s (Try t k g ∷ J) σ) (λ u. silent (Forward (Try t k g ∷ J) K σ u)) K refl
 
-pub branched-row : (s : Setup) (t : Term Text) (m : Barrier) (σ : Bindings Text) (J : List Item) (w : World) (K : List Choice)
+pub branched-equation : (s : Setup) (t : Term Text) (m : Barrier) (σ : Bindings Text) (J : List Item) (w : World) (K : List Choice)
     → and_then (branches (visit s) s t m σ J w) (resume s K) ≡ comes s (branched s t m σ J K w)
 unfolding owed
-branched-row s t m σ J w K =
-    paid-row (nat_le (w.steps + 1) s.budget) s 1 w (visit s (Goal t m ∷ J) σ) (λ u. silent (Forward (Goal t m ∷ J) K σ u)) K refl
+branched-equation s t m σ J w K =
+    paid-equation (nat_le (w.steps + 1) s.budget) s 1 w (visit s (Goal t m ∷ J) σ) (λ u. silent (Forward (Goal t m ∷ J) K σ u)) K refl
 
-pub selected-row : (s : Setup) (q : Control) (t : Term Text) (m : Barrier) (J : List Item) (σ : Bindings Text) (w : World)
+pub selected-equation : (s : Setup) (q : Control) (t : Term Text) (m : Barrier) (J : List Item) (σ : Bindings Text) (w : World)
     (K : List Choice)
     → Behind m K J → and_then (selected (visit s) s q t m J σ w) (resume s K) ≡ comes s (chosen q t m J K σ w)
 unfolding owed
-selected-row s TrueGoal t m J σ w K b = refl
-selected-row s FailGoal t m J σ w K b = refl
-selected-row s CutGoal t m J σ w K b = cuts-row s m J K σ w b
-selected-row s (Conjunction x y) t m J σ w K b = refl
-selected-row s (Disjunction x y) t m J σ w K b = push-row s (visit s (Goal x m ∷ J) σ w) (Branch y m σ J) K
-selected-row s (IfThenElse c x y) t m J σ w K b =
+selected-equation s TrueGoal t m J σ w K b = refl
+selected-equation s FailGoal t m J σ w K b = refl
+selected-equation s CutGoal t m J σ w K b = cuts-equation s m J K σ w b
+selected-equation s (Conjunction x y) t m J σ w K b = refl
+selected-equation s (Disjunction x y) t m J σ w K b = push-equation s (visit s (Goal x m ∷ J) σ w) (Branch y m σ J) K
+selected-equation s (IfThenElse c x y) t m J σ w K b =
     let n : ℕ = w.conditions + 1 in
-    push-row s (visit s (Goal c (InCondition n) ∷ Cut (AtSuccess n) ∷ Goal x m ∷ J) σ (record w { conditions = n })) (Condition n y m σ J)
+    push-equation s (visit s (Goal c (InCondition n) ∷ Cut (AtSuccess n) ∷ Goal x m ∷ J) σ (record w { conditions = n }))
+    (Condition n y m σ J)
     K
-selected-row s BoxedGoal t m J σ w K b = boxed-row s t J σ w K
+selected-equation s BoxedGoal t m J σ w K b = boxed-equation s t J σ w K
 
-pub solved-row : (s : Setup) (σ : Bindings Text) (w : World) (K : List Choice)
+pub solved-equation : (s : Setup) (σ : Bindings Text) (w : World) (K : List Choice)
     → and_then (solved s σ w) (resume s K) ≡ comes s (at_solution s K σ w)
 unfolding owed
-solved-row s σ w K = go (w.solutions + 1 == s.wanted)
+solved-equation s σ w K = go (w.solutions + 1 == s.wanted)
   where
     u : World
     u = record w { solutions = w.solutions + 1 }
@@ -223,42 +227,46 @@ solved-row s σ w K = go (w.solutions + 1 == s.wanted)
         (resume-Stopped s K (record w { solutions = w.solutions + 1 }))
     go false = refl
 
-pub exit-row : (s : Setup) (k : ℕ) (g : Term Text) (J : List Item) (σ : Bindings Text) (w : World) (K : List Choice) → w.steps ≤ s.budget
+pub exit-equation : (s : Setup) (k : ℕ) (g : Term Text) (J : List Item) (σ : Bindings Text) (w : World) (K : List Choice) →
+    w.steps ≤ s.budget
     → and_then (visit_with (visit s) s (Exit k g ∷ J) σ w) (resume s K) ≡ comes s (move s (Forward (Exit k g ∷ J) K σ w))
 unfolding owed visit_with resume
-exit-row s k g J σ w K below =
+exit-equation s k g J σ w K below =
     ap (with_turns (Shown (event_of port.Exit k g σ J w) (with_event w) ∷ []))
-    (push-row s (visit_with (visit s) s J σ (with_event w)) (Redo k g σ J) K
-    ∙ ap (λ (v : Visited). and_then v (resume s (Redo k g σ J ∷ K))) (sym (visit_rows s J σ (with_event w) below)))
+    (push-equation s (visit_with (visit s) s J σ (with_event w)) (Redo k g σ J) K
+    ∙ ap (λ (v : Visited). and_then v (resume s (Redo k g σ J ∷ K))) (sym (visit_equations s J σ (with_event w) below)))
 
 -- what is owed before a move is the turn that it shows and what is owed after it
-pub move-row : (s : Setup) (t : State) → (world_of t).steps ≤ s.budget → InStep t → owed s t ≡ comes s (move s t)
+pub move-equation : (s : Setup) (t : State) → (world_of t).steps ≤ s.budget → InStep t → owed s t ≡ comes s (move s t)
 unfolding owed resume visit_with
-move-row s (Forward [] K σ w) below h = ap (λ (v : Visited). and_then v (resume s K)) (visit_rows s [] σ w below) ∙ solved-row s σ w K
-move-row s (Forward (Exit k g ∷ J) K σ w) below h =
-    ap (λ (v : Visited). and_then v (resume s K)) (visit_rows s (Exit k g ∷ J) σ w below) ∙ exit-row s k g J σ w K below
-move-row s (Forward (Cut m ∷ J) K σ w) below h =
-    ap (λ (v : Visited). and_then v (resume s K)) (visit_rows s (Cut m ∷ J) σ w below)
-    ∙ (ap (λ (v : Visited). and_then (and_then v (cut m)) (resume s K)) (sym (visit_rows s J σ w below)) ∙ cuts-row s m J K σ w h.0.0)
-move-row s (Forward (Try t k g ∷ J) K σ w) below h =
+move-equation s (Forward [] K σ w) below h = ap (λ (v : Visited). and_then v (resume s K)) (visit_equations s [] σ w below)
+    ∙ solved-equation s σ w K
+move-equation s (Forward (Exit k g ∷ J) K σ w) below h =
+    ap (λ (v : Visited). and_then v (resume s K)) (visit_equations s (Exit k g ∷ J) σ w below) ∙ exit-equation s k g J σ w K below
+move-equation s (Forward (Cut m ∷ J) K σ w) below h =
+    ap (λ (v : Visited). and_then v (resume s K)) (visit_equations s (Cut m ∷ J) σ w below)
+    ∙ (ap (λ (v : Visited). and_then (and_then v (cut m)) (resume s K)) (sym (visit_equations s J σ w below))
+    ∙ cuts-equation s m J K σ w h.0.0)
+move-equation s (Forward (Try t k g ∷ J) K σ w) below h =
     let a : Act = s.act (s.budget - w.steps) t g σ w in
-    ap (λ (v : Visited). and_then v (resume s K)) (visit_rows s (Try t k g ∷ J) σ w below)
-    ∙ acted-row (nat_le (w.steps + a.cost) s.budget) s a w (yields (visit s) s (visit_with (visit s) s J) k g J σ) (yielded k g J K σ) K refl
-    (λ u fits. yields-row s k g J σ a.yield u K fits)
-move-row s (Forward (Goal t m ∷ J) K σ w) below h =
-    ap (λ (v : Visited). and_then v (resume s K)) (visit_rows s (Goal t m ∷ J) σ w below)
-    ∙ paid-row (nat_le (w.steps + 1) s.budget) s 1 w (selected (visit s) s (control t) t m J σ) (chosen (control t) t m J K σ) K
-    (selected-row s (control t) t m J σ (record w { steps = w.steps + 1 }) K h.0.0)
-move-row s (Backward [] w) below h = refl
-move-row s (Backward (Redo k g σ J ∷ K) w) below h = refl
-move-row s (Backward (Branch t m σ J ∷ K) w) below h = branched-row s t m σ J w K
-move-row s (Backward (Condition n t m σ J ∷ K) w) below h = branched-row s t m σ J w K
-move-row s (Backward (Again t k g σ J ∷ K) w) below h = again-row s t k g σ J w K
-move-row s (Backward (Fail k g σ J ∷ K) w) below h = refl
-move-row s (Backward (More [] k g σ J ∷ K) w) below h = refl
-move-row s (Backward (More (c ∷ cs) k g σ J ∷ K) w) below h =
+    ap (λ (v : Visited). and_then v (resume s K)) (visit_equations s (Try t k g ∷ J) σ w below)
+    ∙ acted-equation (nat_le (w.steps + a.cost) s.budget) s a w (yields (visit s) s (visit_with (visit s) s J) k g J σ)
+    (yielded k g J K σ) K refl
+    (λ u fits. yields-equation s k g J σ a.yield u K fits)
+move-equation s (Forward (Goal t m ∷ J) K σ w) below h =
+    ap (λ (v : Visited). and_then v (resume s K)) (visit_equations s (Goal t m ∷ J) σ w below)
+    ∙ paid-equation (nat_le (w.steps + 1) s.budget) s 1 w (selected (visit s) s (control t) t m J σ) (chosen (control t) t m J K σ) K
+    (selected-equation s (control t) t m J σ (record w { steps = w.steps + 1 }) K h.0.0)
+move-equation s (Backward [] w) below h = refl
+move-equation s (Backward (Redo k g σ J ∷ K) w) below h = refl
+move-equation s (Backward (Branch t m σ J ∷ K) w) below h = branched-equation s t m σ J w K
+move-equation s (Backward (Condition n t m σ J ∷ K) w) below h = branched-equation s t m σ J w K
+move-equation s (Backward (Again t k g σ J ∷ K) w) below h = again-equation s t k g σ J w K
+move-equation s (Backward (Fail k g σ J ∷ K) w) below h = refl
+move-equation s (Backward (More [] k g σ J ∷ K) w) below h = refl
+move-equation s (Backward (More (c ∷ cs) k g σ J ∷ K) w) below h =
     let v : Visited = try_clause (visit s) s c k g σ J w in
-    push-row s v (More cs k g σ J) K
+    push-equation s v (More cs k g σ J) K
     ∙ (ap (with_turns v.turns) (sym (resume-with_more s cs k g σ J K v.verdict v.world))
-    ∙ tried-row s c k g σ J w (with_more cs k g σ J K))
-move-row s (Over r w) below h = refl
+    ∙ tried-equation s c k g σ J w (with_more cs k g σ J K))
+move-equation s (Over r w) below h = refl

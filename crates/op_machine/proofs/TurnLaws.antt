@@ -24,7 +24,7 @@ use Rattle.op_machine.specs.inner.Moves.{Advances, turns_of}
 use Rattle.op_machine.specs.inner.Turns.{turns_in, Follows, Walked, Showed, Ended}
 use Rattle.op_machine.proofs.ClauseLists.{clauses_from-some}
 use Rattle.op_machine.proofs.BoundLaws.{move-counted, bound-same}
-use Rattle.op_machine.proofs.MoveLaws.{move-row}
+use Rattle.op_machine.proofs.MoveLaws.{move-equation}
 use Rattle.op_machine.proofs.BarrierLaws.{move-in_step}
 use Rattle.op_machine.proofs.ProgressLaws.{count_in, IsOnward, move-onward, move-lighter, weight, IsOver, HasClauses}
 
@@ -108,7 +108,7 @@ advance-onward old new s h a =
 pub advance-owed : (old new : Core) (s : Step) → IsSound old → Advances old new (moved_from old) s
     → owed (setup_of old) (state_of old) ≡ with_turns (turns_of s new) (owed (setup_of new) (state_of new))
 advance-owed old new s h a =
-    move-row (setup_of old) (state_of old) (below-budget old h) h.in_step
+    move-equation (setup_of old) (state_of old) (below-budget old h) h.in_step
     ∙ (ap (λ (ts : List Turn). with_turns ts (owed (setup_of old) (moved_from old).state)) (sym a.turns)
     ∙ (ap (λ (t : State). with_turns (turns_of s new) (owed (setup_of old) t)) (sym a.state)
     ∙ ap (λ (x : Setup). with_turns (turns_of s new) (owed x (state_of new))) (setup-same old new a.budget a.wanted)))

@@ -1,4 +1,4 @@
--- The first words of the tokens of marks.
+-- The first words of the tokens of lexemes.
 use Rattle.std.proofs.Common.{◌≡◌, ◌+◌, ℕ, ℤ, Bool, true, false, not, cond, ◌&&◌, ◌==◌, List, [], ◌∷◌, ◌++◌, Option, Some, None, is_some}
 use Rattle.std.proofs.Common.{length, refl, sym, ◌∙◌, ap, subst}
 use Rattle.std.specs.Prelude.{codes, option_and_then}
@@ -6,7 +6,7 @@ use Rattle.std.specs.List.{list_all}
 use Rattle.std.specs.Option.{option_map_or}
 use Rattle.std.specs.Str.{bytes_eq, IsUtf8}
 use Rattle.std.proofs.lemmas.Slice.Eq.{bytes_eq-Decides}
-use Rattle.op_logic.proofs.Tests.{by_test, if_true, if_false}
+use Rattle.op_logic.proofs.BoolCases.{by_test, if_true, if_false}
 use Rattle.op_logic.specs.Term.{atom}
 use Rattle.op_term.specs.Ops.{Table, prefix_in, is_reserved}
 use Rattle.op_term.specs.declared.ops.Meaning.{Meaning}
@@ -23,19 +23,20 @@ use Rattle.op_base.specs.Characters.{is_symbol, is_word}
 use Rattle.op_writer.specs.Spelling.{is_unquoted, quoted}
 use Rattle.op_writer.specs.Pieces.{edge_of, edge_at, edge_behind, is_apart}
 use Rattle.op_writer.specs.Text.{is_operand}
-use Rattle.op_readback.proofs.Marks.{Mark, sign, name, prefix_name, mark_piece}
-use Rattle.op_readback.proofs.MarkTexts.{mark_text, begun}
-use Rattle.op_readback.proofs.MarkTokens.{Known, tok, sign_kind, mark_tokens, is_space, gap, tokens, last-of}
+use Rattle.op_readback.proofs.Lexemes.{Lexeme, sign, name, prefix_name, lexeme_piece}
+use Rattle.op_readback.proofs.LexemeTexts.{lexeme_text, begun}
+use Rattle.op_readback.proofs.LexemeTokens.{Known, tok, sign_kind, lexeme_tokens, is_space, gap, tokens, last-of}
 use Rattle.op_readback.proofs.KnownWords.{firsts, is_name, minus_name, k_negative, k_alone, k_bare, k_operand, k_word, k_words}
 
-pub step : (P : List Known → Type 0) (m : Mark) (ns : List Mark) → is_space m ≡ false → (at : ℕ) (e : Edge) (l : Bool)
-    → ((at1 : ℕ) (l1 : Bool) → (l ≡ true → l1 ≡ true) → (gap e (mark_text m) ≡ true → l1 ≡ true) → (gap e (mark_text m) ≡ false → l1 ≡ l)
-    → P (mark_tokens m at1 l1 ++ tokens (at1 + length (mark_text m)) (edge_behind e (mark_piece m)) false ns))
+pub step : (P : List Known → Type 0) (m : Lexeme) (ns : List Lexeme) → is_space m ≡ false → (at : ℕ) (e : Edge) (l : Bool)
+    → ((at1 : ℕ) (l1 : Bool) → (l ≡ true → l1 ≡ true) → (gap e (lexeme_text m) ≡ true → l1 ≡ true) →
+    (gap e (lexeme_text m) ≡ false → l1 ≡ l)
+    → P (lexeme_tokens m at1 l1 ++ tokens (at1 + length (lexeme_text m)) (edge_behind e (lexeme_piece m)) false ns))
     → P (tokens at e l (m ∷ ns))
-step P m ns s at e l k = subst P (sym (if_false (is_space m) _ _ s)) (by_test (gap e (mark_text m))
-    (λ g. subst P (sym (if_true (gap e (mark_text m)) _ _ g)) (k (at + 1) true (λ h. refl) (λ h. refl)
+step P m ns s at e l k = subst P (sym (if_false (is_space m) _ _ s)) (by_test (gap e (lexeme_text m))
+    (λ g. subst P (sym (if_true (gap e (lexeme_text m)) _ _ g)) (k (at + 1) true (λ h. refl) (λ h. refl)
     (λ h. absurd (let z : true ≡ false = sym g ∙ h in cc))))
-    (λ g. subst P (sym (if_false (gap e (mark_text m)) _ _ g)) (k at l (λ h. h) (λ h. absurd (let z : true ≡ false = sym h
+    (λ g. subst P (sym (if_false (gap e (lexeme_text m)) _ _ g)) (k at l (λ h. h) (λ h. absurd (let z : true ≡ false = sym h
     ∙ g in cc)) (λ h. refl))))
 
 pub by-name-kind : (P : TokenKind → Type 0) → P Name → P QuotedName → (kind : TokenKind) → is_name kind ≡ true → P kind
@@ -76,16 +77,16 @@ none-either true = refl
 none-either false = refl
 
 -- the tokens of a name: those of [] and of {}, or one
-pub named : (P : List Known → Type 0) (f : List ℕ) (ns : List Mark) (at : ℕ) (e : Edge) (l : Bool)
+pub named : (P : List Known → Type 0) (f : List ℕ) (ns : List Lexeme) (at : ℕ) (e : Edge) (l : Bool)
     → (f ≡ codes "[]" → (a b c d n : ℕ) (l1 : Bool) → (l ≡ true → l1 ≡ true)
-    → P ((tok OpenSquare a b l1, []) ∷ (tok CloseSquare c d false, []) ∷ tokens n (edge_behind e (mark_piece (name f))) false ns))
+    → P ((tok OpenSquare a b l1, []) ∷ (tok CloseSquare c d false, []) ∷ tokens n (edge_behind e (lexeme_piece (name f))) false ns))
     → (f ≡ codes "{}" → (a b c d n : ℕ) (l1 : Bool) → (l ≡ true → l1 ≡ true)
-    → P ((tok OpenCurly a b l1, []) ∷ (tok CloseCurly c d false, []) ∷ tokens n (edge_behind e (mark_piece (name f))) false ns))
+    → P ((tok OpenCurly a b l1, []) ∷ (tok CloseCurly c d false, []) ∷ tokens n (edge_behind e (lexeme_piece (name f))) false ns))
     → ((kind : TokenKind) → is_name kind ≡ true → (a b n : ℕ) (l1 : Bool) → (l ≡ true → l1 ≡ true)
-    → P ((tok kind a b l1, f) ∷ tokens n (edge_behind e (mark_piece (name f))) false ns))
+    → P ((tok kind a b l1, f) ∷ tokens n (edge_behind e (lexeme_piece (name f))) false ns))
     → P (tokens at e l (name f ∷ ns))
 named P f ns at e l k1 k2 k3 = step P (name f) ns refl at e l (λ at1 l1 h g i.
-    let more = tokens (at1 + length (mark_text (name f))) (edge_behind e (mark_piece (name f))) false ns in
+    let more = tokens (at1 + length (lexeme_text (name f))) (edge_behind e (lexeme_piece (name f))) false ns in
     by_test (bytes_eq f (codes "[]"))
     (λ c. subst (λ (ks : List Known). P (ks ++ more)) (sym (if_true (bytes_eq f (codes "[]")) _ _ c))
     (k1 ((bytes_eq-Decides f (codes "[]")).0 c) at1 (at1 + 1) (at1 + 1) (at1 + 2) _ l1 h))
@@ -109,7 +110,7 @@ round-apart b = by_test (is_symbol b)
     (λ w. ap (λ (x : Edge). is_apart x 40) (if_true (is_word b) _ _ w))
     (λ w. ap (λ (x : Edge). is_apart x 40) (if_false (is_word b) _ _ w)))
 
-pub name-round : (f : List ℕ) → IsUtf8 f → (e : Edge) → gap (edge_behind e (mark_piece (name f))) (40 ∷ []) ≡ false
+pub name-round : (f : List ℕ) → IsUtf8 f → (e : Edge) → gap (edge_behind e (lexeme_piece (name f))) (40 ∷ []) ≡ false
 name-round f u e =
     let b = begun (name f) u in
     let k = last-of (λ b. true) b.first b.more (all-true b.more) in
@@ -146,7 +147,7 @@ module _ (ops : Table) where
       none-z false = refl
 
   -- the word of a name, and the tokens behind it
-  pub record NameWord (f : List ℕ) (ns : List Mark) (e2 : Edge) (ks : List Known) : Type 0 where
+  pub record NameWord (f : List ℕ) (ns : List Lexeme) (e2 : Edge) (ks : List Known) : Type 0 where
     pub after : ℕ
     pub place : ℕ
     pub operand : AsOperand (List ℕ)
@@ -166,7 +167,7 @@ module _ (ops : Table) where
       → k_negative (tok Name 0 0 false, f) js ≡ None → k_negative (tok kind a b l, f) js ≡ None
   quoted-negative kind a b l f js n h = by-name-kind (λ kind. k_negative (tok kind a b l, f) js ≡ None) h refl kind n
 
-  one-token : (f : List ℕ) (ns : List Mark) (e2 : Edge) (kind : TokenKind) → is_name kind ≡ true → (a b n : ℕ) (l : Bool)
+  one-token : (f : List ℕ) (ns : List Lexeme) (e2 : Edge) (kind : TokenKind) → is_name kind ≡ true → (a b n : ℕ) (l : Bool)
       → NameWord f ns e2 ((tok kind a b l, f) ∷ tokens n e2 false ns)
   one-token f ns e2 kind h a b n l =
       let k : Known = (tok kind a b l, f) in
@@ -207,9 +208,9 @@ module _ (ops : Table) where
   reserved-no : {P : Type 0} (f g : List ℕ) → f ≡ g → is_reserved g ≡ true → is_reserved f ≡ false → P
   reserved-no f g e r h = absurd (let z : true ≡ false = sym r ∙ (sym (ap is_reserved e) ∙ h) in cc)
 
-  pub name-word : (f : List ℕ) (ns : List Mark) (at : ℕ) (e : Edge) (l : Bool)
-      → NameWord f ns (edge_behind e (mark_piece (name f))) (tokens at e l (name f ∷ ns))
-  name-word f ns at e l = let e2 = edge_behind e (mark_piece (name f)) in named (NameWord f ns e2) f ns at e l
+  pub name-word : (f : List ℕ) (ns : List Lexeme) (at : ℕ) (e : Edge) (l : Bool)
+      → NameWord f ns (edge_behind e (lexeme_piece (name f))) (tokens at e l (name f ∷ ns))
+  name-word f ns at e l = let e2 = edge_behind e (lexeme_piece (name f)) in named (NameWord f ns e2) f ns at e l
       (λ q a b c d n l1 h. let js = tokens n e2 false ns in record {
         after = n;
         place = a;
@@ -236,11 +237,11 @@ module _ (ops : Table) where
       })
       (λ kind k a b n l1 h. one-token f ns e2 kind k a b n l1)
 
-  pub prefix-word : (f : List ℕ) (ns : List Mark) (at : ℕ) (e : Edge) (l : Bool)
-      → NameWord f ns (edge_behind e (mark_piece (prefix_name f))) (tokens at e l (prefix_name f ∷ ns))
-  prefix-word f ns at e l = let e2 = edge_behind e (mark_piece (prefix_name f)) in
+  pub prefix-word : (f : List ℕ) (ns : List Lexeme) (at : ℕ) (e : Edge) (l : Bool)
+      → NameWord f ns (edge_behind e (lexeme_piece (prefix_name f))) (tokens at e l (prefix_name f ∷ ns))
+  prefix-word f ns at e l = let e2 = edge_behind e (lexeme_piece (prefix_name f)) in
       step (NameWord f ns e2) (prefix_name f) ns refl at e l (λ at1 l1 h g i. one-token f ns e2 Name refl at1 (at1 + length f)
-      (at1 + length (mark_text (prefix_name f))) l1)
+      (at1 + length (lexeme_text (prefix_name f))) l1)
 
   -- what stands behind an operand
   abbrev pub Follows : Bound → List Known → Type 0
@@ -251,21 +252,21 @@ module _ (ops : Table) where
   follow-end bound = (refl, refl, (λ o. refl))
 
   pub follow-sign : (b : ℕ) → (b == 32) ≡ false → ends_operand (sign_kind b) ≡ true
-      → (ns : List Mark) (bound : Bound) (at : ℕ) (e : Edge) (l : Bool) → Follows bound (tokens at e l (sign b ∷ ns))
+      → (ns : List Lexeme) (bound : Bound) (at : ℕ) (e : Edge) (l : Bool) → Follows bound (tokens at e l (sign b ∷ ns))
   follow-sign b s h ns bound at e l = step (Follows bound) (sign b) ns s at e l (λ at1 l1 _ _ _.
-      by-ender (λ kind. Follows bound ((tok kind at1 (at1 + 1) l1, []) ∷ tokens (at1 + 1) (edge_behind e (mark_piece (sign b))) false ns))
+      by-ender (λ kind. Follows bound ((tok kind at1 (at1 + 1) l1, []) ∷ tokens (at1 + 1) (edge_behind e (lexeme_piece (sign b))) false ns))
       (refl, none-either l1, (λ o. refl)) (refl, none-either l1, (λ o. refl)) (refl, none-either l1, (λ o. refl))
       (refl, none-either l1, (λ o. refl)) (refl, none-either l1, (λ o. refl))
       (sign_kind b) h)
 
-  pub follow-name : (f : List ℕ) (ns : List Mark) (bound : Bound) → is_operand bound ≡ true → (at : ℕ) (e : Edge) (l : Bool)
+  pub follow-name : (f : List ℕ) (ns : List Lexeme) (bound : Bound) → is_operand bound ≡ true → (at : ℕ) (e : Edge) (l : Bool)
       → Follows bound (tokens at e l (name f ∷ ns))
   follow-name f ns bound o at e l =
       let no : (b : Bool) → is_operand bound ≡ false → b ≡ true = (λ b h. absurd (let z : true ≡ false = sym o ∙ h in cc)) in
       named (Follows bound) f ns at e l
       (λ q a b c d n l1 h. (refl, none-either l1, no _)) (λ q a b c d n l1 h. (refl, none-either l1, no _))
       (λ kind k a b n l1 h. by-name-kind (λ kind. Follows bound ((tok kind a b l1, f) ∷ tokens n
-      (edge_behind e (mark_piece (name f))) false ns)) (refl, none-either l1, no _) (refl, none-either l1, no _) kind k)
+      (edge_behind e (lexeme_piece (name f))) false ns)) (refl, none-either l1, no _) (refl, none-either l1, no _) kind k)
 
   -- how an operand begins, behind a text that ends so
   pub record Begins (bound : Bound) (e : Edge) (l : Bool) (ks : List Known) : Type 0 where
@@ -277,7 +278,7 @@ module _ (ops : Table) where
     pub set_digit : e ≡ Minus → magnitude_behind (firsts ks) ≡ None
     pub alone : is_operand bound ≡ true → k_alone ops ks ≡ false
 
-  pub begins-round : (ns : List Mark) (bound : Bound) (at : ℕ) (e : Edge) (l : Bool) → Begins bound e l (tokens at e l (sign 40 ∷ ns))
+  pub begins-round : (ns : List Lexeme) (bound : Bound) (at : ℕ) (e : Edge) (l : Bool) → Begins bound e l (tokens at e l (sign 40 ∷ ns))
   begins-round ns bound at e l = step (Begins bound e l) (sign 40) ns refl at e l (λ at1 l1 h g i. record {
     square = refl;
     curly = refl;
@@ -288,7 +289,7 @@ module _ (ops : Table) where
     alone = λ o. refl;
   })
 
-  pub begins-square : (ns : List Mark) (bound : Bound) (at : ℕ) (e : Edge) (l : Bool) → Begins bound e l (tokens at e l (sign 91 ∷ ns))
+  pub begins-square : (ns : List Lexeme) (bound : Bound) (at : ℕ) (e : Edge) (l : Bool) → Begins bound e l (tokens at e l (sign 91 ∷ ns))
   begins-square ns bound at e l = step (Begins bound e l) (sign 91) ns refl at e l (λ at1 l1 h g i. record {
     square = refl;
     curly = refl;
@@ -299,7 +300,7 @@ module _ (ops : Table) where
     alone = λ o. refl;
   })
 
-  pub begins-curly : (ns : List Mark) (bound : Bound) (at : ℕ) (e : Edge) (l : Bool) → Begins bound e l (tokens at e l (sign 123 ∷ ns))
+  pub begins-curly : (ns : List Lexeme) (bound : Bound) (at : ℕ) (e : Edge) (l : Bool) → Begins bound e l (tokens at e l (sign 123 ∷ ns))
   begins-curly ns bound at e l = step (Begins bound e l) (sign 123) ns refl at e l (λ at1 l1 h g i. record {
     square = refl;
     curly = refl;
@@ -354,7 +355,7 @@ module _ (ops : Table) where
         alone = al;
       }) kind k alone
 
-  pub begins-atom : (f : List ℕ) (ns : List Mark) (bound : Bound) → (is_operand bound ≡ true → is_infix_alone ops f ≡ false)
+  pub begins-atom : (f : List ℕ) (ns : List Lexeme) (bound : Bound) → (is_operand bound ≡ true → is_infix_alone ops f ≡ false)
       → (at : ℕ) (e : Edge) (l : Bool) → Begins bound e l (tokens at e l (name f ∷ ns))
   begins-atom f ns bound i at e l = named (Begins bound e l) f ns at e l
       (λ q a b c d n l1 h. record {
@@ -375,13 +376,14 @@ module _ (ops : Table) where
         set_digit = λ x. none-either l1;
         alone = λ o. refl;
       })
-      (λ kind k a b n l1 h. let js = tokens n (edge_behind e (mark_piece (name f))) false ns in begins-token kind a b l1 f js bound e l k
+      (λ kind k a b n l1 h. let js = tokens n (edge_behind e (lexeme_piece (name f))) false ns in begins-token kind a b l1 f js bound e l k
       (λ o. only-no kind a b l1 f js k (i o)))
 
-  pub opens-round : (ns : List Mark) (n : ℕ) (e : Edge) → gap e (40 ∷ []) ≡ false → opens (firsts (tokens n e false (sign 40 ∷ ns))) ≡ true
+  pub opens-round : (ns : List Lexeme) (n : ℕ) (e : Edge) → gap e (40 ∷ []) ≡ false → opens (firsts (tokens n e false (sign 40 ∷ ns)))
+      ≡ true
   opens-round ns n e g = step (λ ks. opens (firsts ks) ≡ true) (sign 40) ns refl n e false (λ at1 l1 h x i. ap not (i g))
 
-  pub begins-functor : (f : List ℕ) → IsUtf8 f → (ns : List Mark) (bound : Bound) (at : ℕ) (e : Edge) (l : Bool)
+  pub begins-functor : (f : List ℕ) → IsUtf8 f → (ns : List Lexeme) (bound : Bound) (at : ℕ) (e : Edge) (l : Bool)
       → Begins bound e l (tokens at e l (name f ∷ sign 40 ∷ ns))
   begins-functor f u ns bound at e l = named (Begins bound e l) f (sign 40 ∷ ns) at e l
       (λ q a b c d n l1 h. record {
@@ -402,11 +404,11 @@ module _ (ops : Table) where
         set_digit = λ x. none-either l1;
         alone = λ o. refl;
       })
-      (λ kind k a b n l1 h. let e2 = edge_behind e (mark_piece (name f)) in let js = tokens n e2 false (sign 40 ∷ ns) in
+      (λ kind k a b n l1 h. let e2 = edge_behind e (lexeme_piece (name f)) in let js = tokens n e2 false (sign 40 ∷ ns) in
       begins-token kind a b l1 f js bound e l k (λ o. only-open kind a b l1 f js k (opens-round ns n e2 (name-round f u e))))
 
-  pub begins-prefix : (f : List ℕ) (ns : List Mark) (bound : Bound) → is_infix_alone ops f ≡ false → (at : ℕ) (e : Edge) (l : Bool)
+  pub begins-prefix : (f : List ℕ) (ns : List Lexeme) (bound : Bound) → is_infix_alone ops f ≡ false → (at : ℕ) (e : Edge) (l : Bool)
       → Begins bound e l (tokens at e l (prefix_name f ∷ ns))
   begins-prefix f ns bound i at e l = step (Begins bound e l) (prefix_name f) ns refl at e l (λ at1 l1 h g j.
-      let js = tokens (at1 + length (mark_text (prefix_name f))) (edge_behind e (mark_piece (prefix_name f))) false ns in
+      let js = tokens (at1 + length (lexeme_text (prefix_name f))) (edge_behind e (lexeme_piece (prefix_name f))) false ns in
       begins-token Name at1 (at1 + length f) l1 f js bound e l refl (λ o. only-no Name at1 (at1 + length f) l1 f js refl i))

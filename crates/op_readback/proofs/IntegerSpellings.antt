@@ -8,7 +8,7 @@ use Rattle.std.proofs.lemmas.Fmt.{decimal_by_steps}
 use Rattle.std.proofs.lemmas.List.Folds.{list_all-append}
 use Rattle.std.proofs.lemmas.List.Sums.{fold-append}
 use Rattle.std.proofs.Math.Seq.{take-append_seam, drop-append_seam}
-use Rattle.op_logic.proofs.Tests.{by_test, if_true, if_false}
+use Rattle.op_logic.proofs.BoolCases.{by_test, if_true, if_false}
 use Rattle.op_token.specs.declared.token.TokenKind.TheVariants.{Integer}
 use Rattle.op_token.specs.declared.spelling.Spelling.TheVariants.{Whole}
 use Rattle.op_token.specs.declared.class.Class.{Class}
@@ -19,7 +19,7 @@ use Rattle.op_token.specs.Class.{class_of}
 use Rattle.op_token.specs.Spelling.{begins, spelled, number_of, digit_value, is_fraction, least_magnitude, ranged}
 use Rattle.op_base.specs.Characters.{is_word}
 use Rattle.op_readback.proofs.QuotedNames.{and-parts}
-use Rattle.op_readback.proofs.MarkSpellings.{Stops, run-all, or-neither}
+use Rattle.op_readback.proofs.NameSpellings.{Stops, run-all, or-neither}
 
 -- digits of a number
 pub record IsDigits (n : ℕ) (ds : List ℕ) : Type 0 where

@@ -4,7 +4,7 @@ use Rattle.std.proofs.Common.{is_some, refl, sym, ◌∙◌, ap}
 use Rattle.std.specs.Prelude.{codes, slice_index, option_and_then}
 use Rattle.std.specs.Option.{option_map_or}
 use Rattle.std.specs.Str.{bytes_eq}
-use Rattle.op_logic.proofs.Tests.{by_test, if_true, if_false}
+use Rattle.op_logic.proofs.BoolCases.{by_test, if_true, if_false}
 use Rattle.op_logic.specs.Term.{atom}
 use Rattle.op_term.specs.Ops.{Table, prefix_in}
 use Rattle.op_term.specs.declared.ops.Meaning.{Meaning}
@@ -19,7 +19,7 @@ use Rattle.op_reader.specs.Words.{AsOperand, functor, prefix, plain, Word, close
 use Rattle.op_reader.specs.Words.{as_operator, opens, magnitude_behind, negated, negative, ends_operand, is_infix_alone, is_infix_name}
 use Rattle.op_reader.specs.Words.{is_infix_only, stands_alone, bare_name, signed_or_bare, name_as_operand, name_word, integer_word}
 use Rattle.op_reader.specs.Words.{opening_word, word_by, word_of, words_from, is_empty_pair, met_behind, met_at, variables_of}
-use Rattle.op_readback.proofs.MarkTokens.{Known}
+use Rattle.op_readback.proofs.LexemeTokens.{Known}
 
 abbrev pub firsts : List Known → List Token
 firsts ks = map (λ k. k.0) ks

@@ -1,21 +1,22 @@
--- The marks of every written term are the words of an operand, whose row is that of the term: by induction on the term.
+-- The lexemes of every written term are the words of an operand, whose row is that of the term: by induction on the term.
 use Rattle.std.proofs.Common.{◌≡◌, ◌≤◌, ℕ, ℤ, List, [], ◌∷◌, ◌++◌, Option, Some, None, refl, sym, ◌∙◌, subst, arith}
 use Rattle.std.specs.Prelude.{codes}
 use Rattle.std.specs.Str.{bytes_eq, IsUtf8}
 use Rattle.std.proofs.lemmas.Slice.Eq.{bytes_eq-Decides}
-use Rattle.op_logic.proofs.Tests.{by_test, if_true, if_false}
+use Rattle.op_logic.proofs.BoolCases.{by_test, if_true, if_false}
 use Rattle.op_logic.specs.Term.{Term, var, int, node, Args, no_args, arg, arity}
 use Rattle.op_term.specs.Ops.{Table, IsTable, prefix_in, infix_in, postfix_in}
 use Rattle.op_term.specs.declared.ops.Meaning.{Meaning}
-use Rattle.op_reader.specs.declared.within.Within.{Within}
-use Rattle.op_reader.specs.declared.within.Within.TheVariants.{Last}
+use Rattle.op_reader.specs.declared.row_kind.RowKind.{RowKind}
+use Rattle.op_reader.specs.declared.row_kind.RowKind.TheVariants.{Last}
 use Rattle.op_writer.specs.declared.style.Style.{Style}
 use Rattle.op_writer.specs.declared.bound.Bound.{Bound}
 use Rattle.op_writer.specs.declared.notation.Notation.{Notation}
 use Rattle.op_writer.specs.declared.notation.Notation.TheVariants.{List as Listed, Braces, Infix, Prefix, Postfix, Functional}
 use Rattle.op_writer.specs.Text.{within, rest, argument, notation_of, binary, unary, is_canonical}
 use Rattle.op_readback.specs.ReadBack.{IsSmall}
-use Rattle.op_readback.proofs.Marks.{Mark, sign, compound_marks, rest_marks, atom_marks, marks_of, all_marks, IsWritten, AreWritten}
+use Rattle.op_readback.proofs.Lexemes.{Lexeme, sign, compound_lexemes, rest_lexemes, atom_lexemes, lexemes_of, all_lexemes, IsWritten}
+use Rattle.op_readback.proofs.Lexemes.{AreWritten}
 use Rattle.op_readback.specs.Rows.{limit, row_of, rows_of, notation_row}
 use Rattle.op_readback.proofs.OperatorWords.{int-taken}
 use Rattle.op_readback.proofs.Operands.{Suits, Takes, Behind}
@@ -53,11 +54,11 @@ braces-name ops style f h = by_test (bytes_eq f (codes "{}"))
     (λ c. absurd (unary-braces (prefix_in ops f) (postfix_in ops f) (sym (if_false _ _ _ e ∙ if_false _ _ _ c) ∙ h))))
 
 module _ (ops : Table) (table : IsTable ops) (n : ℕ) (style : Style) where
-  -- a term's marks begin as an operand, are read as its row, and are the rest of a list
+  -- a term's lexemes begin as an operand, are read as its row, and are the rest of a list
   pub record Done (t : Term Text) : Type 0 where
     pub starts : Starts ops table n style t
     pub reads : Reads ops table n style t
-    pub tail : Tail ops table n style t (marks_of ops style t rest)
+    pub tail : Tail ops table n style t (lexemes_of ops style t rest)
 
   abbrev AllDone : Args Text → Type 0
   AllDone no_args = Unit {0}
@@ -71,8 +72,8 @@ module _ (ops : Table) (table : IsTable ops) (n : ℕ) (style : Style) where
   tail-suits = let p : 999 ≤ 999 = omega arith in p
 
   other-tail : (t : Term Text) → Reads ops table n style t
-      → Tail ops table n style t (sign 124 ∷ (marks_of ops style t (within argument) ++ sign 93 ∷ []))
-  other-tail t r = barred ops table n style t (marks_of ops style t (within argument)) (λ ns h. r argument Last tail-suits ns h)
+      → Tail ops table n style t (sign 124 ∷ (lexemes_of ops style t (within argument) ++ sign 93 ∷ []))
+  other-tail t r = barred ops table n style t (lexemes_of ops style t (within argument)) (λ ns h. r argument Last tail-suits ns h)
 
   -- leaves
   number-done : (i : ℤ) → IsSmall i → Done (int i)
@@ -83,7 +84,7 @@ module _ (ops : Table) (table : IsTable ops) (n : ℕ) (style : Style) where
   atom-done : (f : Text) → Done (node f no_args)
   atom-done f =
       let reads : Reads ops table n style (node f no_args) = (λ bound c s ns b at e l.
-      subst (Takes ops table n c (atom_marks ops f bound) ns) (sym (atom-row (node f no_args) f bound (notation_of ops style f 0)))
+      subst (Takes ops table n c (atom_lexemes ops f bound) ns) (sym (atom-row (node f no_args) f bound (notation_of ops style f 0)))
       (reads-atom ops table n style f c bound ns b) at e l) in
       record {
         starts = λ bound ns at e l. starts-atom ops table n style f bound ns at e l;
@@ -97,8 +98,8 @@ module _ (ops : Table) (table : IsTable ops) (n : ℕ) (style : Style) where
 
   -- compounds, by their notation
   abbrev ReadsIn : Text → Term Text → Args Text → Notation → Type 0
-  ReadsIn f a ts nt = (bound : Bound) (c : Within) → Suits c (limit bound) → (ns : List Mark) → Behind ops table n bound ns
-      → Takes ops table n c (compound_marks f (marks_of ops style a ∷ all_marks ops style ts) bound nt) ns
+  ReadsIn f a ts nt = (bound : Bound) (c : RowKind) → Suits c (limit bound) → (ns : List Lexeme) → Behind ops table n bound ns
+      → Takes ops table n c (compound_lexemes f (lexemes_of ops style a ∷ all_lexemes ops style ts) bound nt) ns
       (notation_row (node f (arg a ts)) f (row_of ops style a ∷ rows_of ops style ts) bound nt)
 
   reads-one : (f : Text) → IsUtf8 f → (a : Term Text) → Done a → (nt : Notation) → notation_of ops style f 1 ≡ nt → ReadsIn f a no_args nt
@@ -112,7 +113,7 @@ module _ (ops : Table) (table : IsTable ops) (n : ℕ) (style : Style) where
   reads-two : (f : Text) → IsUtf8 f → (a b : Term Text) → Done a → Done b → (nt : Notation) → notation_of ops style f 2 ≡ nt
       → ReadsIn f a (arg b no_args) nt
   reads-two f u a b d k Listed q bound c s ns h =
-      reads-list ops table n style f a b (marks_of ops style b rest) (listed-name ops style f q) d.starts d.reads k.tail c ns
+      reads-list ops table n style f a b (lexemes_of ops style b rest) (listed-name ops style f q) d.starts d.reads k.tail c ns
   reads-two f u a b d k (Infix m) q bound c s ns h = reads-infix ops table n style f a b m q d.reads k.reads bound c s ns h
   reads-two f u a b d k Braces q bound c s ns h = functional ops table n style f u a (arg b no_args) d.reads (k.reads, tt) c ns
   reads-two f u a b d k (Prefix m) q bound c s ns h = functional ops table n style f u a (arg b no_args) d.reads (k.reads, tt) c ns
@@ -127,22 +128,22 @@ module _ (ops : Table) (table : IsTable ops) (n : ℕ) (style : Style) where
   -- the rest of a list that is a term of two arguments
   abbrev TailIn : Text → Term Text → Term Text → Notation → Type 0
   TailIn f a b nt = Tail ops table n style (node f (arg a (arg b no_args)))
-      (rest_marks (marks_of ops style a ∷ marks_of ops style b ∷ []) nt
-      (compound_marks f (marks_of ops style a ∷ marks_of ops style b ∷ []) argument nt))
+      (rest_lexemes (lexemes_of ops style a ∷ lexemes_of ops style b ∷ []) nt
+      (compound_lexemes f (lexemes_of ops style a ∷ lexemes_of ops style b ∷ []) argument nt))
 
   other-two : (f : Text) (a b : Term Text) → Reads ops table n style (node f (arg a (arg b no_args))) → (nt : Notation)
       → notation_of ops style f 2 ≡ nt
       → Tail ops table n style (node f (arg a (arg b no_args)))
-      (sign 124 ∷ (compound_marks f (marks_of ops style a ∷ marks_of ops style b ∷ []) argument nt ++ sign 93 ∷ []))
+      (sign 124 ∷ (compound_lexemes f (lexemes_of ops style a ∷ lexemes_of ops style b ∷ []) argument nt ++ sign 93 ∷ []))
   other-two f a b r nt q =
       subst (λ (nt : Notation). Tail ops table n style (node f (arg a (arg b no_args)))
-      (sign 124 ∷ (compound_marks f (marks_of ops style a ∷ marks_of ops style b ∷ []) argument nt ++ sign 93 ∷ []))) q
+      (sign 124 ∷ (compound_lexemes f (lexemes_of ops style a ∷ lexemes_of ops style b ∷ []) argument nt ++ sign 93 ∷ []))) q
       (other-tail (node f (arg a (arg b no_args))) r)
 
   tail-two : (f : Text) (a b : Term Text) → Done a → Done b → Reads ops table n style (node f (arg a (arg b no_args))) → (nt : Notation)
       → notation_of ops style f 2 ≡ nt → TailIn f a b nt
   tail-two f a b d k r Listed q =
-      further-element ops table n style f a b (marks_of ops style b rest) (listed-name ops style f q) d.reads k.tail
+      further-element ops table n style f a b (lexemes_of ops style b rest) (listed-name ops style f q) d.reads k.tail
   tail-two f a b d k r Braces q = other-two f a b r Braces q
   tail-two f a b d k r (Infix m) q = other-two f a b r (Infix m) q
   tail-two f a b d k r (Prefix m) q = other-two f a b r (Prefix m) q

@@ -6,16 +6,16 @@ use Rattle.op_logic.specs.Term.{Term}
 use Rattle.op_term.specs.Ops.{Table}
 use Rattle.op_reader.specs.declared.bracket.Bracket.{Bracket}
 use Rattle.op_reader.specs.declared.bracket.Bracket.TheVariants.{Round}
-use Rattle.op_reader.specs.declared.within.Within.{Within}
-use Rattle.op_reader.specs.declared.within.Within.TheVariants.{Arguments}
+use Rattle.op_reader.specs.declared.row_kind.RowKind.{RowKind}
+use Rattle.op_reader.specs.declared.row_kind.RowKind.TheVariants.{Arguments}
 use Rattle.op_reader.specs.Row.{Piece, Operator, operand as a_piece, operator as an_op}
 use Rattle.op_reader.specs.Words.{functor, plain, AsOperator, Word, word}
 use Rattle.op_reader.specs.Roles.{Parts, single, enclosed, Levels, level, with_opening, levels_of, Rows, operator, operand, compound}
 use Rattle.op_reader.specs.Roles.{bracketed, inside, Expected, an_operand, an_operator, on_rows, on_both, roles}
-use Rattle.op_reader.specs.Terms.{known, Read, with_piece, compound_of, bracketed_of, as_operand, read_rows, first_of, excess_in}
+use Rattle.op_reader.specs.Terms.{known, ReadRows, with_piece, compound_of, bracketed_of, as_operand, read_rows, first_of, excess_in}
 use Rattle.op_writer.specs.declared.edge.Edge.{Edge}
-use Rattle.op_readback.proofs.Marks.{Mark}
-use Rattle.op_readback.proofs.MarkTokens.{Known, tokens}
+use Rattle.op_readback.proofs.Lexemes.{Lexeme}
+use Rattle.op_readback.proofs.LexemeTokens.{Known, tokens}
 use Rattle.op_readback.proofs.KnownWords.{k_words}
 
 abbrev Text : Type 0
@@ -24,22 +24,22 @@ Text = List ℕ
 abbrev pub over : (Parts Text → Parts Text) → Levels Text → Levels Text
 over q l = record { inner = level (q l.inner.parts) l.inner.stop; outer = l.outer }
 
-abbrev pub with_row : List (Piece Text) → Read Text → Read Text
+abbrev pub with_row : List (Piece Text) → ReadRows Text → ReadRows Text
 with_row row r = record { row = row ++ r.row; rest = r.rest; tail = r.tail }
 
-abbrev pub read : List (Piece Text) → List (Term Text) → Option (Term Text) → Read Text
+abbrev pub read : List (Piece Text) → List (Term Text) → Option (Term Text) → ReadRows Text
 read row ts tl = record { row = row; rest = ts; tail = tl }
 
 rows-rows : (f g : Rows Text → Rows Text) (r : Result (Rows Text) ℕ) → on_rows f (on_rows g r) ≡ on_rows (λ rs. f (g rs)) r
 rows-rows f g (Ok r) = refl
 rows-rows f g (Err p) = refl
 
-row-row : (xs ys : List (Piece Text)) (r : Option (Read Text)) → option_map (with_row xs) (option_map (with_row ys) r)
+row-row : (xs ys : List (Piece Text)) (r : Option (ReadRows Text)) → option_map (with_row xs) (option_map (with_row ys) r)
     ≡ option_map (with_row (xs ++ ys)) r
 row-row xs ys None = refl
 row-row xs ys (Some r) = ap (λ (zs : List (Piece Text)). Some (read zs r.rest r.tail)) (sym (append_assoc xs ys r.row))
 
-pub piece-row : (p : Piece Text) (r : Option (Read Text)) → option_map (with_piece p) r ≡ option_map (with_row (p ∷ [])) r
+pub piece-row : (p : Piece Text) (r : Option (ReadRows Text)) → option_map (with_piece p) r ≡ option_map (with_row (p ∷ [])) r
 piece-row p None = refl
 piece-row p (Some r) = refl
 
@@ -48,7 +48,7 @@ module _ (ops : Table) (n : ℕ) where
   lv ks = levels_of n (k_words ops false ks)
 
   -- some words are an operand, or some operators and operands, where an operand is expected
-  pub record Taken (c : Within) (ks : List Known) (ns : List Mark) (row : List (Piece Text)) : Type 0 where
+  pub record Taken (c : RowKind) (ks : List Known) (ns : List Lexeme) (row : List (Piece Text)) : Type 0 where
     pub after : ℕ
     pub edge : Edge
     pub parts : Parts Text → Parts Text
@@ -59,7 +59,7 @@ module _ (ops : Table) (n : ℕ) where
     pub is_excess : (rs : Rows Text) → excess_in (rows rs) ≡ excess_in rs
 
   -- one word is an operator, behind which something is expected
-  pub record Link (c : Within) (from to : Expected Text) (o : Operator Text) (ks : List Known) (ns : List Mark) : Type 0 where
+  pub record Link (c : RowKind) (from to : Expected Text) (o : Operator Text) (ks : List Known) (ns : List Lexeme) : Type 0 where
     pub after : ℕ
     pub edge : Edge
     pub layout : Bool
@@ -67,7 +67,7 @@ module _ (ops : Table) (n : ℕ) where
     pub words : lv ks ≡ over (single the_word) (lv (tokens after edge layout ns))
     pub is_roles : (ps : Parts Text) (stop : ℕ) → roles c from (single the_word ps) stop ≡ on_rows (operator o) (roles c to ps stop)
 
-  pub infix-taken : (c : Within) (o : Operator Text) (ks : List Known) (ms1 ms2 ns : List Mark) (ra rb : List (Piece Text))
+  pub infix-taken : (c : RowKind) (o : Operator Text) (ks : List Known) (ms1 ms2 ns : List Lexeme) (ra rb : List (Piece Text))
       → (a : Taken c ks ms1 ra) → Link c an_operator an_operand o (tokens a.after a.edge false ms1) ms2
       → ((at : ℕ) (e : Edge) (l : Bool) → Taken c (tokens at e l ms2) ns rb)
       → Taken c ks ns (ra ++ an_op o ∷ rb)
@@ -90,7 +90,7 @@ module _ (ops : Table) (n : ℕ) where
         is_excess = λ rs. a.is_excess (operator o (b.rows rs)) ∙ b.is_excess rs;
       }
 
-  pub prefix-taken : (c : Within) (o : Operator Text) (ks : List Known) (ms ns : List Mark) (rb : List (Piece Text))
+  pub prefix-taken : (c : RowKind) (o : Operator Text) (ks : List Known) (ms ns : List Lexeme) (rb : List (Piece Text))
       → Link c an_operand an_operand o ks ms → ((at : ℕ) (e : Edge) (l : Bool) → Taken c (tokens at e l ms) ns rb)
       → Taken c ks ns (an_op o ∷ rb)
   prefix-taken c o ks ms ns rb l f =
@@ -109,7 +109,7 @@ module _ (ops : Table) (n : ℕ) where
       }
 
   -- the last word of a postfix operator; no text without a space is behind it
-  pub postfix-taken : (c : Within) (o : Operator Text) (ks : List Known) (ms ns : List Mark) (ra : List (Piece Text))
+  pub postfix-taken : (c : RowKind) (o : Operator Text) (ks : List Known) (ms ns : List Lexeme) (ra : List (Piece Text))
       → (a : Taken c ks ms ra) → (l : Link c an_operator an_operator o (tokens a.after a.edge false ms) ns) → l.layout ≡ false
       → Taken c ks ns (ra ++ an_op o ∷ [])
   postfix-taken c o ks ms ns ra a l q = record {
@@ -127,7 +127,7 @@ module _ (ops : Table) (n : ℕ) where
   }
 
   -- the words up to a closing bracket, where an operator or an operand is expected: the terms of the rows that follow
-  pub record Ended (c : Within) (expected : Expected Text) (ks : List Known) (ns : List Mark) (row : List (Piece Text))
+  pub record Ended (c : RowKind) (expected : Expected Text) (ks : List Known) (ns : List Lexeme) (row : List (Piece Text))
       (ts : List (Term Text)) (tl : Option (Term Text)) : Type 0 where
     pub after : ℕ
     pub edge : Edge
@@ -144,7 +144,7 @@ module _ (ops : Table) (n : ℕ) where
     pub is_excess : excess_in rows ≡ None
 
   -- an operand before such an end
-  pub filled : (c : Within) (ks : List Known) (ms ns : List Mark) (row : List (Piece Text)) (ts : List (Term Text))
+  pub filled : (c : RowKind) (ks : List Known) (ms ns : List Lexeme) (row : List (Piece Text)) (ts : List (Term Text))
       (tl : Option (Term Text))
       → (a : Taken c ks ms row) → Ended c an_operator (tokens a.after a.edge false ms) ns [] ts tl → Ended c an_operand ks ns row ts tl
   filled c ks ms ns row ts tl a e = record {
@@ -161,7 +161,7 @@ module _ (ops : Table) (n : ℕ) where
   }
 
   -- a part in brackets is an operand
-  pub in-brackets : (c : Within) (b : Bracket) (place : ℕ) (ks ks1 : List Known) (ns : List Mark) (row : List (Piece Text))
+  pub in-brackets : (c : RowKind) (b : Bracket) (place : ℕ) (ks ks1 : List Known) (ns : List Lexeme) (row : List (Piece Text))
       (ts : List (Term Text)) (tl : Option (Term Text)) (t : Term Text)
       → lv ks ≡ with_opening place b (lv ks1).inner (lv ks1).outer → Ended (inside b) an_operand ks1 ns row ts tl
       → bracketed_of known b (read row ts tl) ≡ Some t
@@ -174,7 +174,8 @@ module _ (ops : Table) (n : ℕ) where
     rows = bracketed b e.rows;
     is_roles = λ ps stop. ap (λ (x : Result (Rows Text) ℕ). on_both (bracketed b) x (roles c an_operator ps stop)) e.is_roles
         ∙ both (bracketed b) e.rows (roles c an_operator ps stop);
-    is_read = λ rs. ap (λ (x : Option (Read Text)). as_operand (option_and_then (bracketed_of known b) x) (read_rows known rs)) e.is_read
+    is_read = λ rs. ap (λ (x : Option (ReadRows Text)). as_operand (option_and_then (bracketed_of known b) x) (read_rows known rs))
+        e.is_read
         ∙ (ap (λ (x : Option (Term Text)). as_operand x (read_rows known rs)) k ∙ piece-row (a_piece t) (read_rows known rs));
     is_excess = λ rs. ap (λ (x : Option ℕ). first_of x (excess_in rs)) e.is_excess;
   }
@@ -184,7 +185,7 @@ module _ (ops : Table) (n : ℕ) where
       both f r (Err p) = refl
 
   -- a functor with its arguments is an operand
-  pub with-arguments : (c : Within) (f : Text) (place opening : ℕ) (op : AsOperator Text) (ks ks0 ks1 : List Known) (ns : List Mark)
+  pub with-arguments : (c : RowKind) (f : Text) (place opening : ℕ) (op : AsOperator Text) (ks ks0 ks1 : List Known) (ns : List Lexeme)
       (row : List (Piece Text)) (ts : List (Term Text)) (tl : Option (Term Text)) (t : Term Text)
       → lv ks ≡ over (single (word place (functor f) op)) (lv ks0) → lv ks0 ≡ with_opening opening Round (lv ks1).inner (lv ks1).outer
       → Ended Arguments an_operand ks1 ns row ts tl
@@ -198,7 +199,7 @@ module _ (ops : Table) (n : ℕ) where
     rows = compound f e.rows;
     is_roles = λ ps stop. ap (λ (x : Result (Rows Text) ℕ). on_both (compound f) x (roles c an_operator ps stop)) e.is_roles
         ∙ both (compound f) e.rows (roles c an_operator ps stop);
-    is_read = λ rs. ap (λ (x : Option (Read Text)). as_operand (option_and_then (compound_of f) x) (read_rows known rs)) e.is_read
+    is_read = λ rs. ap (λ (x : Option (ReadRows Text)). as_operand (option_and_then (compound_of f) x) (read_rows known rs)) e.is_read
         ∙ (ap (λ (x : Option (Term Text)). as_operand x (read_rows known rs)) k ∙ piece-row (a_piece t) (read_rows known rs));
     is_excess = λ rs. ap (λ (x : Option ℕ). first_of x (excess_in rs)) e.is_excess;
   }
@@ -208,7 +209,7 @@ module _ (ops : Table) (n : ℕ) where
       both f r (Err p) = refl
 
   -- one word is an operand
-  pub one-taken : (c : Within) (place : ℕ) (t : Term Text) (op : AsOperator Text) (ks : List Known) (at : ℕ) (e : Edge) (ns : List Mark)
+  pub one-taken : (c : RowKind) (place : ℕ) (t : Term Text) (op : AsOperator Text) (ks : List Known) (at : ℕ) (e : Edge) (ns : List Lexeme)
       → lv ks ≡ over (single (word place (plain t) op)) (lv (tokens at e false ns)) → Taken c ks ns (a_piece t ∷ [])
   one-taken c place t op ks at e ns w = record {
     after = at;

@@ -6,15 +6,15 @@ use Rattle.std.specs.Option.{option_map_or}
 use Rattle.std.specs.Str.{bytes_eq}
 use Rattle.std.proofs.lemmas.Bool.{lt-ltb, le-leb}
 use Rattle.std.proofs.lemmas.Slice.Eq.{bytes_eq-Decides}
-use Rattle.op_logic.proofs.Tests.{by_test, if_true, if_false}
+use Rattle.op_logic.proofs.BoolCases.{by_test, if_true, if_false}
 use Rattle.op_logic.specs.Term.{int, atom}
 use Rattle.op_term.specs.Ops.{Table, IsTable, prefix_in, infix_in, postfix_in, is_reserved, is_infix}
 use Rattle.op_term.specs.declared.ops.Meaning.{Meaning}
 use Rattle.op_token.specs.declared.token.Token.{Token}
 use Rattle.op_token.specs.declared.token.TokenKind.TheVariants.{Name, Integer, Comma}
 use Rattle.op_token.specs.Spelling.{least_magnitude}
-use Rattle.op_reader.specs.declared.within.Within.{Within}
-use Rattle.op_reader.specs.declared.within.Within.TheVariants.{Clause, Arguments, Elements, Last}
+use Rattle.op_reader.specs.declared.row_kind.RowKind.{RowKind}
+use Rattle.op_reader.specs.declared.row_kind.RowKind.TheVariants.{Clause, Arguments, Elements, Last}
 use Rattle.op_reader.specs.Row.{Operator, operand as a_piece}
 use Rattle.op_reader.specs.Words.{AsOperand, prefix, plain, sign as a_sign, AsOperator, joins, misplaced, Word, word, comma, operator_of}
 use Rattle.op_reader.specs.Words.{as_operator, integer_word, signed_or_bare, opens, magnitude_behind}
@@ -29,12 +29,12 @@ use Rattle.op_writer.specs.declared.bound.Bound.{Bound}
 use Rattle.op_writer.specs.Text.{is_operand}
 use Rattle.op_writer.specs.Pieces.{edge_behind, is_apart, prefix_edge}
 use Rattle.op_readback.specs.ReadBack.{IsSmall}
-use Rattle.op_readback.proofs.Marks.{Mark, sign, name, prefix_name, number, mark_piece, infix_marks, prefix_marks}
-use Rattle.op_readback.proofs.MarkTexts.{mark_text, unquoted-text}
-use Rattle.op_readback.proofs.MarkTokens.{Known, tok, tokens}
+use Rattle.op_readback.proofs.Lexemes.{Lexeme, sign, name, prefix_name, number, lexeme_piece, infix_lexemes, prefix_lexemes}
+use Rattle.op_readback.proofs.LexemeTexts.{lexeme_text, unquoted-text}
+use Rattle.op_readback.proofs.LexemeTokens.{Known, tok, tokens}
 use Rattle.op_readback.proofs.KnownWords.{firsts, k_word, k_words, k_operand, k_negative, k_alone, k_bare, minus_name}
 use Rattle.op_readback.proofs.FirstWords.{step, no-pair, ender-pair, integer-pair, NameWord, name-word, prefix-word, no-negative, Begins}
-use Rattle.op_readback.proofs.CleanMarks.{symbolic-unquoted}
+use Rattle.op_readback.proofs.LexemeQuotes.{symbolic-unquoted}
 use Rattle.op_readback.proofs.OperandRoles.{over, Taken, Link, one-taken, piece-row}
 
 abbrev Text : Type 0
@@ -44,21 +44,21 @@ some-none : {P : Type 0} (o : Option Meaning) (m : Meaning) → o ≡ Some m →
 some-none o m h g = absurd (let z : Some m ≡ None = sym h ∙ g in cc)
 
 module _ (ops : Table) (table : IsTable ops) (n : ℕ) where
-  abbrev T : ℕ → Edge → Bool → List Mark → List Known
+  abbrev T : ℕ → Edge → Bool → List Lexeme → List Known
   T = tokens
 
-  pub joins-roles : (c : Within) (p : ℕ) (a : AsOperand Text) (o : Operator Text) (ps : Parts Text) (stop : ℕ)
+  pub joins-roles : (c : RowKind) (p : ℕ) (a : AsOperand Text) (o : Operator Text) (ps : Parts Text) (stop : ℕ)
       → roles c an_operator (single (word p a (joins o)) ps) stop ≡ on_rows (operator o) (roles c (behind_operator o) ps stop)
   joins-roles Clause p a o ps stop = refl
   joins-roles Arguments p a o ps stop = refl
   joins-roles Elements p a o ps stop = refl
   joins-roles Last p a o ps stop = refl
 
-  pub infix-behind : (c : Within) (o : Operator Text) (ps : Parts Text) (stop : ℕ) → is_infix o.kind ≡ true
+  pub infix-behind : (c : RowKind) (o : Operator Text) (ps : Parts Text) (stop : ℕ) → is_infix o.kind ≡ true
       → roles c (behind_operator o) ps stop ≡ roles c an_operand ps stop
   infix-behind c o ps stop h = ap (λ (x : Expected Text). roles c x ps stop) (if_true (is_infix o.kind) _ _ h)
 
-  pub other-behind : (c : Within) (o : Operator Text) (ps : Parts Text) (stop : ℕ) → is_infix o.kind ≡ false
+  pub other-behind : (c : RowKind) (o : Operator Text) (ps : Parts Text) (stop : ℕ) → is_infix o.kind ≡ false
       → roles c (behind_operator o) ps stop ≡ roles c an_operator ps stop
   other-behind c o ps stop h = ap (λ (x : Expected Text). roles c x ps stop) (if_false (is_infix o.kind) _ _ h)
 
@@ -97,32 +97,32 @@ module _ (ops : Table) (table : IsTable ops) (n : ℕ) where
       by_test (is_reserved f) (λ e. some-none (postfix_in ops f) m h (ap (λ r. r.as_postfix) (table.reserved f e))) (λ e. e)
 
   -- a name as an operator between or behind operands
-  abbrev pub name-link : (c : Within) (f : Text) (m : Meaning) (to : Expected Text) → is_reserved f ≡ false
+  abbrev pub name-link : (c : RowKind) (f : Text) (m : Meaning) (to : Expected Text) → is_reserved f ≡ false
       → as_operator ops f ≡ joins (operator_of f m)
       → ((ps : Parts Text) (stop : ℕ) → roles c (behind_operator (operator_of f m)) ps stop ≡ roles c to ps stop)
-      → (ms : List Mark) (at : ℕ) (e : Edge) (l : Bool) → Link ops n c an_operator to (operator_of f m) (T at e l (name f ∷ ms)) ms
+      → (ms : List Lexeme) (at : ℕ) (e : Edge) (l : Bool) → Link ops n c an_operator to (operator_of f m) (T at e l (name f ∷ ms)) ms
   name-link c f m to r h b ms at e l =
       let w = name-word ops f ms at e l in
       record {
         after = w.after;
-        edge = edge_behind e (mark_piece (name f));
+        edge = edge_behind e (lexeme_piece (name f));
         layout = false;
         the_word = word w.place w.operand (joins (operator_of f m));
         words = ap (levels_of n) (w.words ∙ ap (λ (x : AsOperator Text). word w.place w.operand x ∷ k_words ops false
-            (T w.after (edge_behind e (mark_piece (name f))) false ms)) (w.operator_is r ∙ h));
+            (T w.after (edge_behind e (lexeme_piece (name f))) false ms)) (w.operator_is r ∙ h));
         is_roles =
             λ ps stop. joins-roles c w.place w.operand (operator_of f m) ps stop ∙ ap (on_rows (operator (operator_of f m))) (b ps stop);
       }
 
-  spaced-link : (c : Within) (from to : Expected Text) (o : Operator Text) (ks : List Known) (ms : List Mark)
+  spaced-link : (c : RowKind) (from to : Expected Text) (o : Operator Text) (ks : List Known) (ms : List Lexeme)
       → Link ops n c from to o ks (sign 32 ∷ ms) → Link ops n c from to o ks ms
   spaced-link c from to o ks ms x =
       record { after = x.after + 1; edge = Other; layout = true; the_word = x.the_word; words = x.words; is_roles = x.is_roles }
 
   comma-link : (o : Operator Text) → is_infix o.kind ≡ true → as_operator ops (codes ",") ≡ joins o
-      → (ms : List Mark) (at : ℕ) (e : Edge) (l : Bool) → Link ops n Clause an_operator an_operand o (T at e l (sign 44 ∷ ms)) ms
+      → (ms : List Lexeme) (at : ℕ) (e : Edge) (l : Bool) → Link ops n Clause an_operator an_operand o (T at e l (sign 44 ∷ ms)) ms
   comma-link o k h ms at e l = step (λ ks. Link ops n Clause an_operator an_operand o ks ms) (sign 44) ms refl at e l (λ at1 l1 _ _ _.
-      let e1 = edge_behind e (mark_piece (sign 44)) in let js = T (at1 + 1) e1 false ms in
+      let e1 = edge_behind e (lexeme_piece (sign 44)) in let js = T (at1 + 1) e1 false ms in
       record {
         after = at1 + 1;
         edge = e1;
@@ -133,35 +133,36 @@ module _ (ops : Table) (table : IsTable ops) (n : ℕ) where
         is_roles = λ ps stop. ap (on_rows (operator o)) (infix-behind Clause o ps stop k);
       })
 
-  pub infix-link : (c : Within) (f : Text) (m : Meaning) → infix_in ops f ≡ Some m → is_infix m.kind ≡ true
+  pub infix-link : (c : RowKind) (f : Text) (m : Meaning) → infix_in ops f ≡ Some m → is_infix m.kind ≡ true
       → (bytes_eq f (codes ",") ≡ true → c ≡ Clause)
-      → (ms : List Mark) (at : ℕ) (e : Edge) (l : Bool)
-      → Link ops n c an_operator an_operand (operator_of f m) (T at e l (infix_marks f ++ ms)) ms
+      → (ms : List Lexeme) (at : ℕ) (e : Edge) (l : Bool)
+      → Link ops n c an_operator an_operand (operator_of f m) (T at e l (infix_lexemes f ++ ms)) ms
   infix-link c f m h k q ms at e l =
       let o = operator_of f m in
       let nl = name-link c f m an_operand (infix-unreserved f m h) (as-infix f m h) (λ ps stop. infix-behind c o ps stop k) in
       by_test (bytes_eq f (codes ","))
-      (λ b. subst (λ (xs : List Mark). Link ops n c an_operator an_operand o (T at e l (xs ++ ms)) ms)
+      (λ b. subst (λ (xs : List Lexeme). Link ops n c an_operator an_operand o (T at e l (xs ++ ms)) ms)
       (sym (if_true (bytes_eq f (codes ",")) _ _ b))
-      (subst (λ (c : Within). Link ops n c an_operator an_operand o (T at e l (sign 44 ∷ ms)) ms) (sym (q b))
+      (subst (λ (c : RowKind). Link ops n c an_operator an_operand o (T at e l (sign 44 ∷ ms)) ms) (sym (q b))
       (comma-link o k (sym (ap (as_operator ops) ((bytes_eq-Decides f (codes ",")).0 b)) ∙ as-infix f m h) ms at e l)))
-      (λ b. subst (λ (xs : List Mark). Link ops n c an_operator an_operand o (T at e l (xs ++ ms)) ms)
+      (λ b. subst (λ (xs : List Lexeme). Link ops n c an_operator an_operand o (T at e l (xs ++ ms)) ms)
       (sym (if_false (bytes_eq f (codes ",")) _ _ b))
       (by_test (bytes_eq f (codes ";") || is_symbolic (name_text Quoted f))
-      (λ s. subst (λ (xs : List Mark). Link ops n c an_operator an_operand o (T at e l (xs ++ ms)) ms)
+      (λ s. subst (λ (xs : List Lexeme). Link ops n c an_operator an_operand o (T at e l (xs ++ ms)) ms)
       (sym (if_true (bytes_eq f (codes ";") || is_symbolic (name_text Quoted f)) _ _ s)) (nl ms at e l))
-      (λ s. subst (λ (xs : List Mark). Link ops n c an_operator an_operand o (T at e l (xs ++ ms)) ms)
+      (λ s. subst (λ (xs : List Lexeme). Link ops n c an_operator an_operand o (T at e l (xs ++ ms)) ms)
       (sym (if_false (bytes_eq f (codes ";") || is_symbolic (name_text Quoted f)) _ _ s))
       (spaced-link c an_operator an_operand o (T (at + 1) Other true (name f ∷ sign 32 ∷ ms)) ms (nl (sign 32 ∷ ms) (at + 1) Other true)))))
 
-  abbrev pub postfix-link : (c : Within) (f : Text) (m : Meaning) → postfix_in ops f ≡ Some m → is_infix m.kind ≡ false
-      → (ms : List Mark) (at : ℕ) (e : Edge) (l : Bool)
+  abbrev pub postfix-link : (c : RowKind) (f : Text) (m : Meaning) → postfix_in ops f ≡ Some m → is_infix m.kind ≡ false
+      → (ms : List Lexeme) (at : ℕ) (e : Edge) (l : Bool)
       → Link ops n c an_operator an_operator (operator_of f m) (T at e l (sign 32 ∷ name f ∷ ms)) ms
   postfix-link c f m h k ms at e l =
       name-link c f m an_operator (postfix-unreserved f m h) (as-postfix f m h) (λ ps stop. other-behind c (operator_of f m) ps stop k) ms
       (at + 1) Other true
 
-  pub postfix-tight : (c : Within) (f : Text) (m : Meaning) (h : postfix_in ops f ≡ Some m) (k : is_infix m.kind ≡ false) (ms : List Mark)
+  pub postfix-tight : (c : RowKind) (f : Text) (m : Meaning) (h : postfix_in ops f ≡ Some m) (k : is_infix m.kind ≡ false)
+      (ms : List Lexeme)
       (at : ℕ) (e : Edge) (l : Bool) → (postfix-link c f m h k ms at e l).layout ≡ false
   postfix-tight c f m h k ms at e l = refl
 
@@ -172,7 +173,7 @@ module _ (ops : Table) (table : IsTable ops) (n : ℕ) where
       by_test (bytes_eq f (codes "-")) (λ e. no-negative ops (tok Name 0 0 false, f) js (h e))
       (λ e. if_false (minus_name (tok Name 0 0 false, f)) _ _ e)
 
-  prefix-link-of : (c : Within) (f : Text) (m : Meaning) (e2 : Edge) (ks : List Known) (ms : List Mark) → prefix_in ops f ≡ Some m
+  prefix-link-of : (c : RowKind) (f : Text) (m : Meaning) (e2 : Edge) (ks : List Known) (ms : List Lexeme) → prefix_in ops f ≡ Some m
       → (w : NameWord ops f ms e2 ks)
       → opens (firsts (T w.after e2 false ms)) ≡ false
       → (bytes_eq f (codes "-") ≡ true → magnitude_behind (firsts (T w.after e2 false ms)) ≡ None)
@@ -193,30 +194,30 @@ module _ (ops : Table) (table : IsTable ops) (n : ℕ) where
       by_test (bytes_eq t (codes "-")) (λ e. ap (λ (x : Edge). is_apart x 40) (if_true (bytes_eq t (codes "-")) _ _ e))
       (λ e. ap (λ (x : Edge). is_apart x 40) (if_false (bytes_eq t (codes "-")) _ _ e))
 
-  pub prefix-link : (c : Within) (f : Text) (m : Meaning) (bound : Bound) → prefix_in ops f ≡ Some m → is_operand bound ≡ true
-      → (ms : List Mark) → ((at : ℕ) (e : Edge) (l : Bool) → Begins ops bound e l (T at e l ms)) → (at : ℕ) (e : Edge) (l : Bool)
-      → Link ops n c an_operand an_operand (operator_of f m) (T at e l (prefix_marks f ++ ms)) ms
+  pub prefix-link : (c : RowKind) (f : Text) (m : Meaning) (bound : Bound) → prefix_in ops f ≡ Some m → is_operand bound ≡ true
+      → (ms : List Lexeme) → ((at : ℕ) (e : Edge) (l : Bool) → Begins ops bound e l (T at e l ms)) → (at : ℕ) (e : Edge) (l : Bool)
+      → Link ops n c an_operand an_operand (operator_of f m) (T at e l (prefix_lexemes f ++ ms)) ms
   prefix-link c f m bound h o ms b at e l = by_test (is_symbolic (name_text Quoted f))
-      (λ s. subst (λ (xs : List Mark). Link ops n c an_operand an_operand (operator_of f m) (T at e l (xs ++ ms)) ms)
+      (λ s. subst (λ (xs : List Lexeme). Link ops n c an_operand an_operand (operator_of f m) (T at e l (xs ++ ms)) ms)
       (sym (if_true (is_symbolic (name_text Quoted f)) _ _ s))
       (let w = prefix-word ops f ms at e l in let e2 = prefix_edge (name_text Quoted f) in let x = b w.after e2 false in
       prefix-link-of c f m e2 (T at e l (prefix_name f ∷ ms)) ms h w (x.set (prefix-set (name_text Quoted f)))
       (λ q. x.set_digit (if_true (bytes_eq (name_text Quoted f) (codes "-")) _ _ (ap (λ (t : Text). bytes_eq t (codes "-"))
       (unquoted-text f (symbolic-unquoted f s)) ∙ q))) (x.alone o)))
-      (λ s. subst (λ (xs : List Mark). Link ops n c an_operand an_operand (operator_of f m) (T at e l (xs ++ ms)) ms)
+      (λ s. subst (λ (xs : List Lexeme). Link ops n c an_operand an_operand (operator_of f m) (T at e l (xs ++ ms)) ms)
       (sym (if_false (is_symbolic (name_text Quoted f)) _ _ s))
       (let w = name-word ops f (sign 32 ∷ ms) at e l in let e2 = edge_behind e
-      (mark_piece (name f)) in let x = b (w.after + 1) Other true in
+      (lexeme_piece (name f)) in let x = b (w.after + 1) Other true in
       spaced-link c an_operand an_operand (operator_of f m) (T at e l (name f ∷ sign 32 ∷ ms)) ms
       (prefix-link-of c f m e2 (T at e l (name f ∷ sign 32 ∷ ms)) (sign 32 ∷ ms) h w (x.laid refl) (λ q. x.laid_digit refl) (x.alone o))))
 
   -- atoms: no prefix operators, or before what ends an operand
-  pub atom-taken : (c : Within) (f : Text) (ns : List Mark)
+  pub atom-taken : (c : RowKind) (f : Text) (ns : List Lexeme)
       → ((at : ℕ) (e : Edge) → (opens (firsts (T at e false ns)) ≡ false) × (magnitude_behind (firsts (T at e false ns)) ≡ None))
       → ((at : ℕ) (e : Edge) (P : Type 0) → (prefix_in ops f ≡ None → P) → (k_alone ops (T at e false ns) ≡ true → P) → P)
       → (at : ℕ) (e : Edge) (l : Bool) → Taken ops n c (T at e l (name f ∷ ns)) ns (a_piece (atom f) ∷ [])
   atom-taken c f ns h k at e l =
-      let w = name-word ops f ns at e l in let e2 = edge_behind e (mark_piece (name f)) in let js = T w.after e2 false ns in
+      let w = name-word ops f ns at e l in let e2 = edge_behind e (lexeme_piece (name f)) in let js = T w.after e2 false ns in
       let g = h w.after e2 in
       let is : w.operand ≡ plain (atom f) = k w.after e2 (w.operand ≡ plain (atom f)) (λ q. w.atom_is g.0 g.1 q)
       (λ q. w.alone_is g.0 g.1 q) in
@@ -235,19 +236,19 @@ module _ (ops : Table) (table : IsTable ops) (n : ℕ) where
       ≡ over (λ ps. single (word a (a_sign (int (negsuc k))) op) (single w ps)) (levels_of n ws))
       (sym (if_false (nat_lt m least_magnitude) _ _ e)) refl)
 
-  pub int-taken : (c : Within) (i : ℤ) → IsSmall i → (ns : List Mark) (at : ℕ) (e : Edge) (l : Bool)
+  pub int-taken : (c : RowKind) (i : ℤ) → IsSmall i → (ns : List Lexeme) (at : ℕ) (e : Edge) (l : Bool)
       → Taken ops n c (T at e l (number i ∷ ns)) ns (a_piece (int i) ∷ [])
   int-taken c (pos k) h ns at e l =
       step (λ ks. Taken ops n c ks ns (a_piece (int (pos k)) ∷ [])) (number (pos k)) ns refl at e l (λ at1 l1 _ _ _.
-      let e1 = edge_behind e (mark_piece (number (pos k))) in let at2 = at1 + length (decimal k) in let js = T at2 e1 false ns in
+      let e1 = edge_behind e (lexeme_piece (number (pos k))) in let at2 = at1 + length (decimal k) in let js = T at2 e1 false ns in
       one-taken ops n c at1 (int (pos k)) misplaced ((tok (Integer k) at1 at2 l1, []) ∷ js) at2 e1 ns
       (ap (levels_of n) (no-pair ops (tok (Integer k) at1 at2 l1, []) js (integer-pair ops k (firsts js))
       ∙ ap (λ (w : Word Text). w ∷ k_words ops false js) (if_true (nat_lt k least_magnitude) _ _
       (lt-ltb k least_magnitude (let z : k < 2 ^ 63 = h in omega (arith, z)))))))
   int-taken c (negsuc k) h ns at e l =
       step (λ ks. Taken ops n c ks ns (a_piece (int (negsuc k)) ∷ [])) (number (negsuc k)) ns refl at e l (λ at1 l1 _ _ _.
-      let e1 = edge_behind e (mark_piece (number (negsuc k))) in
-      let at2 = at1 + length (mark_text (number (negsuc k))) in
+      let e1 = edge_behind e (lexeme_piece (number (negsuc k))) in
+      let at2 = at1 + length (lexeme_text (number (negsuc k))) in
       let js = T at2 e1 false ns in
       let two : Known = (tok (Integer (suc k)) (at1 + 1) (at1 + 1 + length (decimal (suc k))) false, []) in
       let one : Known = (tok Name at1 (at1 + 1) l1, codes "-") in

@@ -7,7 +7,7 @@ use Rattle.std.specs.List.{flat_map}
 use Rattle.std.proofs.lemmas.Bool.{ltb-true, ltb-false, lt-ltb, le-leb, lt-leb, le-ltb, eqb-true}
 use Rattle.std.proofs.lemmas.List.{append_assoc}
 use lib.Utf8.{encode, encodes, scalar, scalars}
-use Rattle.op_logic.proofs.Tests.{by_test, by_order, if_true, if_false}
+use Rattle.op_logic.proofs.BoolCases.{by_test, by_order, if_true, if_false}
 use Rattle.op_token.specs.declared.token.TokenKind.TheVariants.{QuotedName}
 use Rattle.op_token.specs.declared.token.TokenFaultKind.TheVariants.{BadEscape, BadChar}
 use Rattle.op_token.specs.declared.spelling.Spelling.{Spelling}

@@ -7,22 +7,22 @@ use Rattle.op_term.specs.Ops.{Table, IsTable}
 use Rattle.op_token.specs.declared.token.TokenFaultKind.TheVariants.{NumberRange}
 use Rattle.op_term.specs.declared.quotes.DoubleQuotes.{DoubleQuotes}
 use Rattle.op_reader.specs.declared.fault.ReadFaultKind.TheVariants.{Token as BadToken, Unbalanced, NoOperand, Priority}
-use Rattle.op_reader.specs.declared.within.Within.TheVariants.{Clause}
+use Rattle.op_reader.specs.declared.row_kind.RowKind.TheVariants.{Clause}
 use Rattle.op_reader.specs.FirstClause.{unmatched}
 use Rattle.op_reader.specs.Row.{Piece, tree}
 use Rattle.op_reader.specs.Roles.{Levels, none, Rows, done, an_operand, roles, clause_roles}
-use Rattle.op_reader.specs.Terms.{known, Read, read_rows, term_of, excess_in}
+use Rattle.op_reader.specs.Terms.{known, ReadRows, read_rows, term_of, excess_in}
 use Rattle.op_reader.specs.Reading.{Outcome, term, refused, refused_or, first_place, rows_outcome, words_outcome}
 use Rattle.op_writer.specs.declared.style.Style.{Style}
 use Rattle.op_writer.specs.declared.style.Style.TheVariants.{Quoted, Canonical}
 use Rattle.op_writer.specs.declared.bound.Bound.TheVariants.{Whole}
 use Rattle.op_writer.specs.declared.edge.Edge.TheVariants.{Other}
 use Rattle.op_writer.specs.Text.{within, text_of}
-use Rattle.op_readback.proofs.Marks.{Mark, marks_of, IsWritten, AreWritten}
+use Rattle.op_readback.proofs.Lexemes.{Lexeme, lexemes_of, IsWritten, AreWritten}
 use Rattle.op_readback.specs.Rows.{row_of}
 use Rattle.op_readback.specs.ReadBack.{IsClosed, AreClosed, HasNoLetter, HaveNoLetter, IsReadBack}
 use Rattle.op_readback.proofs.LetterTerms.{no-letter-of}
-use Rattle.op_readback.proofs.MarkTokens.{Known, tokens}
+use Rattle.op_readback.proofs.LexemeTokens.{Known, tokens}
 use Rattle.op_readback.proofs.KnownWords.{firsts, k_words}
 use Rattle.op_readback.proofs.ReadingOutcomes.{known_outcome, quoted-reads, canonical-reads}
 use Rattle.op_readback.proofs.FirstWords.{follow-end}
@@ -45,7 +45,7 @@ module _ (ops : Table) (table : IsTable ops) (style : Style) where
       ap (λ (l : Levels Text). roles Clause an_operand l.inner.parts l.inner.stop) a.words ∙ a.is_roles none (n + 1) in
       let is_read : read_rows known rs ≡ Some (read row [] None) = a.is_read done
       ∙ ap (λ (xs : List (Piece Text)). Some (read xs [] None)) (append-nil row) in
-      let has_term : term_of known rs ≡ Some t = ap (option_and_then (λ (r : Read Text). tree 1200 r.row)) is_read ∙ w in
+      let has_term : term_of known rs ≡ Some t = ap (option_and_then (λ (r : ReadRows Text). tree 1200 r.row)) is_read ∙ w in
       let place = first_place (firsts ks) in
       ap (λ (x : Option ℕ). refused_or Unbalanced x (words_outcome place [] (n + 1) (n + 2) (k_words ops false ks))) b
       ∙ (ap (λ (x : Result (Rows Text) ℕ). elim x as (λ _. Outcome) [
@@ -58,14 +58,14 @@ module _ (ops : Table) (table : IsTable ops) (style : Style) where
       ]) has_term
       ∙ ap (λ (x : Option ℕ). refused_or (BadToken NumberRange) x (term t [] (n + 2))) (a.is_excess done)))
 
-  marks-outcome : (t : Term Text) → IsWritten style t → (p : ℕ) → p ≤ 1200 → (n : ℕ)
-      → known_outcome ops n (tokens 0 Other false (marks_of ops style t (within (Whole p)))) ≡ term t [] (n + 2)
-  marks-outcome t h p l n =
-      let ms = marks_of ops style t (within (Whole p)) in
+  lexemes-outcome : (t : Term Text) → IsWritten style t → (p : ℕ) → p ≤ 1200 → (n : ℕ)
+      → known_outcome ops n (tokens 0 Other false (lexemes_of ops style t (within (Whole p)))) ≡ term t [] (n + 2)
+  lexemes-outcome t h p l n =
+      let ms = lexemes_of ops style t (within (Whole p)) in
       let row = row_of ops style t (Whole p) in
       let d = every ops table (n + 1) style t h in
       taken-outcome t row (lower-tree ops table style t p l) n (tokens 0 Other false ms) (matching ops style t h (Whole p) 0 Other false)
-      (subst (λ (xs : List Mark). Taken ops (n + 1) Clause (tokens 0 Other false xs) [] row) (append-nil ms)
+      (subst (λ (xs : List Lexeme). Taken ops (n + 1) Clause (tokens 0 Other false xs) [] row) (append-nil ms)
       (d.reads (Whole p) Clause tt [] (λ at e. follow-end ops (Whole p)) 0 Other false))
 
   clause-end : (xs : Text) (t : Term Text) → term t [] (length xs + 2) ≡ term t [] (length (xs ++ codes " ."))
@@ -96,11 +96,11 @@ pub quoted-is-read-back : (ops : Table) → IsTable ops → (quotes : DoubleQuot
 quoted-is-read-back ops table quotes t p h g l =
     let w = quoted-written t h g in
     let text = text_of ops Quoted t p in
-    quoted-reads ops quotes t w p ∙ (marks-outcome ops table Quoted t w p l (length text) ∙ clause-end ops table Quoted text t)
+    quoted-reads ops quotes t w p ∙ (lexemes-outcome ops table Quoted t w p l (length text) ∙ clause-end ops table Quoted text t)
 
 pub canonical-is-read-back : (ops : Table) → IsTable ops → (quotes : DoubleQuotes) (t : Term Text) (priority : ℕ) → IsClosed t
     → priority ≤ 1200 → IsReadBack ops quotes Canonical t priority
 canonical-is-read-back ops table quotes t p h l =
     let w = canonical-written t h in
     let text = text_of ops Canonical t p in
-    canonical-reads ops quotes t w p ∙ (marks-outcome ops table Canonical t w p l (length text) ∙ clause-end ops table Canonical text t)
+    canonical-reads ops quotes t w p ∙ (lexemes-outcome ops table Canonical t w p l (length text) ∙ clause-end ops table Canonical text t)

@@ -1,4 +1,4 @@
--- What reading the text of a written term comes to, from the tokens of its marks.
+-- What reading the text of a written term comes to, from the tokens of its lexemes.
 use Rattle.std.proofs.Common.{◌≡◌, ◌+◌, ℕ, Bool, false, cond, List, [], ◌∷◌, ◌++◌, map, Option, Some, None, length, refl, sym, ◌∙◌, ap}
 use Rattle.std.proofs.Common.{arith}
 use Rattle.std.specs.Prelude.{codes, option_map}
@@ -23,13 +23,13 @@ use Rattle.op_writer.specs.Spelling.{name_text}
 use Rattle.op_writer.specs.Pieces.{Piece, spaced}
 use Rattle.op_writer.specs.Text
 use Rattle.op_writer.specs.Text.{within}
-use Rattle.op_readback.proofs.Marks.{Mark, mark_piece, marks_of, IsWritten}
-use Rattle.op_readback.proofs.MarkTexts.{IsClean}
-use Rattle.op_readback.proofs.MarkPieces.{marked}
-use Rattle.op_readback.proofs.MarkTokens.{Known, pushes, tokens, AreMarks, ended, end_token, lexed}
+use Rattle.op_readback.proofs.Lexemes.{Lexeme, lexeme_piece, lexemes_of, IsWritten}
+use Rattle.op_readback.proofs.LexemeTexts.{IsClean}
+use Rattle.op_readback.proofs.LexemePieces.{same-lexemes}
+use Rattle.op_readback.proofs.LexemeTokens.{Known, pushes, tokens, AreLexemes, ended, end_token, lexed}
 use Rattle.op_readback.proofs.KnownWords.{OfKind, AreKnown, firsts, k_words, words-are, no-variables}
 use Rattle.op_readback.proofs.TokenNames.{tokens-known}
-use Rattle.op_readback.proofs.CleanMarks.{fine}
+use Rattle.op_readback.proofs.LexemeQuotes.{fine}
 
 pushed-tokens : (ks : List Known) (r : Lexed) → (pushes ks r).tokens ≡ firsts ks ++ r.tokens
 pushed-tokens [] r = refl
@@ -77,13 +77,13 @@ module _ (ops : Table) (quotes : DoubleQuotes) where
       (words_of (source ops quotes text) (firsts ks))) (no-variables ops quotes text [] ks h)
       ∙ ap (words_outcome (first_place (firsts ks)) [] (n + 1) (n + 2)) (words-are ops quotes text [] false ks h))
 
-  -- the text of marks, read
-  pub reads : (ms : List Mark) → AreMarks ms → IsClean false ms
-      → reading_of ops quotes (ended Other ms) ≡ known_outcome ops (length (spaced Other (map mark_piece ms))) (tokens 0 Other false ms)
+  -- the text of lexemes, read
+  pub reads : (ms : List Lexeme) → AreLexemes ms → IsClean false ms
+      → reading_of ops quotes (ended Other ms) ≡ known_outcome ops (length (spaced Other (map lexeme_piece ms))) (tokens 0 Other false ms)
   unfolding reading_of
   reads ms h c =
       let text = ended Other ms in
-      let n = length (spaced Other (map mark_piece ms)) in
+      let n = length (spaced Other (map lexeme_piece ms)) in
       let ks = tokens 0 Other false ms in
       let known = tokens-known ms h false c text [] Other false refl in
       let r : Lexed = push (end_token n) (record { tokens = []; fault = None }) in
@@ -103,20 +103,20 @@ module _ (ops : Table) (quotes : DoubleQuotes) where
   pub term-reads : (style : Style) → ((f : List ℕ) → name_text style f ≡ name_text Quoted f) → (t : Term (List ℕ))
       → IsWritten style t → (p : ℕ)
       → reading_of ops quotes (Text.text_of ops style t p ++ codes " .") ≡ known_outcome ops (length (Text.text_of ops style t p))
-      (tokens 0 Other false (marks_of ops style t (within (Whole p))))
+      (tokens 0 Other false (lexemes_of ops style t (within (Whole p))))
   term-reads style same t h p =
-      let ms = marks_of ops style t (within (Whole p)) in
+      let ms = lexemes_of ops style t (within (Whole p)) in
       let f = fine ops style t h (Whole p) in
-      let e = marked ops style same t h (within (Whole p)) in
+      let e = same-lexemes ops style same t h (within (Whole p)) in
       ap (λ (ps : List Piece). reading_of ops quotes (spaced Other ps ++ codes " .")) e
       ∙ (reads ms f.0 f.1 ∙ ap (λ (ps : List Piece). known_outcome ops (length (spaced Other ps)) (tokens 0 Other false ms)) (sym e))
 
   pub quoted-reads : (t : Term (List ℕ)) → IsWritten Quoted t → (p : ℕ)
       → reading_of ops quotes (Text.text_of ops Quoted t p ++ codes " .") ≡ known_outcome ops (length (Text.text_of ops Quoted t p))
-      (tokens 0 Other false (marks_of ops Quoted t (within (Whole p))))
+      (tokens 0 Other false (lexemes_of ops Quoted t (within (Whole p))))
   quoted-reads t h p = term-reads Quoted (λ f. refl) t h p
 
   pub canonical-reads : (t : Term (List ℕ)) → IsWritten Canonical t → (p : ℕ)
       → reading_of ops quotes (Text.text_of ops Canonical t p ++ codes " .") ≡ known_outcome ops (length (Text.text_of ops Canonical t p))
-      (tokens 0 Other false (marks_of ops Canonical t (within (Whole p))))
+      (tokens 0 Other false (lexemes_of ops Canonical t (within (Whole p))))
   canonical-reads t h p = term-reads Canonical (λ f. refl) t h p

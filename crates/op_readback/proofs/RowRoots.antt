@@ -2,14 +2,14 @@
 use Rattle.std.proofs.Common.{◌≡◌, ◌<◌, ◌≤◌, ◌-◌, ℕ, Bool, true, false, ◌||◌, ◌&&◌, List, [], ◌∷◌, ◌++◌, Option, Some, max, refl, sym, ◌∙◌}
 use Rattle.std.proofs.Common.{ap, subst, arith, ltb, eqb}
 use Rattle.std.proofs.lemmas.Bool.{leb-true, ltb-true, lt-ltb, eqb-true}
-use Rattle.op_logic.proofs.Tests.{by_test, by_order, if_true, if_false}
+use Rattle.op_logic.proofs.BoolCases.{by_test, by_order, if_true, if_false}
 use Rattle.op_term.specs.declared.ops.OpKind.{OpKind}
 use Rattle.op_term.specs.declared.ops.OpKind.TheVariants.{Xfx, Xfy, Yfx, Fy, Fx, Xf, Yf}
 use Rattle.op_term.specs.declared.ops.Meaning.{Meaning}
 use Rattle.op_term.specs.Ops.{is_y_left, is_y_right}
 use Rattle.op_reader.specs.Row.{Piece, operand, operator, Operator, Split, split_at, top, leftmost, rightmost, root, root_among}
-use Rattle.op_reader.proofs.Splits.{extended, top-append, leftmost-here, leftmost-more, rightmost-here, rightmost-there, leftmost-there}
-use Rattle.op_reader.proofs.Splits.{leftmost-splits}
+use Rattle.op_reader.proofs.RowSplits.{extended, top-append, leftmost-here, leftmost-more, rightmost-here, rightmost-there, leftmost-there}
+use Rattle.op_reader.proofs.RowSplits.{leftmost-splits}
 use Rattle.op_writer.specs.declared.bound.Bound.{Bound}
 use Rattle.op_writer.specs.declared.bound.Bound.TheVariants.{Whole, Operand, Left, Right}
 use Rattle.op_writer.specs.Text.{fits, left_of, right_of}

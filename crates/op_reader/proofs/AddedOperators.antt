@@ -5,7 +5,7 @@ use Rattle.std.proofs.Common.{refl, ap, sym, ◌∙◌, arith, subst, length-app
 use Rattle.std.specs.Option.{option_map, option_and_then}
 use Rattle.std.proofs.lemmas.Bool.{le-leb, leb-true}
 use Rattle.op_logic.specs.Term.{Term}
-use Rattle.op_logic.proofs.Tests.{by_test, if_true, if_false}
+use Rattle.op_logic.proofs.BoolCases.{by_test, if_true, if_false}
 use Rattle.op_term.specs.Ops.{is_prefix, is_postfix, is_y_left, is_y_right}
 use Rattle.op_term.specs.declared.ops.OpKind.{OpKind}
 use Rattle.op_term.specs.declared.ops.OpKind.TheVariants.{Xf, Yf}
@@ -13,7 +13,7 @@ use Rattle.op_reader.specs.Row.{Piece, operand, operator, Operator, Split, split
 use Rattle.op_reader.specs.Row.{tree_of}
 use Rattle.op_reader.specs.inner.Spine.{Arm, Spine, ended, under, whole_priority, spine_within, spine_of}
 use Rattle.op_reader.specs.inner.Adding.{added, added_to}
-use Rattle.op_reader.proofs.Splits.{extended}
+use Rattle.op_reader.proofs.RowSplits.{extended}
 use Rattle.op_reader.proofs.RowRoots.{stays, none, over, clash, outcome, right_below}
 use Rattle.op_reader.proofs.Spines.{is_single, single_or, right_at, spine_split, spine_step, spine_single}
 

@@ -9,13 +9,13 @@ use Rattle.op_term.specs.declared.quotes.DoubleQuotes.{DoubleQuotes}
 use Rattle.op_reader.specs.declared.fault.ReadFault.{ReadFault}
 use Rattle.op_reader.specs.declared.fault.ReadFaultKind.TheVariants.{Unbalanced}
 use Rattle.op_reader.specs.declared.term_reader.Reading.{Reading}
-use Rattle.op_reader.specs.declared.level.ListNames.{ListNames}
+use Rattle.op_reader.specs.declared.read_rows.ListNames.{ListNames}
 use Rattle.op_reader.specs.declared.word.Word.{Word as WordHeld}
 use Rattle.op_reader.specs.FirstClause.{sentence, unmatched}
 use Rattle.op_reader.specs.Words.{source, words_of, variables_of, named_from}
 use Rattle.op_reader.specs.Roles.{levels_of}
 use Rattle.op_reader.specs.Reading.{Outcome, refused_or, first_place, words_outcome, clause_outcome, sentence_outcome}
-use Rattle.op_reader.specs.inner.Marks.{view, word_in}
+use Rattle.op_reader.specs.inner.RoleLists.{view, word_in}
 use Rattle.op_reader.specs.inner.Shown.{IsLater, ShowsWords}
 use Rattle.op_reader.specs.Passes.{AreListNames, Tells, HasKnownNames}
 use Rattle.op_reader.proofs.ShownNodes.{kept_all, kept_kept, kept_length, name_later}

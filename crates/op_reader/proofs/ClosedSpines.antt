@@ -6,12 +6,12 @@ use Rattle.std.specs.List.{slice_get}
 use Rattle.std.proofs.lemmas.Bool.{le-leb, leb-true, ltb-true}
 use Rattle.std.proofs.lemmas.List.{get_or-take, length-take, map-append}
 use Rattle.op_logic.specs.Term.{Term}
-use Rattle.op_logic.proofs.Tests.{by_test, if_true, if_false}
+use Rattle.op_logic.proofs.BoolCases.{by_test, if_true, if_false}
 use Rattle.op_term.specs.Ops.{is_prefix, is_postfix}
 use Rattle.op_term.specs.Places.{term_at}
 use Rattle.op_reader.specs.Row.{Piece, Operator, left_bound, right_bound, is_empty, with_one, tree_of}
 use Rattle.op_reader.specs.inner.Spine.{Arm, Spine, ended, under, arms_priority, whole_priority, spine_within, spine_of}
-use Rattle.op_reader.specs.inner.Held.{arm_of, BranchesBelow}
+use Rattle.op_reader.specs.inner.RowState.{arm_of, BranchesBelow}
 use Rattle.op_reader.specs.inner.Adding.{with_right, arms_term, whole_term, taken, added, AreFalling, IsSameTo, branch_bound, last_is_below}
 use Rattle.op_reader.specs.inner.Adding.{spine_at, IsClosed}
 use Rattle.op_reader.specs.declared.row.Branch.{Branch}

@@ -16,7 +16,7 @@ use Rattle.op_reader.specs.declared.word.AsOperand.TheVariants.{Sign, Plain}
 use Rattle.op_reader.specs.declared.words.Made.{Made}
 use Rattle.op_reader.specs.Words.{Source, Word, word_of, words_from, variables_of, met_behind, with_variable, spelling, is_variable}
 use Rattle.op_reader.specs.Words.{is_empty_pair}
-use Rattle.op_reader.specs.inner.Marks.{word_in, OperandBelow, WordBelow}
+use Rattle.op_reader.specs.inner.RoleLists.{word_in, OperandBelow, WordBelow}
 use Rattle.op_reader.specs.inner.Shown.{ShowsWord, ShowsWords, HasMet, Worded}
 use Rattle.op_reader.proofs.ShownNodes.{kept_length, later_back}
 

@@ -1,26 +1,26 @@
+mod AddedNodes
 mod AddedOperators
 mod ClauseOutcomes
 mod ClosedSpines
 mod FirstClauses
-mod HeldPieces
-mod HeldRows
-mod JoinedMarks
+mod JoinedRoles
 mod JoinedWords
-mod LevelNodes
 mod ListNodes
 mod MatchedBrackets
 mod OperatorSpines
-mod PendingLevels
+mod PendingRows
 mod ReadVariables
 mod ReadingOutcomes
 mod RefusedRows
 mod RowNames
+mod RowPieces
 mod RowRoots
 mod RowShape
+pub mod RowSplits
+mod RowStates
 mod RowsVariables
 mod ShownNodes
 pub mod Spines
-pub mod Splits
 mod TokensVariables
 mod TreeVariables
 mod VariableNames

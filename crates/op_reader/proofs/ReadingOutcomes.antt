@@ -1,4 +1,4 @@
--- What marks, words and tokens come to.
+-- What roles, words and tokens come to.
 use Rattle.std.proofs.Common.{◌≡◌, ℕ, ◌<◌, ◌+◌, ◌-◌, zero, suc, List, [], ◌∷◌, ◌++◌, replicate, Option, Some, None, length, take, refl, ap}
 use Rattle.std.proofs.Common.{sym, ◌∙◌, arith}
 use Rattle.std.specs.Prelude.{All, Result, Ok, Err, IfOk}
@@ -7,12 +7,12 @@ use Rattle.std.proofs.Math.Seq.{get_or-append_right}
 use Rattle.op_logic.specs.Term.{Term, var, int, node, Args, no_args, arg, rename_args}
 use Rattle.op_logic.specs.Names.{name_at, named, HasNames, ArgsHaveNames}
 use Rattle.op_logic.proofs.NameTables.{name_at-below, name_at-past}
-use Rattle.op_logic.proofs.Tests.{by_order}
+use Rattle.op_logic.proofs.BoolCases.{by_order}
 use Rattle.op_token.specs.declared.token.TokenFaultKind.TheVariants.{NumberRange}
 use Rattle.op_reader.specs.declared.fault.ReadFaultKind.TheVariants.{Token as BadToken, NoOperand, Priority}
-use Rattle.op_reader.specs.declared.level.ListNames.{ListNames}
-use Rattle.op_reader.specs.declared.mark.Mark.{Mark}
-use Rattle.op_reader.specs.declared.mark.Mark.TheVariants.{Separator, Tail, Operator, Operand, Excess, Compound, Bracketed, Closed}
+use Rattle.op_reader.specs.declared.read_rows.ListNames.{ListNames}
+use Rattle.op_reader.specs.declared.role.Role.{Role}
+use Rattle.op_reader.specs.declared.role.Role.TheVariants.{Separator, Tail, Operator, Operand, Excess, Compound, Bracketed, Closed}
 use Rattle.op_reader.specs.Roles.{Rows, operand, clause_roles}
 use Rattle.op_reader.specs.Words.{Word}
 use Rattle.op_reader.specs.declared.fault.ReadFault.{ReadFault}
@@ -20,29 +20,30 @@ use Rattle.op_reader.specs.declared.term_reader.Reading.{Reading}
 use Rattle.op_reader.specs.declared.term_reader.Reading.TheVariants.{Term as ATerm, End}
 use Rattle.op_reader.specs.Terms.{Known, known, term_of, first_of, excess_in}
 use Rattle.op_reader.specs.Reading.{Outcome, term, refused, refused_or, rows_outcome, words_outcome}
-use Rattle.op_reader.specs.inner.Marks.{View, view, Layers, on_inner, with_mark, with_marks, no_layers, rows_of, first_excess, MarkBelow}
-use Rattle.op_reader.specs.inner.Level.{known_in}
+use Rattle.op_reader.specs.inner.RoleLists.{View, view, Layers, on_inner, with_role, with_roles, no_layers, rows_of, first_excess}
+use Rattle.op_reader.specs.inner.RoleLists.{RoleBelow}
+use Rattle.op_reader.specs.inner.ReadRows.{known_in}
 use Rattle.op_reader.specs.Passes.{AreListNames, Tells, HasKnownNames}
 use Rattle.op_reader.proofs.ShownNodes.{term_later}
 
-mark_kept : (table : List (List ℕ)) (ts us : List (Term ℕ)) (m : Mark) (l : Layers) → take (length ts) us ≡ ts → MarkBelow (length ts) m →
-    with_mark (view table us) m l ≡ with_mark (view table ts) m l
-mark_kept table ts us (Operand n) l k h = ap (λ t. on_inner (operand (named table t)) l) (term_later ts us n k h)
-mark_kept table ts us Separator l k h = refl
-mark_kept table ts us Tail l k h = refl
-mark_kept table ts us (Operator o) l k h = refl
-mark_kept table ts us (Excess place) l k h = refl
-mark_kept table ts us (Compound f) l k h = refl
-mark_kept table ts us (Bracketed b) l k h = refl
-mark_kept table ts us Closed l k h = refl
+role_kept : (table : List (List ℕ)) (ts us : List (Term ℕ)) (m : Role) (l : Layers) → take (length ts) us ≡ ts → RoleBelow (length ts) m →
+    with_role (view table us) m l ≡ with_role (view table ts) m l
+role_kept table ts us (Operand n) l k h = ap (λ t. on_inner (operand (named table t)) l) (term_later ts us n k h)
+role_kept table ts us Separator l k h = refl
+role_kept table ts us Tail l k h = refl
+role_kept table ts us (Operator o) l k h = refl
+role_kept table ts us (Excess place) l k h = refl
+role_kept table ts us (Compound f) l k h = refl
+role_kept table ts us (Bracketed b) l k h = refl
+role_kept table ts us Closed l k h = refl
 
-pub marks_kept : (table : List (List ℕ)) (ts us : List (Term ℕ)) (ms : List Mark) (l : Layers) → take (length ts) us ≡ ts
-    → All (MarkBelow (length ts)) ms →
-    with_marks (view table us) ms l ≡ with_marks (view table ts) ms l
-marks_kept table ts us [] l k h = refl
-marks_kept table ts us (m ∷ ms) l k h =
-    mark_kept table ts us m (with_marks (view table us) ms l) k (h zero m (omega arith))
-    ∙ ap (with_mark (view table ts) m) (marks_kept table ts us ms l k (λ i d lt. h (suc i) d (omega arith)))
+pub roles_kept : (table : List (List ℕ)) (ts us : List (Term ℕ)) (ms : List Role) (l : Layers) → take (length ts) us ≡ ts
+    → All (RoleBelow (length ts)) ms →
+    with_roles (view table us) ms l ≡ with_roles (view table ts) ms l
+roles_kept table ts us [] l k h = refl
+roles_kept table ts us (m ∷ ms) l k h =
+    role_kept table ts us m (with_roles (view table us) ms l) k (h zero m (omega arith))
+    ∙ ap (with_role (view table ts) m) (roles_kept table ts us ms l k (λ i d lt. h (suc i) d (omega arith)))
 
 -- the names of lists
 abbrev record_of : List ℕ → List ℕ → List ℕ → Known (List ℕ)
@@ -51,12 +52,12 @@ record_of a b c = record { dot = a; nil = b; braces = c }
 known_same : (a b c x y z : List ℕ) → a ≡ x → b ≡ y → c ≡ z → record_of a b c ≡ record_of x y z
 known_same a b c x y z e f g = ap (λ u. record_of u b c) e ∙ ap (λ u. record_of x u c) f ∙ ap (λ u. record_of x y u) g
 
-pub marks_term : (table : List (List ℕ)) (ts us : List (Term ℕ)) (k : ListNames) (ms : List Mark) (o : Option (Term (List ℕ)))
+pub roles_term : (table : List (List ℕ)) (ts us : List (Term ℕ)) (k : ListNames) (ms : List Role) (o : Option (Term (List ℕ)))
     → AreListNames table k →
-    take (length ts) us ≡ ts → All (MarkBelow (length ts)) ms → term_of (known_in (view table us) k) (rows_of (view table us) ms) ≡ o →
+    take (length ts) us ≡ ts → All (RoleBelow (length ts)) ms → term_of (known_in (view table us) k) (rows_of (view table us) ms) ≡ o →
     term_of known (rows_of (view table ts) ms) ≡ o
-marks_term table ts us k ms o n kept below h =
-    ap (λ r. term_of known r) (ap (λ (l : Layers). l.inner) (sym (marks_kept table ts us ms no_layers kept below)))
+roles_term table ts us k ms o n kept below h =
+    ap (λ r. term_of known r) (ap (λ (l : Layers). l.inner) (sym (roles_kept table ts us ms no_layers kept below)))
     ∙ ap (λ q. term_of q (rows_of (view table us) ms)) (sym (known_same _ _ _ _ _ _ n.dot n.nil n.braces))
     ∙ h
 
@@ -76,12 +77,12 @@ outer_excess (r ∷ rs) = first_of (excess_in r) (outer_excess rs)
 abbrev all_excess : Rows (List ℕ) → List (Rows (List ℕ)) → Option ℕ
 all_excess r rs = first_of (excess_in r) (outer_excess rs)
 
-abbrev mark_excess : Mark → Option ℕ
-mark_excess (Excess place) = Some place
-mark_excess m = None
+abbrev role_excess : Role → Option ℕ
+role_excess (Excess place) = Some place
+role_excess m = None
 
-excess_step : (v : View) (m : Mark) (r : Rows (List ℕ)) (rs : List (Rows (List ℕ))) →
-    (let l = with_mark v m (record { inner = r; outer = rs }) in all_excess l.inner l.outer) ≡ first_of (mark_excess m) (all_excess r rs)
+excess_step : (v : View) (m : Role) (r : Rows (List ℕ)) (rs : List (Rows (List ℕ))) →
+    (let l = with_role v m (record { inner = r; outer = rs }) in all_excess l.inner l.outer) ≡ first_of (role_excess m) (all_excess r rs)
 excess_step v Separator r rs = refl
 excess_step v Tail r rs = refl
 excess_step v (Operator o) r rs = refl
@@ -93,7 +94,7 @@ excess_step v (Bracketed b) r [] = first_none (first_of (excess_in r) None)
 excess_step v (Bracketed b) r (o ∷ os) = first_first (excess_in r) (excess_in o) (outer_excess os)
 excess_step v Closed r rs = refl
 
-first_step : (m : Mark) (ms : List Mark) → first_excess (m ∷ ms) ≡ first_of (mark_excess m) (first_excess ms)
+first_step : (m : Role) (ms : List Role) → first_excess (m ∷ ms) ≡ first_of (role_excess m) (first_excess ms)
 first_step Separator ms = refl
 first_step Tail ms = refl
 first_step (Operator o) ms = refl
@@ -103,16 +104,16 @@ first_step (Compound f) ms = refl
 first_step (Bracketed b) ms = refl
 first_step Closed ms = refl
 
-excess_marks : (v : View) (ms : List Mark) → (let l = with_marks v ms no_layers in all_excess l.inner l.outer) ≡ first_excess ms
-excess_marks v [] = refl
-excess_marks v (m ∷ ms) =
-    let l = with_marks v ms no_layers in
-    excess_step v m l.inner l.outer ∙ ap (first_of (mark_excess m)) (excess_marks v ms) ∙ sym (first_step m ms)
+excess_roles : (v : View) (ms : List Role) → (let l = with_roles v ms no_layers in all_excess l.inner l.outer) ≡ first_excess ms
+excess_roles v [] = refl
+excess_roles v (m ∷ ms) =
+    let l = with_roles v ms no_layers in
+    excess_step v m l.inner l.outer ∙ ap (first_of (role_excess m)) (excess_roles v ms) ∙ sym (first_step m ms)
 
-pub excess_of : (v : View) (ms : List Mark) → (with_marks v ms no_layers).outer ≡ [] → excess_in (rows_of v ms) ≡ first_excess ms
+pub excess_of : (v : View) (ms : List Role) → (with_roles v ms no_layers).outer ≡ [] → excess_in (rows_of v ms) ≡ first_excess ms
 excess_of v ms h =
-    let l = with_marks v ms no_layers in
-    sym (first_none (excess_in l.inner)) ∙ ap (λ rs. all_excess l.inner rs) (sym h) ∙ excess_marks v ms
+    let l = with_roles v ms no_layers in
+    sym (first_none (excess_in l.inner)) ∙ ap (λ rs. all_excess l.inner rs) (sym h) ∙ excess_roles v ms
 
 -- the outcome of rows
 pub without_tree : (place used : ℕ) (names : List (List ℕ × ℕ)) (rows : Rows (List ℕ)) → term_of known rows ≡ None

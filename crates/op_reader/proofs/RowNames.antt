@@ -7,7 +7,7 @@ use Rattle.op_logic.specs.Term.{Term, rename}
 use Rattle.op_term.specs.Ops.{is_prefix, is_postfix, is_y_left, is_y_right}
 use Rattle.op_reader.specs.Row.{Piece, operand, operator, Operator, Split, split_at, behind, top, leftmost, rightmost, root, root_among}
 use Rattle.op_reader.specs.Row.{joined, left_bound, right_bound, is_empty, with_one, with_two, tree_of, tree}
-use Rattle.op_reader.proofs.Splits.{last_of, rightmost_is}
+use Rattle.op_reader.proofs.RowSplits.{last_of, rightmost_is}
 use Rattle.op_reader.proofs.Spines.{is_single, single_or, tree_step, tree_at}
 
 -- pieces with other names

@@ -3,13 +3,13 @@ use Rattle.std.proofs.Common.{◌≡◌, ℕ, ◌-◌, ◌<◌, ◌≤◌, Bool,
 use Rattle.std.proofs.Common.{◌∙◌, arith, subst, ltb}
 use Rattle.std.specs.Option.{option_map}
 use Rattle.std.proofs.lemmas.Bool.{lt-ltb, ltb-true, ltb-false}
-use Rattle.op_logic.proofs.Tests.{by_test, by_order, if_true, if_false}
+use Rattle.op_logic.proofs.BoolCases.{by_test, by_order, if_true, if_false}
 use Rattle.op_term.specs.declared.ops.OpKind.{OpKind}
 use Rattle.op_term.specs.declared.ops.OpKind.TheVariants.{Xfx, Xfy, Yfx, Fy, Fx, Xf, Yf}
 use Rattle.op_term.specs.Ops.{is_y_left, is_y_right}
 use Rattle.op_reader.specs.Row.{Piece, operator, Operator, Split, split_at, top, leftmost, rightmost, root, root_among, right_bound}
-use Rattle.op_reader.proofs.Splits.{extended, top-append, leftmost-here, leftmost-more, rightmost-above, rightmost-more, rightmost-here}
-use Rattle.op_reader.proofs.Splits.{IsSplit, leftmost-splits, rightmost-splits, leftmost-there, rightmost-there}
+use Rattle.op_reader.proofs.RowSplits.{extended, top-append, leftmost-here, leftmost-more, rightmost-above, rightmost-more, rightmost-here}
+use Rattle.op_reader.proofs.RowSplits.{IsSplit, leftmost-splits, rightmost-splits, leftmost-there, rightmost-there}
 
 not_both : (k : OpKind) → is_y_left k ≡ true → is_y_right k ≡ false
 not_both Yfx h = refl

@@ -8,7 +8,7 @@ use Rattle.op_reader.specs.declared.piece.Piece.TheVariants.{Operand, Operator a
 use Rattle.op_reader.specs.inner.Pieces.{piece_at}
 use Rattle.std.specs.Option.{option_map, option_and_then}
 use Rattle.op_logic.specs.Term.{Term}
-use Rattle.op_logic.proofs.Tests.{if_true, if_false}
+use Rattle.op_logic.proofs.BoolCases.{if_true, if_false}
 use Rattle.op_term.specs.declared.ops.OpKind.{OpKind}
 use Rattle.op_term.specs.declared.ops.OpKind.TheVariants.{Xfx, Xfy, Yfx, Fy, Fx, Xf, Yf}
 use Rattle.op_term.specs.Ops.{is_prefix, is_postfix, is_infix}

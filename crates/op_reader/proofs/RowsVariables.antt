@@ -6,24 +6,24 @@ use Rattle.std.proofs.lemmas.List.{append-nil}
 use Rattle.op_logic.specs.Term.{Term, int, node, atom, no_args, arg}
 use Rattle.op_reader.specs.declared.bracket.Bracket.{Bracket}
 use Rattle.op_reader.specs.declared.bracket.Bracket.TheVariants.{Round, Square, Curly}
-use Rattle.op_reader.specs.declared.within.Within.{Within}
-use Rattle.op_reader.specs.declared.within.Within.TheVariants.{Clause, Arguments, Elements, Last}
+use Rattle.op_reader.specs.declared.row_kind.RowKind.{RowKind}
+use Rattle.op_reader.specs.declared.row_kind.RowKind.TheVariants.{Clause, Arguments, Elements, Last}
 use Rattle.op_reader.specs.Row.{Piece, operand as an_operand, operator as an_operator, tree}
 use Rattle.op_reader.specs.Words.{list_of}
 use Rattle.op_reader.specs.Roles.{Rows, done, separator, tail, operator, operand, too_great, compound, bracketed, inside}
-use Rattle.op_reader.specs.Terms.{Known, Read, with_piece, args_of, separated, tailed, compound_of, bracketed_of, as_operand, read_rows}
+use Rattle.op_reader.specs.Terms.{Known, ReadRows, with_piece, args_of, separated, tailed, compound_of, bracketed_of, as_operand, read_rows}
 use Rattle.op_reader.specs.Terms.{term_of}
 use Rattle.op_reader.specs.Variables.{variables, args_variables}
 use Rattle.op_reader.proofs.AddedOperators.{only_when, map_some}
 use Rattle.op_reader.proofs.TreeVariables.{pieces_variables, tree_variables}
 
 -- where rows may stand behind the first, and where a list's tail may
-abbrev pub has_more : Within → Bool
+abbrev pub has_more : RowKind → Bool
 has_more Arguments = true
 has_more Elements = true
 has_more c = false
 
-abbrev pub has_tail : Within → Bool
+abbrev pub has_tail : RowKind → Bool
 has_tail Elements = true
 has_tail c = false
 
@@ -32,7 +32,7 @@ some_is x y h = cc
 
 module _ {N : Type 0} where
   -- rows as they stand in a clause, among arguments, among elements, or as a list's tail
-  abbrev pub StandIn : Within → Rows N → Type 0
+  abbrev pub StandIn : RowKind → Rows N → Type 0
   StandIn c done = Unit {0}
   StandIn c (separator rs) = (has_more c ≡ true) × StandIn c rs
   StandIn c (tail rs) = (has_tail c ≡ true) × StandIn Last rs
@@ -76,19 +76,19 @@ module _ {N : Type 0} where
   end_variables nil (Some t) = refl
 
   -- what was read
-  abbrev read_variables : Read N → List ℕ
+  abbrev read_variables : ReadRows N → List ℕ
   read_variables r = pieces_variables r.row ++ (terms_variables r.rest ++ tail_variables r.tail)
 
-  record IsRead (c : Within) (rs : Rows N) (r : Read N) : Type 0 where
+  record IsRead (c : RowKind) (rs : Rows N) (r : ReadRows N) : Type 0 where
     all : read_variables r ≡ rows_variables rs
     rest : has_more c ≡ false → r.rest ≡ []
     tail : has_tail c ≡ false → r.tail ≡ None
 
-  read_same : (c : Within) (rs : Rows N) (q r : Read N) → q ≡ r → IsRead c rs q → IsRead c rs r
+  read_same : (c : RowKind) (rs : Rows N) (q r : ReadRows N) → q ≡ r → IsRead c rs q → IsRead c rs r
   read_same c rs q r e h = subst (IsRead c rs) e h
 
   -- a piece joins the row
-  piece_read : (c : Within) (rs : Rows N) (p : Piece N) (vs : List ℕ) (q r : Read N) → pieces_variables (p ∷ []) ≡ vs →
+  piece_read : (c : RowKind) (rs : Rows N) (p : Piece N) (vs : List ℕ) (q r : ReadRows N) → pieces_variables (p ∷ []) ≡ vs →
       with_piece p q ≡ r → IsRead c rs q →
       (qs : Rows N) → rows_variables qs ≡ vs ++ rows_variables rs → IsRead c qs r
   piece_read c rs p vs q r v e h qs w =
@@ -106,7 +106,7 @@ module _ {N : Type 0} where
           ∙ ap (λ (ws : List ℕ). ws ++ (pieces_variables ps ++ us)) (sym (append-nil (variables t)))
       pieces_first (an_operator o) ps us = refl
 
-  only_row : (c : Within) (rs : Rows N) (r : Read N) → has_more c ≡ false → has_tail c ≡ false → IsRead c rs r →
+  only_row : (c : RowKind) (rs : Rows N) (r : ReadRows N) → has_more c ≡ false → has_tail c ≡ false → IsRead c rs r →
       pieces_variables r.row ≡ rows_variables rs
   only_row c rs r f g h =
       sym (append-nil (pieces_variables r.row))
@@ -114,7 +114,7 @@ module _ {N : Type 0} where
       (sym (ap (λ (ts : List (Term N)). terms_variables ts ++ tail_variables r.tail) (h.rest f) ∙ ap tail_variables (h.tail g)))
       ∙ h.all)
 
-  separated_read : (c : Within) (rs : Rows N) (q r : Read N) → has_more c ≡ true → separated q ≡ Some r → IsRead c rs q →
+  separated_read : (c : RowKind) (rs : Rows N) (q r : ReadRows N) → has_more c ≡ true → separated q ≡ Some r → IsRead c rs q →
       IsRead c (separator rs) r
   separated_read c rs q r m e h =
       map_some (λ (t : Term N). record { row = []; rest = t ∷ q.rest; tail = q.tail }) (tree 999 q.row) r e
@@ -125,7 +125,8 @@ module _ {N : Type 0} where
         tail = h.tail;
       })
 
-  tailed_read : (c : Within) (rs : Rows N) (q r : Read N) → has_tail c ≡ true → tailed q ≡ Some r → IsRead Last rs q → IsRead c (tail rs) r
+  tailed_read : (c : RowKind) (rs : Rows N) (q r : ReadRows N) → has_tail c ≡ true → tailed q ≡ Some r → IsRead Last rs q →
+      IsRead c (tail rs) r
   tailed_read c rs q r m e h =
       map_some (λ (t : Term N). record { row = []; rest = []; tail = Some t }) (tree 999 q.row) r e
       (λ t f g. read_same c (tail rs) (record { row = []; rest = []; tail = Some t }) r g record {
@@ -134,7 +135,7 @@ module _ {N : Type 0} where
         tail = λ n. absurd (let z : true ≡ false = sym m ∙ n in cc);
       })
 
-  compound_read : (f : N) (rs : Rows N) (q : Read N) (t : Term N) → compound_of f q ≡ Some t → IsRead Arguments rs q →
+  compound_read : (f : N) (rs : Rows N) (q : ReadRows N) (t : Term N) → compound_of f q ≡ Some t → IsRead Arguments rs q →
       variables t ≡ rows_variables rs
   compound_read f rs q t e h =
       map_some (λ (u : Term N). node f (arg u (args_of q.rest))) (tree 999 q.row) t e
@@ -146,7 +147,7 @@ module _ {N : Type 0} where
       ∙ ap (λ (o : Option (Term N)). terms_variables q.rest ++ tail_variables o) (sym (h.tail refl))))
       ∙ h.all)))
 
-  bracketed_read : (k : Known N) (b : Bracket) (rs : Rows N) (q : Read N) (t : Term N) → bracketed_of k b q ≡ Some t →
+  bracketed_read : (k : Known N) (b : Bracket) (rs : Rows N) (q : ReadRows N) (t : Term N) → bracketed_of k b q ≡ Some t →
       IsRead (inside b) rs q → variables t ≡ rows_variables rs
   bracketed_read k Round rs q t e h = tree_variables 1200 q.row t e ∙ only_row Clause rs q refl refl h
   bracketed_read k Square rs q t e h =
@@ -164,15 +165,15 @@ module _ {N : Type 0} where
       ∙ (append-nil (variables u) ∙ (tree_variables 1200 q.row u g ∙ only_row Clause rs q refl refl h)))
 
   -- a part in brackets is an operand
-  part_read : (c : Within) (inner rs : Rows N) (o : Option (Term N)) (p : Option (Read N)) (r : Read N) → as_operand o p ≡ Some r →
-      ((t : Term N) → o ≡ Some t → variables t ≡ rows_variables inner) → ((q : Read N) → p ≡ Some q → IsRead c rs q) →
+  part_read : (c : RowKind) (inner rs : Rows N) (o : Option (Term N)) (p : Option (ReadRows N)) (r : ReadRows N) → as_operand o p ≡ Some r →
+      ((t : Term N) → o ≡ Some t → variables t ≡ rows_variables inner) → ((q : ReadRows N) → p ≡ Some q → IsRead c rs q) →
       (qs : Rows N) → rows_variables qs ≡ rows_variables inner ++ rows_variables rs → IsRead c qs r
   part_read c inner rs o p r e f g qs w =
       only_when (λ (t : Term N). option_map (with_piece (an_operand t)) p) o r e
       (λ t i j. map_some (with_piece (an_operand t)) p r j
       (λ q m n. piece_read c rs (an_operand t) (rows_variables inner) q r (append-nil (variables t) ∙ f t i) n (g q m) qs w))
 
-  rows_read : (c : Within) (k : Known N) (rs : Rows N) (r : Read N) → StandIn c rs → read_rows k rs ≡ Some r → IsRead c rs r
+  rows_read : (c : RowKind) (k : Known N) (rs : Rows N) (r : ReadRows N) → StandIn c rs → read_rows k rs ≡ Some r → IsRead c rs r
   rows_read c k done r s h =
       read_same c done (record { row = []; rest = []; tail = None }) r
       (some_is _ r h) record { all = refl; rest = λ n. refl; tail = λ n. refl }
@@ -202,5 +203,5 @@ module _ {N : Type 0} where
   pub term_variables : (k : Known N) (rs : Rows N) (t : Term N) → StandIn Clause rs → term_of k rs ≡ Some t →
       variables t ≡ rows_variables rs
   term_variables k rs t s h =
-      only_when (λ (r : Read N). tree 1200 r.row) (read_rows k rs) t h
+      only_when (λ (r : ReadRows N). tree 1200 r.row) (read_rows k rs) t h
       (λ r e f. tree_variables 1200 r.row t f ∙ only_row Clause rs r refl refl (rows_read Clause k rs r s e))

@@ -8,7 +8,7 @@ use Rattle.op_logic.specs.Term.{Term, int, node, no_args, arg}
 use Rattle.op_logic.specs.Names.{name_at, named}
 use Rattle.op_logic.proofs.NameTables.{name-more}
 use Rattle.op_term.specs.Places.{term_at}
-use Rattle.op_reader.specs.inner.Marks.{View, node_in}
+use Rattle.op_reader.specs.inner.RoleLists.{View, node_in}
 use Rattle.op_reader.specs.inner.Shown.{IsLater, ShowsTerm, ShowsTerms}
 use Rattle.op_reader.specs.Words.{list_of}
 

@@ -4,7 +4,7 @@ use Rattle.std.proofs.Common.{ap, sym, ◌∙◌, arith, subst, length-append, l
 use Rattle.std.specs.Option.{option_map, option_and_then}
 use Rattle.std.proofs.lemmas.Bool.{le-leb}
 use Rattle.op_logic.specs.Term.{Term}
-use Rattle.op_logic.proofs.Tests.{by_test, if_true, if_false}
+use Rattle.op_logic.proofs.BoolCases.{by_test, if_true, if_false}
 use Rattle.op_term.specs.Ops.{is_prefix, is_postfix}
 use Rattle.op_reader.specs.Row.{Piece, operand, operator, Operator, Split, top, root, joined, left_bound, right_bound, is_empty, with_one}
 use Rattle.op_reader.specs.Row.{with_two, tree_of}

@@ -4,7 +4,7 @@ use Rattle.std.specs.Prelude.{ℤ, pos, nat_lt, ◌-◌, drop, codes, slice_inde
 use Rattle.std.specs.Option.{option_and_then}
 use Rattle.std.specs.Str.{chars}
 use Rattle.op_logic.specs.Term.{int, atom}
-use Rattle.op_logic.proofs.Tests.{if_false}
+use Rattle.op_logic.proofs.BoolCases.{if_false}
 use Rattle.op_term.specs.Ops.{Table, prefix_in}
 use Rattle.op_term.specs.declared.ops.Meaning.{Meaning}
 use Rattle.op_token.specs.declared.token.Token.{Token}

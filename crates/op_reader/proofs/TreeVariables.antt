@@ -2,7 +2,7 @@
 use Rattle.std.proofs.Common.{◌≡◌, ℕ, zero, suc, true, List, [], ◌∷◌, ◌++◌, Some, None, length, refl, ap, sym, ◌∙◌, leb, append_assoc}
 use Rattle.std.proofs.lemmas.List.{append-nil}
 use Rattle.op_logic.specs.Term.{Term}
-use Rattle.op_logic.proofs.Tests.{by_test, if_true, if_false}
+use Rattle.op_logic.proofs.BoolCases.{by_test, if_true, if_false}
 use Rattle.op_term.specs.Ops.{is_prefix, is_postfix}
 use Rattle.op_reader.specs.Row.{Piece, operand, operator, top, root, left_bound, right_bound, is_empty, tree_of, tree}
 use Rattle.op_reader.specs.Variables.{variables}

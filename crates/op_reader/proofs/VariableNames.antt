@@ -4,7 +4,7 @@ use Rattle.std.proofs.Common.{append-nil}
 use Rattle.std.specs.Prelude.{Option, Some, None, unwrap_or, bytes_eq, if◌then◌else◌}
 use Rattle.std.proofs.lemmas.List.{length-append}
 use Rattle.std.proofs.lemmas.Slice.Eq.{bytes_eq-Decides}
-use Rattle.op_logic.proofs.Tests.{if_true, if_false}
+use Rattle.op_logic.proofs.BoolCases.{if_true, if_false}
 use Rattle.op_reader.specs.Names.{number_of as number_in}
 use Rattle.op_reader.specs.Words.{is_anonymous, met_from, met_at, number_of, with_variable, named_from}
 use Rattle.op_reader.specs.inner.Shown.{HasMet}

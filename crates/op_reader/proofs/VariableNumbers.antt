@@ -4,7 +4,7 @@ use Rattle.std.proofs.Common.{Option, Some, None, refl, ap, sym, ◌∙◌, arit
 use Rattle.std.specs.Prelude.{unwrap_or, bytes_eq}
 use Rattle.std.proofs.lemmas.Bool.{eq-eqb}
 use Rattle.op_logic.specs.Term.{Term, var, int, node, Args, no_args, arg, occurs, occurs_args, rename, rename_args, IsWithin, ArgsWithin}
-use Rattle.op_logic.proofs.Tests.{by_test, by_order, if_true, if_false}
+use Rattle.op_logic.proofs.BoolCases.{by_test, by_order, if_true, if_false}
 use Rattle.op_token.specs.declared.token.Token.{Token}
 use Rattle.op_reader.specs.Reading.{AreCounted}
 use Rattle.op_reader.specs.Words.{spelling, is_variable, is_anonymous, met_from, met_at, number_of, with_variable, met_behind, variables_of}

@@ -5,7 +5,7 @@ use Rattle.std.specs.Prelude.{option_map}
 use Rattle.std.specs.Str.{bytes_eq}
 use Rattle.std.specs.List.{position, list_any}
 use Rattle.op_logic.specs.Names.{with_name}
-use Rattle.op_logic.proofs.Tests.{by_test, if_true, if_false}
+use Rattle.op_logic.proofs.BoolCases.{by_test, if_true, if_false}
 use Rattle.op_reader.specs.Names.{numbered, number_of}
 
 pub numbered-length : (ws : List (List ℕ)) (vs : List ℕ) → length ws ≡ length vs → length (numbered ws vs) ≡ length vs

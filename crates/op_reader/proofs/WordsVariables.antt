@@ -4,8 +4,8 @@ use Rattle.std.specs.Prelude.{Result, Ok, Err}
 use Rattle.std.proofs.lemmas.List.{append-nil}
 use Rattle.op_term.specs.Ops.{is_infix}
 use Rattle.op_reader.specs.declared.bracket.Bracket.{Bracket}
-use Rattle.op_reader.specs.declared.within.Within.{Within}
-use Rattle.op_reader.specs.declared.within.Within.TheVariants.{Clause, Arguments, Elements, Last}
+use Rattle.op_reader.specs.declared.row_kind.RowKind.{RowKind}
+use Rattle.op_reader.specs.declared.row_kind.RowKind.TheVariants.{Clause, Arguments, Elements, Last}
 use Rattle.op_reader.specs.Row.{Operator}
 use Rattle.op_reader.specs.Words.{AsOperand, functor, sign, prefix, plain, excess, AsOperator, joins, misplaced, Word, opened, closed}
 use Rattle.op_reader.specs.Words.{comma, bar, word}
@@ -143,14 +143,14 @@ module _ {N : Type 0} where
   operator_ready o true ps = tt
   operator_ready o false ps = tt
 
-  abbrev HaveRows : Within → Parts N → Rows N → Type 0
+  abbrev HaveRows : RowKind → Parts N → Rows N → Type 0
   HaveRows c ps rs = StandIn c rs × (rows_variables rs ≡ parts_variables ps)
 
-  have_rows : (c : Within) (ps : Parts N) (qs rs : Rows N) → qs ≡ rs → StandIn c qs → rows_variables qs ≡ parts_variables ps →
+  have_rows : (c : RowKind) (ps : Parts N) (qs rs : Rows N) → qs ≡ rs → StandIn c qs → rows_variables qs ≡ parts_variables ps →
       HaveRows c ps rs
   have_rows c ps qs rs e s v = subst (HaveRows c ps) e (s, v)
 
-  role : (c : Within) (e : Expected N) (ps : Parts N) (stop : ℕ) (rs : Rows N) → PartsArePlain ps → IsReady e ps →
+  role : (c : RowKind) (e : Expected N) (ps : Parts N) (stop : ℕ) (rs : Rows N) → PartsArePlain ps → IsReady e ps →
       roles c e ps stop ≡ Ok rs → HaveRows c ps rs
   role c an_operator none stop rs p r h = have_rows c none done rs (let i : Ok done ≡ Ok rs = h in cc) tt refl
   role c e none stop rs p r h = cc

@@ -9,7 +9,7 @@ use Rattle.op_reader.specs.declared.first_clause.Beginning.TheVariants.{Clause, 
 use Rattle.op_reader.specs.FirstClause.{sentence_of}
 use Rattle.op_reader.specs.Reading.{Outcome, term, end, refused, unended}
 use Rattle.op_logic.specs.Names.{name_at, named, HasNames}
-use Rattle.op_reader.specs.declared.level.ListNames.{ListNames}
+use Rattle.op_reader.specs.declared.read_rows.ListNames.{ListNames}
 use Rattle.op_reader.specs.declared.term_reader.Reading.{Reading}
 use Rattle.op_reader.specs.declared.term_reader.Reading.TheVariants.{Term as ATerm, End}
 

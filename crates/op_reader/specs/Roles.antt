@@ -4,8 +4,8 @@ use Rattle.op_logic.specs.Term.{Term}
 use Rattle.op_term.specs.Ops.{is_infix}
 use Rattle.op_reader.specs.declared.bracket.Bracket.{Bracket}
 use Rattle.op_reader.specs.declared.bracket.Bracket.TheVariants.{Square}
-use Rattle.op_reader.specs.declared.within.Within.{Within}
-use Rattle.op_reader.specs.declared.within.Within.TheVariants.{Clause, Arguments, Elements, Last}
+use Rattle.op_reader.specs.declared.row_kind.RowKind.{RowKind}
+use Rattle.op_reader.specs.declared.row_kind.RowKind.TheVariants.{Clause, Arguments, Elements, Last}
 use Rattle.op_reader.specs.Row.{Operator}
 use Rattle.op_reader.specs.Words.{functor, sign, prefix, plain, excess, joins, Word, opened, closed, comma, bar, word}
 
@@ -55,9 +55,9 @@ pub data Rows (N : Type 0) : Type 0 where
   compound : N → Rows N → Rows N → Rows N
   bracketed : Bracket → Rows N → Rows N → Rows N
 
--- where a row stands says what a comma and a bar are: in a clause, in ( ) and in { } the comma is an operator; among arguments and
+-- the kind of a row says what a comma and a bar are in it: in a clause, in ( ) and in { } the comma is an operator; among arguments and
 -- elements it separates; a list's tail is the last row
-abbrev pub inside : Bracket → Within
+abbrev pub inside : Bracket → RowKind
 inside Square = Elements
 inside b = Clause
 
@@ -90,7 +90,7 @@ on_both f (Ok r) (Err place) = Err place
 on_both f (Err place) s = Err place
 
 -- the roles of the words of these parts, which stop at `stop`; or the place of the first word that can't stand where it stands
-abbrev pub roles : {N : Type 0} → Within → Expected N → Parts N → ℕ → Result (Rows N) ℕ
+abbrev pub roles : {N : Type 0} → RowKind → Expected N → Parts N → ℕ → Result (Rows N) ℕ
 roles c an_operator none stop = Ok done
 roles c e none stop = Err stop
 roles c an_operand (single (word place (functor f) o) ps) stop = roles c (arguments_of f) ps stop

@@ -5,7 +5,7 @@ use Rattle.op_logic.specs.Term.{Term, node, no_args, arg}
 use Rattle.op_term.specs.Ops.{is_prefix, is_infix, is_postfix, is_y_left, is_y_right}
 use Rattle.op_term.specs.declared.ops.OpKind.{OpKind}
 
--- an operator in a row, with a priority from 1 to 1200; its kind says its role
+-- an operator in a row, with a priority from 1 to 1200; its kind says where it stands and what its operands may be
 pub record Operator (N : Type 0) : Type 0 where
   pub name : N
   pub priority : ℕ

@@ -18,12 +18,12 @@ abbrev pub known : Known (List ℕ)
 known = record { dot = codes "."; nil = codes "[]"; braces = codes "{}" }
 
 -- a row, and the terms of the rows behind it up to the end of the part, with a list's tail
-pub record Read (N : Type 0) : Type 0 where
+pub record ReadRows (N : Type 0) : Type 0 where
   pub row : List (Piece N)
   pub rest : List (Term N)
   pub tail : Option (Term N)
 
-abbrev pub with_piece : {N : Type 0} → Piece N → Read N → Read N
+abbrev pub with_piece : {N : Type 0} → Piece N → ReadRows N → ReadRows N
 with_piece p r = record { row = p ∷ r.row; rest = r.rest; tail = r.tail }
 
 abbrev pub args_of : {N : Type 0} → List (Term N) → Args N
@@ -31,27 +31,27 @@ args_of [] = no_args
 args_of (t ∷ ts) = arg t (args_of ts)
 
 -- the row is finished within 999, and another one stands before it
-abbrev pub separated : {N : Type 0} → Read N → Option (Read N)
+abbrev pub separated : {N : Type 0} → ReadRows N → Option (ReadRows N)
 separated r = option_map (λ t. record { row = []; rest = t ∷ r.rest; tail = r.tail }) (tree 999 r.row)
 
 -- the row is finished as a tail
-abbrev pub tailed : {N : Type 0} → Read N → Option (Read N)
+abbrev pub tailed : {N : Type 0} → ReadRows N → Option (ReadRows N)
 tailed r = option_map (λ t. record { row = []; rest = []; tail = Some t }) (tree 999 r.row)
 
-abbrev pub compound_of : {N : Type 0} → N → Read N → Option (Term N)
+abbrev pub compound_of : {N : Type 0} → N → ReadRows N → Option (Term N)
 compound_of f r = option_map (λ t. node f (arg t (args_of r.rest))) (tree 999 r.row)
 
-abbrev pub bracketed_of : {N : Type 0} → Known N → Bracket → Read N → Option (Term N)
+abbrev pub bracketed_of : {N : Type 0} → Known N → Bracket → ReadRows N → Option (Term N)
 bracketed_of k Round r = tree 1200 r.row
 bracketed_of k Square r = option_map (λ t. list_of k.dot (unwrap_or r.tail (atom k.nil)) (t ∷ r.rest)) (tree 999 r.row)
 bracketed_of k Curly r = option_map (λ t. node k.braces (arg t no_args)) (tree 1200 r.row)
 
 -- a finished term, as an operand of the row behind it
-abbrev pub as_operand : {N : Type 0} → Option (Term N) → Option (Read N) → Option (Read N)
+abbrev pub as_operand : {N : Type 0} → Option (Term N) → Option (ReadRows N) → Option (ReadRows N)
 as_operand t r = option_and_then (λ t. option_map (with_piece (an_operand t)) r) t
 
 -- None where a row has no tree. An integer that is too great stands as 0, since no term with it is read
-abbrev pub read_rows : {N : Type 0} → Known N → Rows N → Option (Read N)
+abbrev pub read_rows : {N : Type 0} → Known N → Rows N → Option (ReadRows N)
 read_rows k done = Some (record { row = []; rest = []; tail = None })
 read_rows k (separator rs) = option_and_then separated (read_rows k rs)
 read_rows k (tail rs) = option_and_then tailed (read_rows k rs)

@@ -5,12 +5,12 @@ ghost use Rattle.op_logic.specs.Names.{name_at};
 ghost use Rattle.op_reader.specs.Words.{list_of};
 ghost use Rattle.op_reader.specs.Row.{tree};
 ghost use Rattle.op_reader.specs.Terms.{args_of, compound_of as the_compound_of, bracketed_of as the_bracketed_of};
-ghost use Rattle.op_reader.specs.inner.Marks.{View, node_in};
-ghost use Rattle.op_reader.specs.inner.Level.{Extends, nodes_in, level_in, known_in, LevelBelow};
+ghost use Rattle.op_reader.specs.inner.RoleLists.{View, node_in};
+ghost use Rattle.op_reader.specs.inner.ReadRows.{Extends, nodes_in, rows_in, known_in, RowsBelow};
 
 use crate::bracket::Bracket;
-use crate::level::{Level, ListNames, tree_node};
 use crate::list_node::list_node;
+use crate::read_rows::{ListNames, ReadRows, tree_node};
 use op_base::Memory;
 use op_term::{Builder, Sym};
 use std::alloc::Global;
@@ -73,25 +73,25 @@ fn end_node(nodes: &mut Builder, names: ListNames, tail: Option<u64>) -> Result<
     }
 }
 
-/// The node of a compound whose arguments are the rows of a level; none where one of them has failed.
+/// The node of a compound whose arguments are these rows; none where one of them has failed.
 pub(crate) fn compound_of(
     alloc: Global,
     nodes: &mut Builder,
     name: Sym,
-    level: Level,
+    rows: ReadRows,
 ) -> Result<Option<u64>, Memory>
-    requires { LevelBelow (length nodes.old) level }
+    requires { RowsBelow (length nodes.old) rows }
     ensures term { IfOk result (λ found. (v : View) → Extends v nodes.new
-        → option_and_then (the_compound_of (name_at v.names name.0)) (level_in v level) ≡ option_map (node_in v) found) }
+        → option_and_then (the_compound_of (name_at v.names name.0)) (rows_in v rows) ≡ option_map (node_in v) found) }
     ensures there { IfOk result (λ found. IfSome found (λ n. n < length nodes.new)) }
     ensures kept { take (length nodes.old) nodes.new ≡ nodes.old }
 {
-    let Level {
+    let ReadRows {
         row,
         rest,
         tail: _,
         failed,
-    } = level;
+    } = rows;
     if failed {
         return Ok(None);
     }
@@ -104,25 +104,25 @@ pub(crate) fn compound_of(
     }
 }
 
-// The node of a list whose elements are the rows of a level.
-fn list_of_level(
+// The node of a list whose elements are these rows.
+fn list_of_rows(
     alloc: Global,
     nodes: &mut Builder,
     names: ListNames,
-    level: Level,
+    rows: ReadRows,
 ) -> Result<Option<u64>, Memory>
-    requires { LevelBelow (length nodes.old) level }
+    requires { RowsBelow (length nodes.old) rows }
     ensures term { IfOk result (λ found. (v : View) → Extends v nodes.new
-        → option_and_then (the_bracketed_of (known_in v names) Bracket.Square) (level_in v level) ≡ option_map (node_in v) found) }
+        → option_and_then (the_bracketed_of (known_in v names) Bracket.Square) (rows_in v rows) ≡ option_map (node_in v) found) }
     ensures there { IfOk result (λ found. IfSome found (λ n. n < length nodes.new)) }
     ensures kept { take (length nodes.old) nodes.new ≡ nodes.old }
 {
-    let Level {
+    let ReadRows {
         row,
         rest,
         tail,
         failed,
-    } = level;
+    } = rows;
     if failed {
         return Ok(None);
     }
@@ -135,24 +135,24 @@ fn list_of_level(
     }
 }
 
-// The node of the row of a level, within 1200.
-pub(crate) fn term_of_level(
+// The node of a row by itself, within 1200.
+pub(crate) fn term_of_rows(
     alloc: Global,
     nodes: &mut Builder,
-    level: Level,
+    rows: ReadRows,
 ) -> Result<Option<u64>, Memory>
-    requires { LevelBelow (length nodes.old) level }
+    requires { RowsBelow (length nodes.old) rows }
     ensures term { IfOk result (λ found. (v : View) → Extends v nodes.new
-        → option_and_then (λ r. tree 1200 r.row) (level_in v level) ≡ option_map (node_in v) found) }
+        → option_and_then (λ r. tree 1200 r.row) (rows_in v rows) ≡ option_map (node_in v) found) }
     ensures there { IfOk result (λ found. IfSome found (λ n. n < length nodes.new)) }
     ensures kept { take (length nodes.old) nodes.new ≡ nodes.old }
 {
-    let Level {
+    let ReadRows {
         row,
         rest: _,
         tail: _,
         failed,
-    } = level;
+    } = rows;
     if failed {
         return Ok(None);
     }
@@ -161,19 +161,19 @@ pub(crate) fn term_of_level(
 }
 
 // The node of a term in braces.
-fn braces_of_level(
+fn braces_of_rows(
     alloc: Global,
     nodes: &mut Builder,
     names: ListNames,
-    level: Level,
+    rows: ReadRows,
 ) -> Result<Option<u64>, Memory>
-    requires { LevelBelow (length nodes.old) level }
+    requires { RowsBelow (length nodes.old) rows }
     ensures term { IfOk result (λ found. (v : View) → Extends v nodes.new
-        → option_and_then (the_bracketed_of (known_in v names) Bracket.Curly) (level_in v level) ≡ option_map (node_in v) found) }
+        → option_and_then (the_bracketed_of (known_in v names) Bracket.Curly) (rows_in v rows) ≡ option_map (node_in v) found) }
     ensures there { IfOk result (λ found. IfSome found (λ n. n < length nodes.new)) }
     ensures kept { take (length nodes.old) nodes.new ≡ nodes.old }
 {
-    match term_of_level(alloc, nodes, level)? {
+    match term_of_rows(alloc, nodes, rows)? {
         Some(inner) => {
             let made = nodes.compound(names.braces, &[inner])?;
             Ok(Some(made))
@@ -182,23 +182,23 @@ fn braces_of_level(
     }
 }
 
-/// The node of a part in brackets with the rows of a level; none where one of them has failed.
+/// The node of a part in brackets with these rows; none where one of them has failed.
 pub(crate) fn bracketed_of(
     alloc: Global,
     nodes: &mut Builder,
     names: ListNames,
     bracket: Bracket,
-    level: Level,
+    rows: ReadRows,
 ) -> Result<Option<u64>, Memory>
-    requires { LevelBelow (length nodes.old) level }
+    requires { RowsBelow (length nodes.old) rows }
     ensures term { IfOk result (λ found. (v : View) → Extends v nodes.new
-        → option_and_then (the_bracketed_of (known_in v names) bracket) (level_in v level) ≡ option_map (node_in v) found) }
+        → option_and_then (the_bracketed_of (known_in v names) bracket) (rows_in v rows) ≡ option_map (node_in v) found) }
     ensures there { IfOk result (λ found. IfSome found (λ n. n < length nodes.new)) }
     ensures kept { take (length nodes.old) nodes.new ≡ nodes.old }
 {
     match bracket {
-        Bracket::Round => term_of_level(alloc, nodes, level),
-        Bracket::Square => list_of_level(alloc, nodes, names, level),
-        Bracket::Curly => braces_of_level(alloc, nodes, names, level),
+        Bracket::Round => term_of_rows(alloc, nodes, rows),
+        Bracket::Square => list_of_rows(alloc, nodes, names, rows),
+        Bracket::Curly => braces_of_rows(alloc, nodes, names, rows),
     }
 }

@@ -5,7 +5,7 @@ ghost use Rattle.op_term.specs.Ops.{is_prefix, is_infix, is_postfix, is_y_left, 
 ghost use Rattle.op_term.specs.Places.{term_at};
 ghost use Rattle.op_reader.specs.Row.{Piece, operand, operator};
 ghost use Rattle.op_reader.specs.inner.Spine.{whole_priority};
-ghost use Rattle.op_reader.specs.inner.Held.{BranchesBelow};
+ghost use Rattle.op_reader.specs.inner.RowState.{BranchesBelow};
 ghost use Rattle.op_reader.specs.inner.Adding.{last_is_below, whole_term, spine_at, IsSameTo, IsClosed};
 
 use op_base::Memory;
@@ -130,15 +130,15 @@ fn close_all(branches: &mut Vec<Branch>, nodes: &mut Builder, part: Part) -> Res
 }
 
 impl Model for Row {
-    ghost use Rattle.op_reader.specs.inner.Held.{Held};
+    ghost use Rattle.op_reader.specs.inner.RowState.{RowState};
 
-    ghost Value = { Held };
+    ghost Value = { RowState };
 
     ghost view = { λ r. record { branches = r.branches.items; last = r.last; is_refused = r.is_refused } };
 }
 
 impl Row {
-    ghost use Rattle.op_reader.specs.inner.Held.{no_pieces, expects_operand, operator_of, Stands, AreBelow, IsTreeOf};
+    ghost use Rattle.op_reader.specs.inner.RowState.{no_pieces, expects_operand, operator_of, Stands, AreBelow, IsTreeOf};
 
     /// No pieces.
     pub fn new(alloc: Global) -> Row

@@ -2,7 +2,7 @@ ghost use Rattle.std.specs.Prelude.{◌≡◌, ◌<◌, ℕ, List, [], All, true
 ghost use Rattle.op_term.specs.Ops.{is_prefix as the_is_prefix, is_infix as the_is_infix, is_postfix as the_is_postfix};
 ghost use Rattle.op_term.specs.Places.{term_at};
 ghost use Rattle.op_reader.specs.Row.{tree, is_row, alternates, Piece as SpecPiece};
-ghost use Rattle.op_reader.specs.inner.Held.{expects_operand, AreBelow, Stands, no_pieces};
+ghost use Rattle.op_reader.specs.inner.RowState.{expects_operand, AreBelow, Stands, no_pieces};
 ghost use Rattle.op_reader.specs.inner.Pieces.{piece_at, PieceBelow, TakesPiece, IsClass};
 
 use crate::piece::Piece;

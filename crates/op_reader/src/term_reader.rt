@@ -2,7 +2,7 @@ ghost use Rattle.std.specs.Prelude.{◌≡◌, ◌<◌, ℕ, List, [], All, leng
 ghost use Rattle.op_reader.specs.FirstClause.{sentence};
 ghost use Rattle.op_reader.specs.Roles.{levels_of};
 ghost use Rattle.op_reader.specs.Reading.{first_place as the_first_place, rows_outcome, words_outcome, sentence_outcome, reading_of};
-ghost use Rattle.op_reader.specs.inner.Marks.{view, with_marks, no_layers, rows_of, word_in, WordBelow, MarkBelow};
+ghost use Rattle.op_reader.specs.inner.RoleLists.{view, with_roles, no_layers, rows_of, word_in, WordBelow, RoleBelow};
 ghost use Rattle.op_reader.specs.inner.Shown.{HasText};
 ghost use Rattle.op_reader.specs.Passes.{Tells, AreListNames, HasKnownNames};
 ghost use Rattle.op_reader.specs.Variables.{HasCount, HasItsVariables};
@@ -10,10 +10,10 @@ ghost use Rattle.op_reader.specs.Variables.{HasCount, HasItsVariables};
 use crate::bracket::unmatched;
 use crate::fault::{ReadFault, ReadFaultKind};
 use crate::first_clause::{Beginning, first_clause};
-use crate::level::ListNames;
-use crate::mark::Mark;
 use crate::names::Names;
-use crate::role::{Roles, first_excess, roles_of};
+use crate::read_rows::ListNames;
+use crate::role::Role;
+use crate::roles::{Roles, first_excess, roles_of};
 use crate::terms::term_node;
 use crate::word::Word;
 use crate::words::{Made, words_of};
@@ -58,19 +58,19 @@ fn list_names(symbols: &mut Symbols) -> Result<ListNames, Memory>
     Ok(ListNames { dot, nil, braces })
 }
 
-// The reading of a clause's marks; the clause begins at a place, and so many bytes are used.
-fn read_marks(
+// The reading of a clause's roles; the clause begins at a place, and so many bytes are used.
+fn read_roles(
     alloc: Global,
     made: Made,
     known: ListNames,
-    marks: &[Mark],
+    roles: &[Role],
     place: u64,
     used: u64,
 ) -> Result<Reading, ReadFault>
-    requires { All (MarkBelow (length made.nodes)) marks.now }
+    requires { All (RoleBelow (length made.nodes)) roles.now }
     ensures tells { (table : List (List ℕ)) → AreListNames table known →
-        (with_marks (view table made.nodes) marks.now no_layers).outer ≡ [] →
-        Tells table result (rows_outcome place made.names used (rows_of (view table made.nodes) marks.now)) }
+        (with_roles (view table made.nodes) roles.now no_layers).outer ≡ [] →
+        Tells table result (rows_outcome place made.names used (rows_of (view table made.nodes) roles.now)) }
     ensures counted { IfOk result (HasCount made.count) }
 {
     let Made {
@@ -78,12 +78,12 @@ fn read_marks(
         names,
         count,
     } = made;
-    match term_node(alloc, &mut nodes, known, marks)? {
+    match term_node(alloc, &mut nodes, known, roles)? {
         None => Err(ReadFault::Bad {
             place: place,
             kind: ReadFaultKind::Priority,
         }),
-        Some(root) => match first_excess(marks) {
+        Some(root) => match first_excess(roles) {
             Some(at) => Err(ReadFault::Bad {
                 place: at,
                 kind: ReadFaultKind::Token(TokenFaultKind::NumberRange),
@@ -118,7 +118,7 @@ fn read_words(
             place: at,
             kind: ReadFaultKind::NoOperand,
         }),
-        Roles::Marks(marks) => read_marks(alloc, made, known, &marks, place, stop.to),
+        Roles::Given(roles) => read_roles(alloc, made, known, &roles, place, stop.to),
     }
 }
 

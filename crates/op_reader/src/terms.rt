@@ -1,38 +1,38 @@
 ghost use Rattle.std.specs.Prelude.{◌≡◌, ◌<◌, ◌≤◌, ℕ, List, [], ◌∷◌, All, length, take, drop, map, reverse, Some, None, option_map};
 ghost use Rattle.std.specs.Prelude.{option_and_then, IfOk, IfSome, OnOk};
 ghost use Rattle.op_reader.specs.Terms.{term_of as the_term_of, as_operand as the_as_operand};
-ghost use Rattle.op_reader.specs.inner.Marks.{MarkBelow, View, Layers, node_in, with_mark, rows_of};
-ghost use Rattle.op_reader.specs.inner.Level.{Extends, level_in, known_in, LevelBelow, Reads, PendingBelow, Popped};
+ghost use Rattle.op_reader.specs.inner.RoleLists.{RoleBelow, View, Layers, node_in, with_role, rows_of};
+ghost use Rattle.op_reader.specs.inner.ReadRows.{Extends, rows_in, known_in, RowsBelow, Reads, PendingBelow, Popped};
 
 use crate::bracket::Bracket;
-use crate::enclosed::{bracketed_of, compound_of, term_of_level};
-use crate::level::{Level, ListNames, add_operand, add_piece, make_tail, separate};
-use crate::mark::Mark;
+use crate::enclosed::{bracketed_of, compound_of, term_of_rows};
 use crate::piece::Piece;
+use crate::read_rows::{ListNames, ReadRows, add_operand, add_piece, make_tail, separate};
+use crate::role::Role;
 use op_base::Memory;
 use op_term::{Builder, Sym};
 use std::alloc::Global;
 use std::mem;
 
-/// The rows that are not finished, from their ends: the innermost level, and those around it, the outermost first.
+/// The rows that are not finished, from their ends: those in the innermost brackets, and those around them, the outermost first.
 #[derive(Drop)]
 pub(crate) struct Pending {
-    pub inner: Level,
-    pub outer: Vec<Level>,
+    pub inner: ReadRows,
+    pub outer: Vec<ReadRows>,
 }
 
-// Takes the innermost level away; where no other is left, an empty one takes its place.
-fn pop(alloc: Global, pending: &mut Pending) -> Level
+// Takes the innermost rows away; where no others are left, none take their place.
+fn pop(alloc: Global, pending: &mut Pending) -> ReadRows
     ensures value { result ≡ pending.old.inner }
     ensures popped { Popped pending.old pending.new }
 {
     match pending.outer.pop() {
-        Some(level) => {
-            let innermost = mem::replace(&mut pending.inner, level);
+        Some(rows) => {
+            let innermost = mem::replace(&mut pending.inner, rows);
             return innermost;
         }
         None => {
-            let innermost = mem::replace(&mut pending.inner, Level::new(alloc));
+            let innermost = mem::replace(&mut pending.inner, ReadRows::new(alloc));
             return innermost;
         }
     }
@@ -40,18 +40,18 @@ fn pop(alloc: Global, pending: &mut Pending) -> Level
 
 fn push(alloc: Global, pending: &mut Pending) -> Result<(), Memory>
     ensures reads { OnOk result ((v : View) (names : ListNames) (l : Layers) → Reads v names pending.old l
-        → Reads v names pending.new (with_mark v Mark.Closed l)) }
+        → Reads v names pending.new (with_role v Role.Closed l)) }
     ensures below { OnOk result ((n : ℕ) → PendingBelow n pending.old → PendingBelow n pending.new) }
 {
-    let level = mem::replace(&mut pending.inner, Level::new(alloc));
-    pending.outer.push(level)?;
+    let rows = mem::replace(&mut pending.inner, ReadRows::new(alloc));
+    pending.outer.push(rows)?;
     Ok(())
 }
 
-// An opening bracket: the innermost level is finished, and is an operand of the next.
+// An opening bracket: the innermost rows are finished, and are an operand of the next.
 fn enclose(pending: &mut Pending, found: Option<u64>) -> Result<(), Memory>
-    ensures added { OnOk result ((v : View) → level_in v pending.new.inner
-        ≡ the_as_operand (option_map (node_in v) found) (level_in v pending.old.inner)) }
+    ensures added { OnOk result ((v : View) → rows_in v pending.new.inner
+        ≡ the_as_operand (option_map (node_in v) found) (rows_in v pending.old.inner)) }
     ensures outer { pending.new.outer ≡ pending.old.outer }
     ensures below { OnOk result ((n : ℕ) → IfSome found (λ m. m < n) → PendingBelow n pending.old → PendingBelow n pending.new) }
 {
@@ -66,12 +66,12 @@ fn open_compound(
 ) -> Result<(), Memory>
     requires { PendingBelow (length nodes.old) pending.old }
     ensures reads { OnOk result ((v : View) (names : ListNames) (l : Layers) → Extends v nodes.new → Reads v names pending.old l
-        → Reads v names pending.new (with_mark v (Mark.Compound name) l)) }
+        → Reads v names pending.new (with_role v (Role.Compound name) l)) }
     ensures below { OnOk result (PendingBelow (length nodes.new) pending.new) }
     ensures kept { take (length nodes.old) nodes.new ≡ nodes.old }
 {
-    let level = pop(alloc, pending);
-    let found = compound_of(alloc, nodes, name, level)?;
+    let rows = pop(alloc, pending);
+    let found = compound_of(alloc, nodes, name, rows)?;
     enclose(pending, found)?;
     Ok(())
 }
@@ -85,12 +85,12 @@ fn open_bracket(
 ) -> Result<(), Memory>
     requires { PendingBelow (length nodes.old) pending.old }
     ensures reads { OnOk result ((v : View) (l : Layers) → Extends v nodes.new → Reads v known pending.old l
-        → Reads v known pending.new (with_mark v (Mark.Bracketed bracket) l)) }
+        → Reads v known pending.new (with_role v (Role.Bracketed bracket) l)) }
     ensures below { OnOk result (PendingBelow (length nodes.new) pending.new) }
     ensures kept { take (length nodes.old) nodes.new ≡ nodes.old }
 {
-    let level = pop(alloc, pending);
-    let found = bracketed_of(alloc, nodes, known, bracket, level)?;
+    let rows = pop(alloc, pending);
+    let found = bracketed_of(alloc, nodes, known, bracket, rows)?;
     enclose(pending, found)?;
     Ok(())
 }
@@ -99,7 +99,7 @@ fn open_bracket(
 fn number_piece(nodes: &mut Builder, pending: &mut Pending, place: u64) -> Result<(), Memory>
     requires { PendingBelow (length nodes.old) pending.old }
     ensures reads { OnOk result ((v : View) (names : ListNames) (l : Layers) → Extends v nodes.new → Reads v names pending.old l
-        → Reads v names pending.new (with_mark v (Mark.Excess place) l)) }
+        → Reads v names pending.new (with_role v (Role.Excess place) l)) }
     ensures below { OnOk result (PendingBelow (length nodes.new) pending.new) }
     ensures kept { take (length nodes.old) nodes.new ≡ nodes.old }
 {
@@ -109,56 +109,56 @@ fn number_piece(nodes: &mut Builder, pending: &mut Pending, place: u64) -> Resul
     Ok(())
 }
 
-// Takes a mark in front of those behind it.
-fn take_mark(
+// Takes a role in front of those behind it.
+fn take_role(
     alloc: Global,
     nodes: &mut Builder,
     known: ListNames,
     pending: &mut Pending,
-    mark: Mark,
+    role: Role,
 ) -> Result<(), Memory>
-    requires mark { MarkBelow (length nodes.old) mark }
+    requires role { RoleBelow (length nodes.old) role }
     requires below { PendingBelow (length nodes.old) pending.old }
     ensures reads { OnOk result ((v : View) (l : Layers) → Extends v nodes.new → Reads v known pending.old l
-        → Reads v known pending.new (with_mark v mark l)) }
+        → Reads v known pending.new (with_role v role l)) }
     ensures below { OnOk result (PendingBelow (length nodes.new) pending.new) }
     ensures kept { take (length nodes.old) nodes.new ≡ nodes.old }
 {
-    match mark {
-        Mark::Separator => separate(alloc, nodes, &mut pending.inner),
-        Mark::Tail => make_tail(alloc, nodes, &mut pending.inner),
-        Mark::Operator(operator) => add_piece(&mut pending.inner, Piece::Operator(operator)),
-        Mark::Operand(node) => add_piece(&mut pending.inner, Piece::Operand(node)),
-        Mark::Excess(place) => number_piece(nodes, pending, place),
-        Mark::Compound(name) => open_compound(alloc, nodes, pending, name),
-        Mark::Bracketed(bracket) => open_bracket(alloc, nodes, known, pending, bracket),
-        Mark::Closed => push(alloc, pending),
+    match role {
+        Role::Separator => separate(alloc, nodes, &mut pending.inner),
+        Role::Tail => make_tail(alloc, nodes, &mut pending.inner),
+        Role::Operator(operator) => add_piece(&mut pending.inner, Piece::Operator(operator)),
+        Role::Operand(node) => add_piece(&mut pending.inner, Piece::Operand(node)),
+        Role::Excess(place) => number_piece(nodes, pending, place),
+        Role::Compound(name) => open_compound(alloc, nodes, pending, name),
+        Role::Bracketed(bracket) => open_bracket(alloc, nodes, known, pending, bracket),
+        Role::Closed => push(alloc, pending),
     }
 }
 
-/// The node of the term that marks spell; none where a row has no tree.
+/// The node of the term that roles spell; none where a row has no tree.
 pub(crate) fn term_node(
     alloc: Global,
     nodes: &mut Builder,
     known: ListNames,
-    marks: &[Mark],
+    roles: &[Role],
 ) -> Result<Option<u64>, Memory>
-    requires { All (MarkBelow (length nodes.old)) marks.now }
+    requires { All (RoleBelow (length nodes.old)) roles.now }
     ensures term { IfOk result (λ found. (v : View) → Extends v nodes.new
-        → the_term_of (known_in v known) (rows_of v marks.now) ≡ option_map (node_in v) found) }
+        → the_term_of (known_in v known) (rows_of v roles.now) ≡ option_map (node_in v) found) }
     ensures there { IfOk result (λ found. IfSome found (λ n. n < length nodes.new)) }
     ensures kept { take (length nodes.old) nodes.new ≡ nodes.old }
 {
     let mut pending = Pending {
-        inner: Level::new(alloc),
+        inner: ReadRows::new(alloc),
         outer: Vec::new(alloc),
     };
-    let mut i = marks.len();
-    'marks: while i > 0 {
+    let mut i = roles.len();
+    'roles: while i > 0 {
         i -= 1;
-        take_mark(alloc, nodes, known, &mut pending, marks[i])?;
+        take_role(alloc, nodes, known, &mut pending, roles[i])?;
     }
     let Pending { inner, outer: _ } = pending;
-    let found = term_of_level(alloc, nodes, inner)?;
+    let found = term_of_rows(alloc, nodes, inner)?;
     Ok(found)
 }

@@ -43,8 +43,8 @@ fn name_word(
     let name = as_text(&text);
     let sym = symbols.intern(name)?;
     let operand = as_operand(alloc, ops, bytes, symbols, nodes, token, name, sym, rest)?;
-    let role = as_operator(ops, symbols, name, sym);
-    Ok(Word::Other(token.from, operand, role))
+    let operator = as_operator(ops, symbols, name, sym);
+    Ok(Word::Other(token.from, operand, operator))
 }
 
 fn integer_word(nodes: &mut Builder, token: Token, magnitude: u64) -> Result<Word, Memory>
@@ -136,8 +136,8 @@ fn comma_word(ops: &Ops, symbols: &mut Symbols, token: Token) -> Result<Word, Me
     ensures names_kept { take (length symbols.old) symbols.new ≡ symbols.old }
 {
     let sym = symbols.intern(",")?;
-    let role = as_operator(ops, symbols, ",", sym);
-    Ok(Word::Comma(token.from, role))
+    let operator = as_operator(ops, symbols, ",", sym);
+    Ok(Word::Comma(token.from, operator))
 }
 
 /// What is made of the words so far: their nodes, the named variables, and how many variables there are.

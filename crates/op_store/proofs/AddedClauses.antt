@@ -1,7 +1,7 @@
 -- A clause that joins a store.
 use Rattle.std.proofs.Common.{◌≡◌, ℕ, suc, Bool, true, false, List, Option, Some, Ok, Err, refl, sym, ap, ◌∙◌}
 use Rattle.std.specs.Prelude.{option_map}
-use Rattle.op_logic.proofs.Tests.{if_true, if_false}
+use Rattle.op_logic.proofs.BoolCases.{if_true, if_false}
 use Rattle.op_logic.specs.Term.{Term, var, int, node, Args, no_args, arg, arity, rename_args}
 use Rattle.op_logic.specs.Names.{name_at, named, IsTable}
 use Rattle.op_trace.specs.Database.{Text, Clause}

@@ -4,7 +4,7 @@ use Rattle.std.proofs.Common.{pos, sym, ◌∙◌, ap, subst, refl, arith, lengt
 use Rattle.std.specs.Prelude.{option_map}
 use Rattle.std.proofs.lemmas.List.{reverse-append, length-reverse, length-map, reverse-reverse}
 use Rattle.std.proofs.lemmas.List.Elements.{All-push}
-use Rattle.op_logic.proofs.Tests.{by_order}
+use Rattle.op_logic.proofs.BoolCases.{by_order}
 use Rattle.op_logic.specs.Term.{Term, int, node}
 use Rattle.op_logic.specs.Names.{name_at, named}
 use Rattle.op_term.specs.Places.{term_at, args_at}

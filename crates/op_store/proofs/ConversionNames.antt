@@ -4,7 +4,7 @@ use Rattle.std.specs.Prelude.{option_map, codes, IfSome}
 use Rattle.op_logic.specs.Term.{Term, var, int, node, Args, no_args, arg, IsWithin, ArgsWithin, rename_args}
 use Rattle.op_store.specs.Counted.{variable_count, args_variable_count}
 use Rattle.op_logic.specs.Names.{name_at, named, IsTable, HasNames, ArgsHaveNames}
-use Rattle.op_logic.proofs.Tests.{by_order}
+use Rattle.op_logic.proofs.BoolCases.{by_order}
 use Rattle.op_logic.proofs.NameTables.{name_at-below, name_at-past}
 use Rattle.op_trace.specs.Database.{Text}
 use Rattle.op_store.specs.declared.bodies.body_part.Part.{Part}

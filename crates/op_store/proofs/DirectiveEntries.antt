@@ -4,7 +4,7 @@ use Rattle.std.proofs.Common.{sym, ap, ◌∙◌, subst, arith, append_assoc, ap
 use Rattle.std.specs.Prelude.{option_map, bytes_eq, codes}
 use Rattle.std.proofs.lemmas.List.{map-append}
 use Rattle.std.proofs.lemmas.List.Elements.{All-push, All-pop}
-use Rattle.op_logic.proofs.Tests.{if_false}
+use Rattle.op_logic.proofs.BoolCases.{if_false}
 use Rattle.op_logic.specs.Term.{Term, var, int, node, no_args, arg, size}
 use Rattle.op_logic.specs.Names.{named, HasNames}
 use Rattle.op_trace.specs.Database.{Text}

@@ -3,7 +3,7 @@ use Rattle.std.proofs.Common.{◌≡◌, ℕ, zero, suc, ◌+◌, ◌<◌, ◌�
 use Rattle.std.proofs.Common.{get_or, Option, Some, None, Result, Ok, Err, All, refl, sym, ap, ◌∙◌, subst, arith, append-nil, ◌||◌}
 use Rattle.std.specs.Prelude.{option_map, option_and_then, is_some, codes, bytes_eq, ℤ}
 use Rattle.std.proofs.lemmas.List.{drop_more, map-append}
-use Rattle.op_logic.proofs.Tests.{by_test, if_true, if_false}
+use Rattle.op_logic.proofs.BoolCases.{by_test, if_true, if_false}
 use Rattle.op_logic.specs.Term.{Term}
 use Rattle.op_logic.specs.Names.{name_at, IsTable}
 use Rattle.op_term.specs.Ops.{Table, set_in}

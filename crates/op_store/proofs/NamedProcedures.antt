@@ -5,7 +5,7 @@ use Rattle.std.specs.List.{flat_map}
 use Rattle.std.proofs.lemmas.Bool.Decides.{Decides-eqb}
 use Rattle.std.proofs.lemmas.Slice.Eq.{bytes_eq-Decides}
 use Rattle.std.proofs.lemmas.List.{map-append}
-use Rattle.op_logic.proofs.Tests.{by_test}
+use Rattle.op_logic.proofs.BoolCases.{by_test}
 use Rattle.op_logic.proofs.NameTables.{same_number}
 use Rattle.op_logic.specs.Names.{name_at, IsTable}
 use Rattle.op_trace.specs.Database.{Text, Clause}

@@ -2,7 +2,7 @@
 use Rattle.std.proofs.Common.{◌≡◌, ℕ, zero, suc, ◌<◌, ◌≤◌, ◌||◌, true, max, List, [], ◌∷◌, ◌++◌, refl, ap, sym, ◌∙◌, arith}
 use Rattle.std.proofs.lemmas.Bool.{eqb-true}
 use Rattle.op_logic.specs.Term.{Term, var, int, node, Args, no_args, arg, occurs, occurs_args, rename_args, IsWithin, ArgsWithin}
-use Rattle.op_logic.proofs.Tests.{by_test}
+use Rattle.op_logic.proofs.BoolCases.{by_test}
 use Rattle.op_store.specs.Counted.{variable_count, args_variable_count}
 use Rattle.op_logic.specs.Names.{name_at, named}
 use Rattle.op_term.specs.declared.node.Node.{Node}

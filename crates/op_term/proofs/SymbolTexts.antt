@@ -12,7 +12,7 @@ use Rattle.std.proofs.lemmas.Str.{IsUtf8-string_bytes}
 use Rattle.std.proofs.lemmas.Slice.Eq.{bytes_eq-Decides}
 use Rattle.op_logic.specs.Names.{name_at, with_name, IsTable}
 use Rattle.op_logic.proofs.NameTables.{name_at-below, IsTable-push}
-use Rattle.op_logic.proofs.Tests.{if_true, if_false}
+use Rattle.op_logic.proofs.BoolCases.{if_true, if_false}
 
 module _ {Z : Type 0} where
   pub are-texts : (ks : List (String Z)) → All IsUtf8 (map (λ k. string_bytes k) ks)

@@ -6,7 +6,7 @@ use op_case_lines::{escaped, token_word};
 use op_token::{Cutter, Piece, Scanner, Token, TokenFault, TokenKind, cut};
 use std::alloc::Global;
 
-fn mark(kind: TokenKind) -> &'static str {
+fn kind_text(kind: TokenKind) -> &'static str {
     match kind {
         TokenKind::Name => "N",
         TokenKind::QuotedName => "Q",
@@ -28,7 +28,7 @@ fn mark(kind: TokenKind) -> &'static str {
 // A token as its kind, the magnitude of an integer, and its span, with `_` before it where layout stands there.
 fn add_token(line: &mut String, token: Token) -> Result<(), Memory> {
     let before = if token.layout_before { "_" } else { "" };
-    let kind = mark(token.kind);
+    let kind = kind_text(token.kind);
     let Token { from, to, .. } = token;
     match token.kind {
         TokenKind::Integer(magnitude) => write!(line, "{before}{kind}{magnitude}:{from}-{to}")?,

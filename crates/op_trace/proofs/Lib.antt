@@ -1,3 +1,3 @@
 pub mod WalkBarriers
-pub mod WalkRows
+pub mod WalkEquations
 pub mod WalkSteps

@@ -77,7 +77,7 @@ on_end-only k h J (CutTo x) w o i = go (same_barrier x (Call k)) refl
 on_end-only k h J Stopped w o i = tt
 on_end-only k h J Spent w o i = tt
 
--- a condition ends the cuts to its own marks
+-- a condition ends the cuts to its own barriers
 pub on_condition-only : (n : ℕ) (m : Barrier) (h : World → Visited) (J : List Item) (r : Verdict) (w : World)
     → Only (Cut (InCondition n) ∷ Cut (AtSuccess n) ∷ Cut m ∷ J) r → ((u : World) → Only (Cut m ∷ J) (h u).verdict)
     → Only (Cut m ∷ J) (on_condition n h r w).verdict

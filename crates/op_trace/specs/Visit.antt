@@ -164,7 +164,7 @@ entered first c k g J =
 abbrev pub Visitor : Type 0
 Visitor = List Item → Bindings Text → World → Visited
 
--- what is left to do on backtracking, and after each other result, by a row of the walk that was entered:
+-- what is left to do on backtracking, and after each other result, of an item that the walk has entered:
 -- an exit is redone; a disjunction has a second branch; a box has further clauses, or further tries; a box has no further alternative; a
 -- condition with this number has an else branch
 pub data Choice : Type 0 where
@@ -265,8 +265,8 @@ solved s σ w =
     let u : World = record w { solutions = w.solutions + 1 } in
     with_turns (Solved σ u ∷ []) (gives (if u.solutions == s.wanted then Stopped else Failed) u)
 
--- One row for each kind of first item. A row that has paid a step may go on by `visit`; one that hasn't goes on with the items behind its
--- own.
+-- One equation for each kind of first item. One that has paid a step may go on by `visit`; one that hasn't goes on with the items
+-- behind its own.
 unfoldable pub visit_with : Visitor → Setup → List Item → Bindings Text → World → Visited
 visit_with visit s [] σ w = solved s σ w
 visit_with visit s (Exit k g ∷ J) σ w = exits visit s (visit_with visit s J) k g J σ w
@@ -275,7 +275,7 @@ visit_with visit s (Try t k g ∷ J) σ w = performs s (s.act (s.budget - w.step
 visit_with visit s (Goal t m ∷ J) σ w = spends s 1 w (selected visit s (control t) t m J σ)
 
 -- The walk, given up where it calls itself at a greater depth than this. Each such call has paid a step, so that the depth below, one
--- more than there are steps left, is enough (`laws::visit_rows`).
+-- more than there are steps left, is enough (`laws::visit_equations`).
 unfoldable pub visit_by : ℕ → Setup → List Item → Bindings Text → World → Visited
 visit_by zero s I σ w = gives Spent w
 visit_by (suc f) s I σ w = visit_with (visit_by f s) s I σ w

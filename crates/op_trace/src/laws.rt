@@ -8,8 +8,8 @@ ghost use Rattle.op_trace.specs.World.{World, Item, Has};
 ghost use Rattle.op_trace.specs.Act.{Setup};
 ghost use Rattle.op_trace.specs.Visit.{CutTo, visit, visit_with};
 
-/// The walk is what its rows say: how many steps are left decides nothing but where it is spent.
-pub fn visit_rows()
+/// The walk is what its equations say: how many steps are left decides nothing but where it is spent.
+pub fn visit_equations()
     ensures { (s : Setup) (I : List Item) (σ : Bindings Text) (w : World) → w.steps ≤ s.budget
         → visit s I σ w ≡ visit_with (visit s) s I σ w }
 {}

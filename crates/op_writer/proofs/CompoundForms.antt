@@ -3,7 +3,7 @@ use Rattle.std.proofs.Common.{◌≡◌, ◌++◌, ◌&&◌, ℕ, suc, ℤ, Bool
 use Rattle.std.proofs.Common.{ap, subst}
 use Rattle.std.specs.Prelude.{codes}
 use Rattle.std.specs.Str.{bytes_eq}
-use Rattle.op_logic.proofs.Tests.{if_false}
+use Rattle.op_logic.proofs.BoolCases.{if_false}
 use Rattle.op_term.specs.Head.{head}
 use Rattle.op_term.specs.declared.node.Node.TheVariants.{Var, Int, Atom, Struct}
 use Rattle.op_term.specs.declared.symbols.Sym.{Sym}

@@ -4,7 +4,7 @@ use Rattle.std.proofs.Common.{leb, ltb, refl, sym, ◌∙◌, ap, arith}
 use Rattle.std.specs.Prelude.{codes}
 use Rattle.std.proofs.lemmas.List.{get_or_append_left, take-append-le, take-append-drop}
 use Rattle.std.proofs.lemmas.Bool.{lt-leb}
-use Rattle.op_logic.proofs.Tests.{by_test, by_order, if_true, if_false}
+use Rattle.op_logic.proofs.BoolCases.{by_test, by_order, if_true, if_false}
 use Rattle.op_writer.specs.Cut.{boundary, cut, front_of}
 use Rattle.op_writer.proofs.TextFronts.{front-whole, front-longer}
 

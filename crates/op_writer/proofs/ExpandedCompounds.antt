@@ -12,10 +12,10 @@ use Rattle.op_writer.specs.declared.bound.Bound.{Bound}
 use Rattle.op_writer.specs.declared.bound.Bound.TheVariants.{Whole}
 use Rattle.op_writer.specs.declared.notation.Notation.TheVariants.{List as Listed, Braces, Infix, Prefix as Before, Postfix as Behind}
 use Rattle.op_writer.specs.declared.notation.Notation.TheVariants.{Functional}
-use Rattle.op_writer.specs.declared.item.Token.{Token}
-use Rattle.op_writer.specs.declared.item.Token.TheVariants.{Sign, Name}
+use Rattle.op_writer.specs.declared.item.Lexeme.{Lexeme}
+use Rattle.op_writer.specs.declared.item.Lexeme.TheVariants.{Sign, Name}
 use Rattle.op_writer.specs.declared.item.Item.{Item}
-use Rattle.op_writer.specs.declared.item.Item.TheVariants.{Token as Written, Term as Inside, Rest, Further}
+use Rattle.op_writer.specs.declared.item.Item.TheVariants.{Lexeme as Written, Term as Inside, Rest, Further}
 use Rattle.op_writer.specs.Pieces.{Piece, plain}
 use Rattle.op_writer.specs.Text.{within, rest, bracketed, fits, left_of, right_of, argument, infix_pieces, prefix_pieces, postfix_pieces}
 use Rattle.op_writer.specs.Text.{compound_form, further, notation_of}
@@ -39,15 +39,15 @@ module _ {P : Type 0} (term : P → Term ℕ) (w : Stack.Ways) (IsPlace : P → 
   abbrev Replaces : Item P → List (Item P) → List (Item P) → Type 0
   Replaces item old new = Stack.Replaces term w IsPlace item old new
 
-  abbrev mark : ℕ → Item P
-  mark b = Written (Sign b)
+  abbrev sign_item : ℕ → Item P
+  sign_item b = Written (Sign b)
 
   -- in brackets or without
   abbrev closed : Bool → List (Item P) → List (Item P)
-  closed b s = cond b (mark 41 ∷ s) s
+  closed b s = cond b (sign_item 41 ∷ s) s
 
   abbrev opened : Bool → List (Item P) → List (Item P)
-  opened b s = cond b (mark 40 ∷ s) s
+  opened b s = cond b (sign_item 40 ∷ s) s
 
   opened-pieces : (b : Bool) (ps : List Piece) (s old : List (Item P)) → pieces s ≡ ps ++ pieces (closed b old)
       → pieces (opened b s) ≡ bracketed b ps ++ pieces old
@@ -157,7 +157,7 @@ module _ {P : Type 0} (term : P → Term ℕ) (w : Stack.Ways) (IsPlace : P → 
   pub postfix-replaces : (at l : P) (f : Sym) (bound : Bound) (m : Meaning) (b : Bool) (old s1 s2 s3 s4 s5 : List (Item P))
       → head (term at) ≡ Struct f 1 → term l ≡ nth_arg (args_of (term at)) 0
       → Stack.letter w (term at) f.0 ≡ None → notation_of w.ops w.style (name_at w.names f.0) 1 ≡ Behind m
-      → b ≡ not (fits bound m) → s1 ≡ closed b old → s2 ≡ Written (Name f) ∷ s1 → s3 ≡ mark 32 ∷ s2
+      → b ≡ not (fits bound m) → s1 ≡ closed b old → s2 ≡ Written (Name f) ∷ s1 → s3 ≡ sign_item 32 ∷ s2
       → s4 ≡ Inside l (left_of m) ∷ s3 → s5 ≡ opened b s4 → AreGood old → IsGoodPlace l → f.0 < length w.names
       → Replaces (Inside at bound) old s5
   postfix-replaces at l f bound m b old s1 s2 s3 s4 s5 h hl k n eb e1 e2 e3 e4 e5 g gl gf =
@@ -185,7 +185,7 @@ module _ {P : Type 0} (term : P → Term ℕ) (w : Stack.Ways) (IsPlace : P → 
   pub braces-replaces : (at a : P) (f : Sym) (bound : Bound) (old s1 s2 s3 : List (Item P))
       → head (term at) ≡ Struct f 1 → term a ≡ nth_arg (args_of (term at)) 0
       → Stack.letter w (term at) f.0 ≡ None → notation_of w.ops w.style (name_at w.names f.0) 1 ≡ Braces
-      → s1 ≡ mark 125 ∷ old → s2 ≡ Inside a (Whole 1200) ∷ s1 → s3 ≡ mark 123 ∷ s2 → AreGood old → IsGoodPlace a
+      → s1 ≡ sign_item 125 ∷ old → s2 ≡ Inside a (Whole 1200) ∷ s1 → s3 ≡ sign_item 123 ∷ s2 → AreGood old → IsGoodPlace a
       → Replaces (Inside at bound) old s3
   braces-replaces at a f bound old s1 s2 s3 h ha k n e1 e2 e3 g ga =
       let name = name_at w.names f.0 in
@@ -213,7 +213,7 @@ module _ {P : Type 0} (term : P → Term ℕ) (w : Stack.Ways) (IsPlace : P → 
   pub list-replaces : (at l r : P) (f : Sym) (bound : Bound) (old s1 s2 s3 : List (Item P))
       → head (term at) ≡ Struct f 2 → term l ≡ nth_arg (args_of (term at)) 0 → term r ≡ nth_arg (args_of (term at)) 1
       → Stack.letter w (term at) f.0 ≡ None → notation_of w.ops w.style (name_at w.names f.0) 2 ≡ Listed
-      → s1 ≡ Rest r ∷ old → s2 ≡ Inside l argument ∷ s1 → s3 ≡ mark 91 ∷ s2 → AreGood old → IsGoodPlace l → IsGoodPlace r
+      → s1 ≡ Rest r ∷ old → s2 ≡ Inside l argument ∷ s1 → s3 ≡ sign_item 91 ∷ s2 → AreGood old → IsGoodPlace l → IsGoodPlace r
       → Replaces (Inside at bound) old s3
   list-replaces at l r f bound old s1 s2 s3 h hl hr k n e1 e2 e3 g gl gr =
       let name = name_at w.names f.0 in
@@ -241,7 +241,7 @@ module _ {P : Type 0} (term : P → Term ℕ) (w : Stack.Ways) (IsPlace : P → 
   pub rest-replaces : (at l r : P) (f : Sym) (old s1 s2 s3 : List (Item P))
       → head (term at) ≡ Struct f 2 → term l ≡ nth_arg (args_of (term at)) 0 → term r ≡ nth_arg (args_of (term at)) 1
       → notation_of w.ops w.style (name_at w.names f.0) 2 ≡ Listed
-      → s1 ≡ Rest r ∷ old → s2 ≡ Inside l argument ∷ s1 → s3 ≡ mark 44 ∷ s2 → AreGood old → IsGoodPlace l → IsGoodPlace r
+      → s1 ≡ Rest r ∷ old → s2 ≡ Inside l argument ∷ s1 → s3 ≡ sign_item 44 ∷ s2 → AreGood old → IsGoodPlace l → IsGoodPlace r
       → Replaces (Rest at) old s3
   rest-replaces at l r f old s1 s2 s3 h hl hr n e1 e2 e3 g gl gr =
       let name = name_at w.names f.0 in
@@ -269,7 +269,7 @@ module _ {P : Type 0} (term : P → Term ℕ) (w : Stack.Ways) (IsPlace : P → 
 
   -- a rest that is no list
   pub barred-replaces : (at : P) (old s1 s2 s3 : List (Item P)) → Stack.IsBarred w (term at)
-      → s1 ≡ mark 93 ∷ old → s2 ≡ Inside at argument ∷ s1 → s3 ≡ mark 124 ∷ s2 → AreGood old → IsGoodPlace at
+      → s1 ≡ sign_item 93 ∷ old → s2 ≡ Inside at argument ∷ s1 → s3 ≡ sign_item 124 ∷ s2 → AreGood old → IsGoodPlace at
       → Replaces (Rest at) old s3
   barred-replaces at old s1 s2 s3 form e1 e2 e3 g ga =
       let fa = Stack.form w (term at) (within argument) in
@@ -291,7 +291,7 @@ module _ {P : Type 0} (term : P → Term ℕ) (w : Stack.Ways) (IsPlace : P → 
   pub functional-replaces : (at a : P) (f : Sym) (k : ℕ) (bound : Bound) (old s1 s2 s3 s4 : List (Item P))
       → head (term at) ≡ Struct f k → term a ≡ nth_arg (args_of (term at)) 0
       → Stack.letter w (term at) f.0 ≡ None → notation_of w.ops w.style (name_at w.names f.0) k ≡ Functional
-      → s1 ≡ Further at 1 ∷ old → s2 ≡ Inside a argument ∷ s1 → s3 ≡ mark 40 ∷ s2 → s4 ≡ Written (Name f) ∷ s3
+      → s1 ≡ Further at 1 ∷ old → s2 ≡ Inside a argument ∷ s1 → s3 ≡ sign_item 40 ∷ s2 → s4 ≡ Written (Name f) ∷ s3
       → AreGood old → IsGoodPlace at → IsGoodPlace a
       → Replaces (Inside at bound) old s4
   functional-replaces at a f count bound old s1 s2 s3 s4 h ha k n e1 e2 e3 e4 g gat ga =
@@ -331,7 +331,7 @@ module _ {P : Type 0} (term : P → Term ℕ) (w : Stack.Ways) (IsPlace : P → 
   -- a further argument
   pub further-replaces : (at a : P) (i : ℕ) (old s1 s2 s3 : List (Item P))
       → i < arity (args_of (term at)) → term a ≡ nth_arg (args_of (term at)) i
-      → s1 ≡ Further at (i + 1) ∷ old → s2 ≡ Inside a argument ∷ s1 → s3 ≡ mark 44 ∷ s2
+      → s1 ≡ Further at (i + 1) ∷ old → s2 ≡ Inside a argument ∷ s1 → s3 ≡ sign_item 44 ∷ s2
       → AreGood old → IsGoodPlace at → IsGoodPlace a
       → Replaces (Further at i) old s3
   further-replaces at a i old s1 s2 s3 l ha e1 e2 e3 g gat ga =
@@ -358,7 +358,7 @@ module _ {P : Type 0} (term : P → Term ℕ) (w : Stack.Ways) (IsPlace : P → 
       }
 
   -- no further argument
-  pub end-replaces : (at : P) (i : ℕ) (old s1 : List (Item P)) → arity (args_of (term at)) ≤ i → s1 ≡ mark 41 ∷ old → AreGood old
+  pub end-replaces : (at : P) (i : ℕ) (old s1 : List (Item P)) → arity (args_of (term at)) ≤ i → s1 ≡ sign_item 41 ∷ old → AreGood old
       → Replaces (Further at i) old s1
   end-replaces at i old s1 l e1 g =
       let t : Stack.drop_args i (args_of (term at)) ≡ no_args = drop-none (args_of (term at)) i l in
@@ -373,8 +373,8 @@ module _ {P : Type 0} (term : P → Term ℕ) (w : Stack.Ways) (IsPlace : P → 
       }
 
   -- one piece
-  pub piece-replaces : (at : P) (bound : Bound) (t : Token) (old s1 : List (Item P))
-      → Stack.form w (term at) (within bound) ≡ Stack.piece_of w t ∷ [] → 1 < Stack.work (term at) → Stack.IsGoodToken (length w.names) t
+  pub piece-replaces : (at : P) (bound : Bound) (t : Lexeme) (old s1 : List (Item P))
+      → Stack.form w (term at) (within bound) ≡ Stack.piece_of w t ∷ [] → 1 < Stack.work (term at) → Stack.IsGoodLexeme (length w.names) t
       → s1 ≡ Written t ∷ old → AreGood old → Replaces (Inside at bound) old s1
   piece-replaces at bound t old s1 form l gt e1 g =
       let a1 : weights s1 ≡ 1 + weights old = ap weights e1 in

@@ -3,7 +3,7 @@ use Rattle.std.proofs.Common.{◌≡◌, ◌&&◌, ℕ, ℤ, pos, negsuc, nat_ab
 use Rattle.std.proofs.Common.{ap}
 use Rattle.std.specs.Prelude.{codes, int_lt}
 use Rattle.std.specs.Str.{bytes_eq}
-use Rattle.op_logic.proofs.Tests.{if_true, if_false}
+use Rattle.op_logic.proofs.BoolCases.{if_true, if_false}
 use Rattle.op_logic.specs.Term.{Term, var, int, node, Args, no_args, arg, args_of, arity, nth_arg, rename_args}
 use Rattle.op_logic.specs.Names.{name_at, named}
 use Rattle.op_term.specs.Head.{head}

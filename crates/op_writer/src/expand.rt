@@ -13,7 +13,7 @@ ghost use Rattle.op_writer.specs.declared.notation.Notation.TheVariants.{Braces 
 
 use crate::argument::{letter_number, part};
 use crate::bound::Bound;
-use crate::item::{Item, Token};
+use crate::item::{Item, Lexeme};
 use crate::notation::{Notation, is_operator};
 use crate::setting::Setting;
 use crate::spelling::{has_quotes, is_symbolic};
@@ -41,7 +41,7 @@ fn atom<T: Tree>(
 {
     let brackets = bound.is_operand() && is_operator(setting.ops, setting.symbols.name_of(name));
     push_bracket(stack, brackets, b')')?;
-    push(stack, Item::Token(Token::Name(name)))?;
+    push(stack, Item::Lexeme(Lexeme::Name(name)))?;
     push_bracket(stack, brackets, b'(')?;
     Ok(())
 }
@@ -75,7 +75,7 @@ fn infix_name<T: Tree>(
     }
     let spaces = !(text == ";" || is_narrow(setting, text));
     push_bracket(stack, spaces, b' ')?;
-    push(stack, Item::Token(Token::Name(name)))?;
+    push(stack, Item::Lexeme(Lexeme::Name(name)))?;
     push_bracket(stack, spaces, b' ')
 }
 
@@ -96,10 +96,10 @@ fn prefix_name<T: Tree>(
     ensures good { OnOk result (AreGood (T.term tree.now) (T.IsPlace tree.now) (length setting.now.symbols.now) (reverse stack.new.items)) }
 {
     if is_narrow(setting, setting.symbols.name_of(name)) {
-        return push(stack, Item::Token(Token::Prefix(name)));
+        return push(stack, Item::Lexeme(Lexeme::Prefix(name)));
     }
     push_sign(stack, b' ')?;
-    push(stack, Item::Token(Token::Name(name)))
+    push(stack, Item::Lexeme(Lexeme::Name(name)))
 }
 
 // A compound with an infix operator.
@@ -182,7 +182,7 @@ fn postfix<T: Tree>(
     let brackets = bound.is_passed(m);
     let left = part(setting, tree, at, 0);
     push_bracket(stack, brackets, b')')?;
-    push(stack, Item::Token(Token::Name(name)))?;
+    push(stack, Item::Lexeme(Lexeme::Name(name)))?;
     push_sign(stack, b' ')?;
     push(stack, Item::Term(left, Bound::left_of(m)))?;
     push_bracket(stack, brackets, b'(')?;
@@ -260,7 +260,7 @@ fn functional<T: Tree>(
     push(stack, Item::Further(*at, 1))?;
     push(stack, Item::Term(first, ARGUMENT))?;
     push_sign(stack, b'(')?;
-    push(stack, Item::Token(Token::Name(name)))?;
+    push(stack, Item::Lexeme(Lexeme::Name(name)))?;
     Ok(())
 }
 
@@ -281,7 +281,7 @@ fn compound<T: Tree>(
         (reverse stack.old.items) (reverse stack.new.items)) }
 {
     if let Some(k) = letter_number(setting, tree, at, name, n) {
-        return push(stack, Item::Token(Token::Letter(k)));
+        return push(stack, Item::Lexeme(Lexeme::Letter(k)));
     }
     match Notation::of(setting.ops, setting.style, setting.symbols.name_of(name), n) {
         Notation::Infix(m) => infix(setting, tree, at, name, m, bound, stack),
@@ -308,11 +308,11 @@ pub fn term<T: Tree>(
 {
     match tree.node(at) {
         Node::Var(n) => {
-            push(stack, Item::Token(Token::Var(n)))?;
+            push(stack, Item::Lexeme(Lexeme::Var(n)))?;
             Ok(())
         }
         Node::Int(i) => {
-            push(stack, Item::Token(Token::Int(i)))?;
+            push(stack, Item::Lexeme(Lexeme::Int(i)))?;
             Ok(())
         }
         Node::Atom(name) => atom(setting, tree, at, name, bound, stack),

@@ -1,9 +1,9 @@
 use crate::bound::Bound;
 use op_term::Sym;
 
-/// A piece of a text.
+/// What is written as one piece.
 #[derive(Clone, Copy)]
-pub enum Token {
+pub enum Lexeme {
     /// A bracket, a comma, a bar or a space.
     Sign(u8),
     Name(Sym),
@@ -18,7 +18,7 @@ pub enum Token {
 /// What is left to write: a piece, a term within a bound, a term as the rest of a list, or the arguments of a compound from an index on.
 #[derive(Clone, Copy)]
 pub enum Item<P> {
-    Token(Token),
+    Lexeme(Lexeme),
     Term(P, Bound),
     Rest(P),
     Further(P, u64),

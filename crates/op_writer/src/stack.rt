@@ -1,8 +1,8 @@
 ghost use Rattle.std.specs.Prelude.{◌≡◌, ◌++◌, ◌∷◌, [], reverse, OnOk, if◌then◌else◌};
-ghost use Rattle.op_writer.specs.declared.item.Item.TheVariants.{Token as written};
-ghost use Rattle.op_writer.specs.declared.item.Token.TheVariants.{Sign as sign, Name as name_token};
+ghost use Rattle.op_writer.specs.declared.item.Item.TheVariants.{Lexeme as written};
+ghost use Rattle.op_writer.specs.declared.item.Lexeme.TheVariants.{Sign as sign, Name as name_lexeme};
 
-use crate::item::{Item, Token};
+use crate::item::{Item, Lexeme};
 use op_base::Memory;
 use op_term::Sym;
 
@@ -18,7 +18,7 @@ pub fn push<P: Copy>(stack: &mut Vec<Item<P>>, item: Item<P>) -> Result<(), Memo
 pub fn push_sign<P: Copy>(stack: &mut Vec<Item<P>>, byte: u8) -> Result<(), Memory>
     ensures { OnOk result (reverse stack.new.items ≡ written (sign byte) ∷ reverse stack.old.items) }
 {
-    push(stack, Item::Token(Token::Sign(byte)))
+    push(stack, Item::Lexeme(Lexeme::Sign(byte)))
 }
 
 /// Puts a sign on a stack, or nothing.

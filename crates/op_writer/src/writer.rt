@@ -46,8 +46,8 @@ fn step<T: Tree>(
     ensures good { OnOk result (AreGood (T.term tree.now) (T.IsPlace tree.now) (length setting.now.symbols.now) (reverse stack.new.items)) }
 {
     match item {
-        Item::Token(token) => {
-            written.token(setting, token)?;
+        Item::Lexeme(lexeme) => {
+            written.lexeme(setting, lexeme)?;
             Ok(())
         }
         Item::Term(at, bound) => expand::term(setting, tree, &at, bound, stack),

@@ -3,12 +3,12 @@ ghost use Rattle.op_logic.specs.Names.{name_at};
 ghost use Rattle.op_writer.specs.Cut.{front_of};
 ghost use Rattle.op_writer.specs.Pieces.{edge_of, prefix_edge, set_apart, text_of, edge_behind};
 ghost use Rattle.op_writer.specs.Spelling.{name_text, quoted};
-ghost use Rattle.op_writer.specs.inner.Stack.{piece_of, IsGoodToken, ways_of};
+ghost use Rattle.op_writer.specs.inner.Stack.{piece_of, IsGoodLexeme, ways_of};
 ghost use Rattle.op_writer.specs.Text.{letter_text as the_letter};
 
 use crate::edge::Edge;
 use crate::front::Front;
-use crate::item::Token;
+use crate::item::Lexeme;
 use crate::setting::Setting;
 use crate::spelling::{has_quotes, in_quotes};
 use crate::style::Style;
@@ -150,21 +150,21 @@ impl Written {
     }
 
     /// Adds a piece.
-    pub fn token(&mut self, setting: &Setting<'_>, token: Token) -> Result<(), Memory>
-        requires named { IsGoodToken (length setting.now.symbols.now) token }
+    pub fn lexeme(&mut self, setting: &Setting<'_>, lexeme: Lexeme) -> Result<(), Memory>
+        requires named { IsGoodLexeme (length setting.now.symbols.now) lexeme }
         requires room { length self.old.front.bytes ≤ self.old.front.limit }
         ensures bytes { OnOk result (self.new.front.bytes ≡ front_of self.old.front.limit
-            (self.old.front.bytes ++ set_apart self.old.edge (text_of (piece_of (ways_of setting.now) token)))) }
+            (self.old.front.bytes ++ set_apart self.old.edge (text_of (piece_of (ways_of setting.now) lexeme)))) }
         ensures limit { self.new.front.limit ≡ self.old.front.limit }
-        ensures edge { OnOk result (self.new.edge ≡ edge_behind self.old.edge (piece_of (ways_of setting.now) token)) }
+        ensures edge { OnOk result (self.new.edge ≡ edge_behind self.old.edge (piece_of (ways_of setting.now) lexeme)) }
     {
-        match token {
-            Token::Sign(byte) => self.piece(&[byte], false),
-            Token::Name(name) => self.name(setting.style, setting.symbols.name_of(name), false),
-            Token::Prefix(name) => self.name(setting.style, setting.symbols.name_of(name), true),
-            Token::Var(n) => self.variable(n),
-            Token::Int(i) => self.piece(Buffer::new().format(i).as_bytes(), false),
-            Token::Letter(n) => self.letter(n),
+        match lexeme {
+            Lexeme::Sign(byte) => self.piece(&[byte], false),
+            Lexeme::Name(name) => self.name(setting.style, setting.symbols.name_of(name), false),
+            Lexeme::Prefix(name) => self.name(setting.style, setting.symbols.name_of(name), true),
+            Lexeme::Var(n) => self.variable(n),
+            Lexeme::Int(i) => self.piece(Buffer::new().format(i).as_bytes(), false),
+            Lexeme::Letter(n) => self.letter(n),
         }
     }
 }

@@ -24,7 +24,7 @@ IsGiven calls conditions (Call k) = k ≤ calls
 IsGiven calls conditions (InCondition n) = n ≤ conditions
 IsGiven calls conditions (AtSuccess n) = n ≤ conditions
 
--- a goal's barrier: no goal cuts to the mark that the success of a condition cuts to
+-- a goal's barrier: no goal cuts to the time before a condition, to which the condition's success cuts
 abbrev pub IsGoalBarrier : ℕ → ℕ → Barrier → Type 0
 IsGoalBarrier calls conditions (Call k) = k ≤ calls
 IsGoalBarrier calls conditions (InCondition n) = n ≤ conditions

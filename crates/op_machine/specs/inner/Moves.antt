@@ -1,4 +1,4 @@
--- What one row of the machine does to its parts.
+-- What one move of the machine does to its parts.
 use Rattle.std.specs.Prelude.{◌≡◌, ℕ, ◌-◌, ◌≤◌, List, [], ◌∷◌, if◌then◌else◌, Option}
 use Rattle.op_logic.specs.Term.{Term, shift, Args, args_of, nth_arg}
 use Rattle.op_term.specs.Places.{term_at}

@@ -4,7 +4,7 @@ use Rattle.op_logic.specs.Term.{Term}
 use Rattle.op_term.specs.Places.{term_at}
 use Rattle.op_reader.specs.Row.{Operator, left_bound, right_bound, with_one, with_two}
 use Rattle.op_reader.specs.inner.Spine.{Arm, Spine, ended, under, arms_priority, whole_priority}
-use Rattle.op_reader.specs.inner.Held.{arm_of, operator_of}
+use Rattle.op_reader.specs.inner.RowState.{arm_of, operator_of}
 use Rattle.op_reader.specs.declared.row.Branch.{Branch}
 use Rattle.op_reader.specs.declared.row.Part.{Part}
 

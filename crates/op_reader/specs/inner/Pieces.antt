@@ -9,7 +9,7 @@ use Rattle.op_reader.specs.declared.piece.Piece.TheVariants.{Operand, Operator}
 use Rattle.op_reader.specs.declared.row_node.Class.{Class}
 use Rattle.op_reader.specs.declared.row_node.Class.TheVariants.{Prefix, Infix, Postfix}
 use Rattle.op_reader.specs.Row.{Piece, operand, operator, alternates}
-use Rattle.op_reader.specs.inner.Held.{Held, operator_of, expects_operand, AreBelow, Stands}
+use Rattle.op_reader.specs.inner.RowState.{RowState, operator_of, expects_operand, AreBelow, Stands}
 
 abbrev pub piece_at : List (Term ℕ) → PieceHeld → Piece ℕ
 piece_at ts (Operand n) = operand (term_at ts n)
@@ -30,13 +30,13 @@ IsClass k Infix = HasClass false false true k
 IsClass k Postfix = HasClass false true false k
 
 -- a piece that may stand next joins the row; another one ends it
-pub record Joins (ts : List (Term ℕ)) (p : PieceHeld) (before : Held) (us : List (Term ℕ)) (after : Held)
+pub record Joins (ts : List (Term ℕ)) (p : PieceHeld) (before : RowState) (us : List (Term ℕ)) (after : RowState)
     (expected next : Bool) : Type 0 where
   pub stands : (ps : List (Piece ℕ)) → Stands ts ps before → Stands us (ps ++ piece_at ts p ∷ []) after
   pub below : AreBelow (length us) after
   pub expects : expects_operand after ≡ next
   pub goes_on : (rest : List (Piece ℕ)) → alternates expected (piece_at ts p ∷ rest) ≡ alternates next rest
 
-abbrev pub TakesPiece : List (Term ℕ) → PieceHeld → Bool → Held → List (Term ℕ) → Held → Option Bool → Type 0
+abbrev pub TakesPiece : List (Term ℕ) → PieceHeld → Bool → RowState → List (Term ℕ) → RowState → Option Bool → Type 0
 TakesPiece ts p expected before us after (Some next) = Joins ts p before us after expected next
 TakesPiece ts p expected before us after None = (rest : List (Piece ℕ)) → alternates expected (piece_at ts p ∷ rest) ≡ false

@@ -10,7 +10,7 @@ use Rattle.op_reader.specs.declared.word.AsOperator.{AsOperator as AsOperatorHel
 use Rattle.op_reader.specs.declared.word.Word.{Word as WordHeld}
 use Rattle.op_reader.specs.declared.words.Made.{Made}
 use Rattle.op_reader.specs.Words.{Source, words_of, words_from, variables_of, spelling, named_from, AsOperand, AsOperator, Word}
-use Rattle.op_reader.specs.inner.Marks.{View, OperandBelow, WordBelow, node_in, as_operand_in, as_operator_in, word_in}
+use Rattle.op_reader.specs.inner.RoleLists.{View, OperandBelow, WordBelow, node_in, as_operand_in, as_operator_in, word_in}
 
 -- these names and nodes, and perhaps more
 pub record IsLater (v : View) (names : List (List ℕ)) (terms : List (Term ℕ)) : Type 0 where
@@ -30,7 +30,7 @@ pub record ShowsWord (names : List (List ℕ)) (terms : List (Term ℕ)) (w : Wo
   pub below : WordBelow (length terms) w
   pub shown : (v : View) → IsLater v names terms → word_in v w ≡ u
 
--- the role of a name whose number it has
+-- what a name is as an operator, where the code has the name's number
 abbrev pub ShowsOperator : List (List ℕ) → AsOperatorHeld → AsOperator (List ℕ) → Type 0
 ShowsOperator names a b = (v : View) → take (length names) v.names ≡ names → as_operator_in v a ≡ b
 

@@ -9,10 +9,10 @@ use Rattle.op_term.specs.declared.node.Node.{Node}
 use Rattle.op_term.specs.declared.node.Node.TheVariants.{Int as AnInt}
 use Rattle.op_writer.specs.declared.style.Style.{Style}
 use Rattle.op_writer.specs.declared.setting.Setting.{Setting}
-use Rattle.op_writer.specs.declared.item.Token.{Token}
-use Rattle.op_writer.specs.declared.item.Token.TheVariants.{Sign, Name, Prefix, Var, Int, Letter}
+use Rattle.op_writer.specs.declared.item.Lexeme.{Lexeme}
+use Rattle.op_writer.specs.declared.item.Lexeme.TheVariants.{Sign, Name, Prefix, Var, Int, Letter}
 use Rattle.op_writer.specs.declared.item.Item.{Item}
-use Rattle.op_writer.specs.declared.item.Item.TheVariants.{Token as Written, Term as Whole, Rest, Further}
+use Rattle.op_writer.specs.declared.item.Item.TheVariants.{Lexeme as Written, Term as Whole, Rest, Further}
 use Rattle.op_writer.specs.Spelling.{name_text}
 use Rattle.op_writer.specs.Pieces.{Piece, plain, prefix_operator}
 use Rattle.op_writer.specs.Text.{Form, form_of, forms_of, within, rest, further, letter_text, letter_of, sign, argument}
@@ -29,7 +29,7 @@ ways_of s = record { ops = s.ops.now; style = s.style; names = s.symbols.now }
 abbrev pub spelt : Ways → ℕ → List ℕ
 spelt w f = name_text w.style (name_at w.names f)
 
-abbrev pub piece_of : Ways → Token → Piece
+abbrev pub piece_of : Ways → Lexeme → Piece
 piece_of w (Sign b) = plain (b ∷ [])
 piece_of w (Name f) = plain (spelt w f.0)
 piece_of w (Prefix f) = prefix_operator (spelt w f.0)
@@ -73,10 +73,10 @@ abbrev mutual
   args_work no_args = 0
   args_work (arg t ts) = work t + 4 + args_work ts
 
-abbrev pub IsGoodToken : ℕ → Token → Type 0
-IsGoodToken n (Name f) = f.0 < n
-IsGoodToken n (Prefix f) = f.0 < n
-IsGoodToken n t = Unit {0}
+abbrev pub IsGoodLexeme : ℕ → Lexeme → Type 0
+IsGoodLexeme n (Name f) = f.0 < n
+IsGoodLexeme n (Prefix f) = f.0 < n
+IsGoodLexeme n t = Unit {0}
 
 module _ {P : Type 0} (term : P → Term ℕ) where
   abbrev pub pieces_of : Ways → Item P → List Piece
@@ -104,7 +104,7 @@ module _ {P : Type 0} (term : P → Term ℕ) where
   IsGoodPlace IsPlace n at = IsPlace at × HasNames n (term at)
 
   abbrev pub IsGood : (P → Type 0) → ℕ → Item P → Type 0
-  IsGood IsPlace n (Written t) = IsGoodToken n t
+  IsGood IsPlace n (Written t) = IsGoodLexeme n t
   IsGood IsPlace n (Whole at bound) = IsGoodPlace IsPlace n at
   IsGood IsPlace n (Rest at) = IsGoodPlace IsPlace n at
   IsGood IsPlace n (Further at i) = IsGoodPlace IsPlace n at × (i ≤ arity (args_of (term at)))

@@ -1,7 +1,7 @@
 use Rattle.std.proofs.Common.{◌-◌, ◌<◌, length, take, drop, length-drop, ◌∙◌, arith, rules}
 use Rattle.std.proofs.lemmas.List.{take_rest}
 use Rattle.op_desk.proofs.FrameLaws.{Same-then, SameBut-then, SameBut-from_Becomes, Becomes-at}
-use Rattle.op_desk.proofs.PieceLaws.{Appends-more}
+use Rattle.op_desk.proofs.BlockLaws.{Appends-more}
 use Rattle.op_desk.proofs.whole.put_all.Goals as goal
 
 pub loop-done-preserved : goal.loop-done-preserved

@@ -1,6 +1,6 @@
 use Rattle.std.proofs.Common.{◌≡◌, ◌≤◌, ◌<◌, ◌-◌, IsTrue, length, vec_len}
 use Rattle.op_desk.specs.Frame.{Same}
-use Rattle.op_desk.proofs.PieceLaws.{Begins}
+use Rattle.op_desk.proofs.BlockLaws.{Begins}
 use Rattle.op_desk.proofs.whole.take_all.Given as goal
 
 abbrev pub invariant-loop-bytes : goal.invariant-loop-bytes
@@ -8,7 +8,7 @@ invariant-loop-bytes g l =
     let desk = g.D.Desk in
     record {
       short : length l.bytes ≤ l.limit;
-      room : 0 < vec_len l.piece;
+      room : 0 < vec_len l.block;
       begins : Begins (desk.shelf l.fn.desk) l.name l.bytes;
       same_left : Same (desk.left l.fn.desk) (desk.left l.desk);
       same_written : Same (desk.written l.fn.desk) (desk.written l.desk);

@@ -3,9 +3,9 @@ use Rattle.std.proofs.lemmas.List.Sorted.{All-permutation}
 use Rattle.std.proofs.lemmas.List.Elements.{All-push}
 use Rattle.op_logic.specs.Term.{node}
 use Rattle.op_logic.specs.Names.{name_at}
-use Rattle.op_reader.specs.inner.Marks.{node_in}
+use Rattle.op_reader.specs.inner.RoleLists.{node_in}
 use Rattle.op_reader.specs.Terms.{args_of}
-use Rattle.op_reader.proofs.LevelNodes.{compound_seen, turned}
+use Rattle.op_reader.proofs.AddedNodes.{compound_seen, turned}
 use Rattle.op_reader.proofs.enclosed.compound_node.Goals as goal
 
 pub returns-clause-term : goal.returns-clause-term

@@ -5,9 +5,9 @@ use Rattle.std.specs.Option.{unwrap_or, option_map}
 use Rattle.op_logic.specs.Term.{atom}
 use Rattle.op_logic.specs.Names.{name_at}
 use Rattle.op_reader.specs.Words.{list_of}
-use Rattle.op_reader.specs.inner.Marks.{node_in}
+use Rattle.op_reader.specs.inner.RoleLists.{node_in}
 use Rattle.op_reader.proofs.ShownNodes.{kept_length, kept_kept}
-use Rattle.op_reader.proofs.LevelNodes.{list_seen, turned}
+use Rattle.op_reader.proofs.AddedNodes.{list_seen, turned}
 use Rattle.op_reader.proofs.enclosed.whole_list.Goals as goal
 
 pub returns-clause-term : goal.returns-clause-term

@@ -1,5 +1,5 @@
 use Rattle.std.proofs.Common.{◌≡◌, ◌<◌, length, take, vec_len}
-use Rattle.op_reader.specs.inner.Held.{BranchesBelow}
+use Rattle.op_reader.specs.inner.RowState.{BranchesBelow}
 use Rattle.op_reader.specs.inner.Adding.{spine_at, IsSameTo}
 use Rattle.op_reader.proofs.row.close_below.Given as goal
 

@@ -1,7 +1,7 @@
 use Rattle.std.proofs.Common.{◌≡◌, length, take, drop}
 use Rattle.std.specs.Prelude.{map, true}
 use Rattle.op_reader.specs.Row.{alternates}
-use Rattle.op_reader.specs.inner.Held.{expects_operand, AreBelow, Stands}
+use Rattle.op_reader.specs.inner.RowState.{expects_operand, AreBelow, Stands}
 use Rattle.op_reader.specs.inner.Pieces.{piece_at}
 use Rattle.op_reader.proofs.row_node.row_node.Given as goal
 

@@ -5,12 +5,13 @@ use Rattle.op_writer.specs.inner.Stack.{ways_of, pieces, pieces_of, piece_of}
 use Rattle.op_writer.proofs.TextFronts.{front-piece}
 use Rattle.op_writer.proofs.writer.step.Goals as goal
 
-pub returns-in_ok-token-in-Token-clause-same : goal.returns-in_ok-token-in-Token-clause-same
-returns-in_ok-token-in-Token-clause-same g c =
+pub returns-in_ok-lexeme-in-Lexeme-clause-same : goal.returns-in_ok-lexeme-in-Lexeme-clause-same
+returns-in_ok-lexeme-in-Lexeme-clause-same g c =
     let w = ways_of c.args.setting.now in
     let term = g.T.Tree.term c.args.tree.now in
     let old = c.args.written.now in
     let ps = pieces term w (reverse c.args.stack.now.items) in
-    front-piece old.front.limit old.front.bytes c.token.new.self.front.bytes old.edge c.token.new.self.edge (piece_of w c.in-Token.token) ps
-    c.in_ok-token-in-Token.ensures.bytes c.in_ok-token-in-Token.ensures.edge
-    ∙ ap (λ i. front_of old.front.limit (old.front.bytes ++ spaced old.edge (pieces_of term w i ++ ps))) (sym c.in-Token.is)
+    front-piece old.front.limit old.front.bytes c.lexeme.new.self.front.bytes old.edge c.lexeme.new.self.edge
+    (piece_of w c.in-Lexeme.lexeme) ps
+    c.in_ok-lexeme-in-Lexeme.ensures.bytes c.in_ok-lexeme-in-Lexeme.ensures.edge
+    ∙ ap (λ i. front_of old.front.limit (old.front.bytes ++ spaced old.edge (pieces_of term w i ++ ps))) (sym c.in-Lexeme.is)

@@ -1,7 +1,7 @@
 use Rattle.std.proofs.Common.{List, [], None, false, sym, subst}
-use Rattle.op_reader.specs.inner.Held.{Stands}
+use Rattle.op_reader.specs.inner.RowState.{Stands}
 use Rattle.op_reader.specs.declared.row.Branch.{Branch}
-use Rattle.op_reader.proofs.HeldRows.{no_pieces_stand}
+use Rattle.op_reader.proofs.RowStates.{no_pieces_stand}
 use Rattle.op_reader.proofs.row.Row.new.Goals as goal
 
 pub returns-clause-stands : goal.returns-clause-stands

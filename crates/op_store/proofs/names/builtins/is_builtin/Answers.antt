@@ -1,5 +1,5 @@
 use Rattle.std.proofs.Common.{ℕ, ◌==◌, List, sym, ap, ◌∙◌}
-use Rattle.op_logic.proofs.Tests.{if_false}
+use Rattle.op_logic.proofs.BoolCases.{if_false}
 use Rattle.op_trace.specs.Database.{Text}
 use Rattle.op_store.specs.Locked.{builtins, is_among}
 use Rattle.op_store.proofs.Numbers.{not-eq}
