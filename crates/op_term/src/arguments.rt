@@ -18,12 +18,7 @@ impl Node {
 }
 
 /// Pushes the places of a term's arguments on a stack, the last argument on top.
-pub fn push_args<T: Tree>(
-    tree: &T,
-    at: &T::At,
-    n: u64,
-    todo: &mut Vec<T::At>,
-) -> Result<(), Memory>
+pub fn push_args<T: Tree>(tree: &T, at: &T::At, n: u64, todo: &mut Vec<T::At>) -> Result<(), Memory>
     requires place { T.IsPlace tree.now at.now }
     requires count { n ≡ arity (args_of (T.term tree.now at.now)) }
     requires todo { All (λ p. T.IsPlace tree.now p) todo.old.items }

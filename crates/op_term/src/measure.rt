@@ -46,12 +46,7 @@ pub fn is_ground<T: Tree>(
 }
 
 /// How many nodes a term has, at a step for each. Where fewer are left, all of them are taken.
-pub fn size<T: Tree>(
-    alloc: Global,
-    tree: &T,
-    at: &T::At,
-    fuel: &mut Fuel,
-) -> Result<u64, WalkFault>
+pub fn size<T: Tree>(alloc: Global, tree: &T, at: &T::At, fuel: &mut Fuel) -> Result<u64, WalkFault>
     requires { T.IsPlace tree.now at.now }
     ensures value { IfOk result (λ n. n ≡ node_count (T.term tree.now at.now)) }
     ensures paid { OnOk result (fuel.old ≡ fuel.new + node_count (T.term tree.now at.now)) }

@@ -55,7 +55,13 @@ pub fn order(
     text: &str,
 ) -> Result<(), Memory> {
     let mut symbols = Symbols::new(alloc);
-    match read_term(alloc, &table.ops, table.quotes, &mut symbols, &ended(alloc, text)?) {
+    match read_term(
+        alloc,
+        &table.ops,
+        table.quotes,
+        &mut symbols,
+        &ended(alloc, text)?,
+    ) {
         Ok(Reading::Term(read)) => add_order(alloc, line, &symbols, &read.term, steps),
         _ => Ok(line.push_str("no term")?),
     }
@@ -105,12 +111,7 @@ fn add_ground(
 }
 
 // The size of an equation's value once its sides are unified, and whether the value has no variable.
-fn size_read(
-    alloc: Global,
-    line: &mut String,
-    read: &Read,
-    steps: u64,
-) -> Result<(), Memory>
+fn size_read(alloc: Global, line: &mut String, read: &Read, steps: u64) -> Result<(), Memory>
     requires { HasVariables read.now.vars read.now.term read.now.names }
 {
     let mut bindings = Bindings::new(alloc);
@@ -130,7 +131,13 @@ pub fn sizes(
     text: &str,
 ) -> Result<(), Memory> {
     let mut symbols = Symbols::new(alloc);
-    match read_term(alloc, &table.ops, table.quotes, &mut symbols, &ended(alloc, text)?) {
+    match read_term(
+        alloc,
+        &table.ops,
+        table.quotes,
+        &mut symbols,
+        &ended(alloc, text)?,
+    ) {
         Ok(Reading::Term(read)) => size_read(alloc, line, &read, steps),
         _ => Ok(line.push_str("no term")?),
     }
@@ -186,7 +193,13 @@ pub fn copy(
     text: &str,
 ) -> Result<(), Memory> {
     let mut symbols = Symbols::new(alloc);
-    match read_term(alloc, &table.ops, table.quotes, &mut symbols, &ended(alloc, text)?) {
+    match read_term(
+        alloc,
+        &table.ops,
+        table.quotes,
+        &mut symbols,
+        &ended(alloc, text)?,
+    ) {
         Ok(Reading::Term(read)) => copy_read(alloc, line, &symbols, &read, steps),
         _ => Ok(line.push_str("no term")?),
     }
