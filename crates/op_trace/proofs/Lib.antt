@@ -1,3 +1,4 @@
+pub mod FollowedBodies
 pub mod WalkBarriers
 pub mod WalkRows
 pub mod WalkSteps

@@ -70,3 +70,12 @@ pub record Conversion : Type 0 where
 
 abbrev pub converted : Bindings Text → Term Text → Conversion
 converted σ t = record { body = option_map term_of (divided σ t).tree; steps = (divided σ t).steps }
+
+-- a body with bindings applied to its parts, and what a term comes to with them
+abbrev pub body_under : Bindings Text → Body → Body
+body_under σ (goal t) = goal (apply σ t)
+body_under σ (call t) = call (apply σ t)
+body_under σ (control f a b) = control f (body_under σ a) (body_under σ b)
+
+abbrev pub division_under : Bindings Text → Division → Division
+division_under σ d = record { tree = option_map (body_under σ) d.tree; steps = d.steps }

@@ -1,5 +1,5 @@
 -- Small bodies.
-use Rattle.std.specs.Prelude.{◌≡◌, ℕ, pos, [], ◌∷◌, Some, None, codes, refl}
+use Rattle.std.specs.Prelude.{◌≡◌, pos, [], ◌∷◌, Some, None, codes, refl}
 use Rattle.op_logic.specs.Term.{Term, var, int, node, atom, no_args, arg}
 use Rattle.op_logic.specs.Bind.{Bindings}
 use Rattle.op_trace.specs.Database.{Text}
