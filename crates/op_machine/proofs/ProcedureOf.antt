@@ -6,7 +6,7 @@ use Rattle.op_term.specs.Head.{head}
 use Rattle.op_term.specs.declared.node.Node.{Node}
 use Rattle.op_term.specs.declared.node.Node.TheVariants as nodes
 use Rattle.op_store.specs.declared.procedures.pi.Pi.{Pi}
-use Rattle.op_store.specs.Rows.{pi_of, clause_named}
+use Rattle.op_store.specs.NumberedProcedures.{pi_of, clause_named}
 use Rattle.op_store.specs.Stored.{Stored, database_of}
 use Rattle.op_logic.specs.Names.{named}
 use Rattle.op_bind.specs.declared.places.Clause.{Clause as NumberedClause}

@@ -7,7 +7,7 @@ use Rattle.op_trace.specs.Database.{Text, Clause}
 use Rattle.op_trace.specs.Visit.{Inside, Clauses, Tried}
 use Rattle.op_store.specs.declared.procedures.pi.Pi.{Pi}
 use Rattle.op_store.specs.Stored.{Stored}
-use Rattle.op_store.specs.Rows.{clause_named, IsNumberedClause}
+use Rattle.op_store.specs.NumberedProcedures.{clause_named, IsNumberedClause}
 
 abbrev pub goal_named : Stored → Term ℕ → Term Text
 goal_named t g = named t.names g

@@ -10,7 +10,7 @@ ghost use Rattle.op_store.specs.Snapshots.{snapshot_clauses};
 ghost use Rattle.op_trace.specs.Visit.{is_true};
 ghost use Rattle.op_logic.specs.Term.{Term};
 ghost use Rattle.op_term.specs.Head.{head};
-ghost use Rattle.op_store.specs.Rows.{pi_of as the_pi};
+ghost use Rattle.op_store.specs.NumberedProcedures.{pi_of as the_pi};
 ghost use Rattle.op_machine.specs.declared.core_state.Step.TheVariants as step;
 
 use crate::continuations::Item;

@@ -9,7 +9,7 @@ use Rattle.op_store.specs.Fault.{Fault}
 use Rattle.op_store.specs.Load.{Query, Found, Loaded, loaded, stopped, load_text, goal_of, goal_in, goal_bytes, goal_outcome, goal_converted, line_at, fault_line, first_token, is_rest}
 use Rattle.op_store.specs.Fault as fault
 use Rattle.op_store.specs.Fault.{locked}
-use Rattle.op_store.specs.Body.{converted}
+use Rattle.op_trace.specs.Body.{converted}
 use Rattle.op_store.specs.Queries.{fault_named, IsKnownFault, IsSoundLoadFault, TellsGoal, TellsLoad}
 use Rattle.op_store.specs.Stored.{Stored, database_of}
 use Rattle.op_store.specs.declared.loading.load_fault.LoadFault.{LoadFault}
@@ -160,8 +160,8 @@ outcome-fault bytes (reading.refused place kind) f e =
     let q : record { line = fault_line 1 bytes place; fault = fault.syntax kind } ≡ f = cc in subst (λ (x : Found). IsNoLock x.fault) q tt
 outcome-fault bytes (reading.term t names used) f e =
     let line = line_at 1 bytes (first_token bytes) in
-    read-fault (is_rest (drop used bytes)) line (goal_converted line t names (converted t).body) f
-    (λ f h. converted-fault line t names (converted t).body f h) e
+    read-fault (is_rest (drop used bytes)) line (goal_converted line t names (converted [] t).body) f
+    (λ f h. converted-fault line t names (converted [] t).body f h) e
 
 goal-no-lock : (table : Table) (quotes : DoubleQuotes) (text : List ℕ) (f : Found) → goal_of table quotes text ≡ Err f → IsNoLock f.fault
 unfolding goal_of goal_in

@@ -15,7 +15,7 @@ use Rattle.op_term.specs.declared.node.Node.TheVariants as nodes
 use Rattle.op_trace.specs.Database.{Text}
 use Rattle.op_bind.specs.declared.places.Clause.{Clause as NumberedClause}
 use Rattle.op_store.specs.declared.procedures.pi.Pi.{Pi}
-use Rattle.op_store.specs.Rows.{Rows, all_numbered_clauses, IsNumberedClause, AreRows}
+use Rattle.op_store.specs.NumberedProcedures.{NumberedProcedures, all_numbered_clauses, IsNumberedClause, AreNumberedProcedures}
 use Rattle.op_trace.specs.Database.{name_arity, indicator_of_term, Database, procedure_in}
 use Rattle.op_session.specs.Runnable.{is_goal, is_control_pair_name, is_control_pair, is_runnable, all_runnable}
 
@@ -104,10 +104,12 @@ list_all-map p f (x ∷ xs) = ap (λ (b : Bool). p (f x) && b) (list_all-map p f
 bodies-named : (n : ℕ) (k : Pi) (rs : List NumberedClause) → All (λ (r : NumberedClause). IsNumberedClause n k r) rs → All (λ (r : NumberedClause). HasNames n r.body) rs
 bodies-named n k rs all i d h = (all i d h).body_names
 
-pub rows-bodies : (n : ℕ) (rows : Rows) → AreRows n rows → All (λ (r : NumberedClause). HasNames n r.body) (all_numbered_clauses rows)
-rows-bodies n [] h = λ i d l. absurd (omega (arith, l))
-rows-bodies n (e ∷ es) h =
-    All-append (λ (r : NumberedClause). HasNames n r.body) e.1.clauses (all_numbered_clauses es) (bodies-named n e.0 e.1.clauses h.0.clauses) (rows-bodies n es h.1)
+pub procedures-bodies : (n : ℕ) (ps : NumberedProcedures) → AreNumberedProcedures n ps
+    → All (λ (r : NumberedClause). HasNames n r.body) (all_numbered_clauses ps)
+procedures-bodies n [] h = λ i d l. absurd (omega (arith, l))
+procedures-bodies n (e ∷ es) h =
+    All-append (λ (r : NumberedClause). HasNames n r.body) e.1.clauses (all_numbered_clauses es)
+    (bodies-named n e.0 e.1.clauses h.0.clauses) (procedures-bodies n es h.1)
 
 and-turned : (a b : Bool) → (a && (b && true)) ≡ (b && a)
 and-turned true true = refl

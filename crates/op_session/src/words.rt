@@ -1,5 +1,5 @@
 ghost use Rattle.std.specs.Prelude.{◌≡◌, ◌++◌, ◌<◌, length, IfOk, OnOk};
-ghost use Rattle.op_store.specs.Rows.{indicator_named};
+ghost use Rattle.op_store.specs.NumberedProcedures.{indicator_named};
 ghost use Rattle.op_store.specs.Queries.{fault_named, IsKnownFault};
 ghost use Rattle.op_session.specs.Words.{kind_word as the_kind, indicator_text as the_indicator, fault_words as the_words, load_line as the_line};
 

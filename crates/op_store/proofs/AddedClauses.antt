@@ -12,7 +12,8 @@ use Rattle.op_trace.specs.Database.{Indicator, indicator_of_term, Database, Proc
 use Rattle.op_store.specs.Locked.{is_locked}
 use Rattle.op_store.specs.Fault.{locked}
 use Rattle.op_store.specs.Clauses.{with_parts}
-use Rattle.op_store.specs.Rows.{Rows, row_in, with_row, extended_row, pi_of, indicator_named, clause_named, rows_named}
+use Rattle.op_store.specs.NumberedProcedures.{NumberedProcedures, numbered_procedure_in, with_numbered_procedure, extended_numbered, pi_of}
+use Rattle.op_store.specs.NumberedProcedures.{indicator_named, clause_named, procedures_named}
 use Rattle.op_store.specs.Stored.{Stored, database_of, with_numbered_clause}
 use Rattle.op_store.proofs.NamedProcedures.{found-named, put-named, extended-named}
 
@@ -45,14 +46,14 @@ parts-joined l w h n ok k ob b ek eb e =
 pub world-joins : (s : Stored) (k : Pi) (r : NumberedClause) → IsTable s.names
     → with_clause (database_of s) (indicator_named s.names k) (clause_named s.names r) ≡ database_of (with_numbered_clause s k r)
 world-joins s k r t =
-    let rows : Rows = s.rows in
-    let put : with_procedure (rows_named s.names rows) (indicator_named s.names k)
-    (extended (procedure_in (rows_named s.names rows) (indicator_named s.names k)) (clause_named s.names r))
-    ≡ rows_named s.names (with_row rows k (extended_row (row_in rows k) r)) =
-    ap (λ (o : Option Procedure). with_procedure (rows_named s.names rows) (indicator_named s.names k)
-    (extended o (clause_named s.names r))) (found-named s.names t rows k)
-    ∙ (ap (with_procedure (rows_named s.names rows) (indicator_named s.names k)) (extended-named s.names (row_in rows k) r)
-    ∙ put-named s.names t rows k (extended_row (row_in rows k) r)) in
+    let ps : NumberedProcedures = s.procedures in
+    let put : with_procedure (procedures_named s.names ps) (indicator_named s.names k)
+    (extended (procedure_in (procedures_named s.names ps) (indicator_named s.names k)) (clause_named s.names r))
+    ≡ procedures_named s.names (with_numbered_procedure ps k (extended_numbered (numbered_procedure_in ps k) r)) =
+    ap (λ (o : Option Procedure). with_procedure (procedures_named s.names ps) (indicator_named s.names k)
+    (extended o (clause_named s.names r))) (found-named s.names t ps k)
+    ∙ (ap (with_procedure (procedures_named s.names ps) (indicator_named s.names k)) (extended-named s.names (numbered_procedure_in ps k) r)
+    ∙ put-named s.names t ps k (extended_numbered (numbered_procedure_in ps k) r)) in
     ap (λ (ps : List (Indicator × Procedure)).
     let w : Database = record { procedures = ps; next = suc s.next; table = s.table; flags = s.flags } in w) put
 

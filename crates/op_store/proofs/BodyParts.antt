@@ -5,7 +5,7 @@ use Rattle.op_logic.specs.Names.{name_at, named}
 use Rattle.op_term.specs.Head.{head, sym as name}
 use Rattle.op_term.specs.declared.symbols.Sym.{Sym}
 use Rattle.op_term.specs.declared.node.Node.TheVariants as nodes
-use Rattle.op_store.specs.Body.{part_of_term, part_of_pair}
+use Rattle.op_store.specs.inner.BodyParts.{part_of_term, part_of_pair}
 use Rattle.op_store.specs.declared.bodies.body_part.Part.TheVariants as parts
 
 pub of-pair : (names : List (List ℕ)) (t : Term ℕ) (f : Sym) (n : ℕ) → nodes.Struct f n ≡ head t → n ≡ 2

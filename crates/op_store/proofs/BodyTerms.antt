@@ -10,7 +10,7 @@ use Rattle.op_logic.specs.Names.{name_at, named}
 use Rattle.op_term.specs.Places.{term_at, args_at}
 use Rattle.op_term.specs.inner.Cells.{AllBelow}
 use Rattle.std.proofs.Math.Seq.{get_or-append_seam}
-use Rattle.op_store.specs.Body.{Body, control, term_of}
+use Rattle.op_trace.specs.Body.{Body, control, term_of}
 use Rattle.op_store.specs.Nodes.{leaves}
 use Rattle.op_store.specs.inner.Walk.{needs, took, read}
 use Rattle.op_store.specs.inner.Converted.{AreControlNames, texts_at, paired, called}

@@ -1,5 +1,6 @@
 -- A conversion adds no name that is not in the table, and no variable.
-use Rattle.std.proofs.Common.{◌≡◌, ℕ, suc, ◌+◌, ◌<◌, ◌≤◌, List, [], ◌∷◌, length, get_or, Option, Some, None, All, sym, subst, arith}
+use Rattle.std.proofs.Common.{◌≡◌, ℕ, suc, ◌+◌, ◌<◌, ◌≤◌, Bool, true, false, cond, List, [], ◌∷◌, length, get_or, Option, Some, None, All}
+use Rattle.std.proofs.Common.{sym, subst, arith}
 use Rattle.std.specs.Prelude.{option_map, codes, IfSome}
 use Rattle.op_logic.specs.Term.{Term, var, int, node, Args, no_args, arg, IsWithin, ArgsWithin, rename_args}
 use Rattle.op_store.specs.Counted.{variable_count, args_variable_count}
@@ -7,10 +8,7 @@ use Rattle.op_logic.specs.Names.{name_at, named, IsTable, HasNames, ArgsHaveName
 use Rattle.op_logic.proofs.BoolCases.{by_order}
 use Rattle.op_logic.proofs.NameTables.{name_at-below, name_at-past}
 use Rattle.op_trace.specs.Database.{Text}
-use Rattle.op_store.specs.declared.bodies.body_part.Part.{Part}
-use Rattle.op_store.specs.declared.bodies.body_part.Part.TheVariants as parts
-use Rattle.op_store.specs.Body.{Body, goal, Division, one_step, part_of_pair, joined, of_part, compound, divided, divisions, term_of}
-use Rattle.op_store.specs.Body.{converted}
+use Rattle.op_trace.specs.Body.{Body, goal, Division, one_step, has_parts, joined, compound, divided, divisions_by, term_of, converted}
 
 abbrev AreBytes : List ℕ → Type 0
 AreBytes [] = Unit {0}
@@ -95,30 +93,26 @@ joined-fits-on n f None b i j h ha hb = tt
 joined-fits-on n f (Some t) None i j h ha hb = tt
 joined-fits-on n f (Some t) (Some u) i j h ha hb = (h, (ha, (hb, tt)))
 
-part-fits : (n : ℕ) (p : Part) (whole control : Division) → BodyFits n whole → BodyFits n control → BodyFits n (of_part p whole control)
-part-fits n parts.Conjunction whole control w c = c
-part-fits n parts.Disjunction whole control w c = c
-part-fits n parts.IfThen whole control w c = c
-part-fits n parts.Variable whole control w c = c
-part-fits n parts.Goal whole control w c = w
-part-fits n parts.Number whole control w c = c
+either-fits : (n : ℕ) (b : Bool) (control whole : Division) → BodyFits n control → BodyFits n whole → BodyFits n (cond b control whole)
+either-fits n true control whole c w = c
+either-fits n false control whole c w = w
 
-compound-fits : (n : ℕ) (f : Text) (ts : Args Text) (ds : List Division) → Fits n (node f ts) → BodiesFit n ds
-    → BodyFits n (compound f ts ds)
-compound-fits n f ts [] h g = h
-compound-fits n f ts (a ∷ []) h g = h
-compound-fits n f ts (a ∷ b ∷ []) h g =
-    part-fits n (part_of_pair f) (one_step (Some (goal (node f ts)))) (joined f a b) h
-    (joined-fits-on n f a.tree b.tree a.steps b.steps h.0 g.0 g.1.0)
-compound-fits n f ts (a ∷ b ∷ c ∷ ds) h g = h
+compound-fits : (n : ℕ) (f : Text) (whole : Term Text) (ds : List Division) → AreBytes f → Fits n whole → BodiesFit n ds
+    → BodyFits n (compound f whole ds)
+compound-fits n f whole [] h w g = w
+compound-fits n f whole (a ∷ []) h w g = w
+compound-fits n f whole (a ∷ b ∷ []) h w g =
+    either-fits n (has_parts f) (joined f a b) (one_step (Some (goal whole)))
+    (joined-fits-on n f a.tree b.tree a.steps b.steps h g.0 g.1.0) w
+compound-fits n f whole (a ∷ b ∷ c ∷ ds) h w g = w
 
 mutual
-  divided-fits : (n : ℕ) (t : Term Text) → Fits n t → BodyFits n (divided t)
+  divided-fits : (n : ℕ) (t : Term Text) → Fits n t → BodyFits n (divided [] t)
   divided-fits n (var v) h = (call-fits, (h, tt))
   divided-fits n (int i) h = tt
-  divided-fits n (node f ts) h = compound-fits n f ts (divisions ts) h (divisions-fit n ts h.1)
+  divided-fits n (node f ts) h = compound-fits n f (node f ts) (divisions_by ts [] ts) h.0 h (divisions-fit n ts h.1)
 
-  divisions-fit : (n : ℕ) (ts : Args Text) → ArgsFit n ts → BodiesFit n (divisions ts)
+  divisions-fit : (n : ℕ) (ts : Args Text) → ArgsFit n ts → BodiesFit n (divisions_by ts [] ts)
   divisions-fit n no_args h = tt
   divisions-fit n (arg t ts) h = (divided-fits n t h.0, divisions-fit n ts h.1)
 
@@ -126,8 +120,8 @@ term-fits : (n : ℕ) (o : Option Body) → IfSome o (λ b. Fits n (term_of b)) 
 term-fits n None h = tt
 term-fits n (Some b) h = h
 
-pub converted-fits : (n : ℕ) (t : Term Text) → Fits n t → IfSome (converted t).body (λ b. Fits n b)
-converted-fits n t h = term-fits n (divided t).tree (divided-fits n t h)
+pub converted-fits : (n : ℕ) (t : Term Text) → Fits n t → IfSome (converted [] t).body (λ b. Fits n b)
+converted-fits n t h = term-fits n (divided [] t).tree (divided-fits n t h)
 
 some-named : (names : List Text) (P : Term ℕ → Type 0) (Q : Term Text → Type 0) (o : Option (Term ℕ)) (r : Option (Term Text))
     → ((t : Term ℕ) → Q (named names t) → P t) → option_map (named names) o ≡ r → IfSome r Q → IfSome o P
@@ -149,15 +143,15 @@ within-count t n h = count-within t n h
 
 -- the body's names are in the table
 pub converted-has : (names : List Text) (t : Term ℕ) (o : Option (Term ℕ)) → IsTable names → HasNames (length names) t
-    → option_map (named names) o ≡ (converted (named names t)).body → IfSome o (HasNames (length names))
+    → option_map (named names) o ≡ (converted [] (named names t)).body → IfSome o (HasNames (length names))
 converted-has names t o table h e =
     let n : ℕ = variable_count t in
-    some-named names (HasNames (length names)) (Fits n) o (converted (named names t)).body (fits-has names n) e
+    some-named names (HasNames (length names)) (Fits n) o (converted [] (named names t)).body (fits-has names n) e
     (converted-fits n (named names t) (fits-named names n t table h (within-count t n (omega arith))))
 
 -- its variables are among the term's
 pub converted-within : (names : List Text) (t : Term ℕ) (o : Option (Term ℕ)) → IsTable names → HasNames (length names) t
-    → option_map (named names) o ≡ (converted (named names t)).body → (n : ℕ) → IsWithin n t → IfSome o (IsWithin n)
+    → option_map (named names) o ≡ (converted [] (named names t)).body → (n : ℕ) → IsWithin n t → IfSome o (IsWithin n)
 converted-within names t o table h e n w =
-    some-named names (IsWithin n) (Fits n) o (converted (named names t)).body (fits-within names n) e
+    some-named names (IsWithin n) (Fits n) o (converted [] (named names t)).body (fits-within names n) e
     (converted-fits n (named names t) (fits-named names n t table h w))

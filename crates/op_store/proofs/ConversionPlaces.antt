@@ -4,7 +4,8 @@ use Rattle.std.specs.Prelude.{option_map}
 use Rattle.std.proofs.lemmas.List.Elements.{All-push}
 use Rattle.op_logic.specs.Term.{Term, args_of, nth_arg, arity}
 use Rattle.op_logic.specs.Names.{named, HasNames}
-use Rattle.op_store.specs.Body.{part_of_term, Body, goal, call, control, divided}
+use Rattle.op_trace.specs.Body.{Body, goal, call, control, divided}
+use Rattle.op_store.specs.inner.BodyParts.{part_of_term}
 use Rattle.op_store.specs.Nodes.{leaves}
 use Rattle.op_store.specs.inner.Walk.{took, read, Left, left_of, step_before, refused}
 use Rattle.op_store.specs.declared.bodies.body_part.Part.{Part}
@@ -85,8 +86,8 @@ module _ {P : Type 0} (names : List (List ℕ)) (term : P → Term ℕ) (IsPlace
 
   -- between two parts: the whole is what is left, with the steps that were made
   pub record IsWalk (at : P) (start now : ℕ) (met : List (BodyNode P)) (todo : List P) : Type 0 where
-    pub bodies : (left_of text met todo).bodies ≡ option_map (λ t. Some (t ∷ [])) (divided (text at)).tree
-    pub steps : start + (left_of text met todo).steps ≡ now + (divided (text at)).steps
+    pub bodies : (left_of text met todo).bodies ≡ option_map (λ t. Some (t ∷ [])) (divided [] (text at)).tree
+    pub steps : start + (left_of text met todo).steps ≡ now + (divided [] (text at)).steps
     pub falls : now ≤ start
     pub todo_good : All IsGood todo
     pub met_good : All IsGood (leaves met)
@@ -119,7 +120,7 @@ module _ {P : Type 0} (names : List (List ℕ)) (term : P → Term ℕ) (IsPlace
   walk-next at start now met todo next w = last-of todo next w.todo_good
 
   pub walk-spent : (at : P) (start now : ℕ) (met : List (BodyNode P)) (todo : List P) (next : P) → now < 1
-      → IsWalk at start now met (todo ++ next ∷ []) → start < (divided (text at)).steps
+      → IsWalk at start now met (todo ++ next ∷ []) → start < (divided [] (text at)).steps
   walk-spent at start now met todo next h w = omega (arith, w.steps, left-some text met todo next)
 
   no-body : (o : Option Body) → option_map (λ t. Some (t ∷ [])) o ≡ None → o ≡ None
@@ -128,12 +129,12 @@ module _ {P : Type 0} (names : List (List ℕ)) (term : P → Term ℕ) (IsPlace
 
   pub walk-refused : (at : P) (start now spent : ℕ) (met : List (BodyNode P)) (todo : List P) (next : P) → now ≡ spent + 1
       → left_of text met (todo ++ next ∷ []) ≡ refused
-      → IsWalk at start now met (todo ++ next ∷ []) → ((divided (text at)).tree ≡ None) × (start ≡ spent + (divided (text at)).steps)
+      → IsWalk at start now met (todo ++ next ∷ []) → ((divided [] (text at)).tree ≡ None) × (start ≡ spent + (divided [] (text at)).steps)
   walk-refused at start now spent met todo next e r w =
       let k : (left_of text met (todo ++ next ∷ [])).steps ≡ 1 = ap (λ (l : Left). l.steps) r in
-      (no-body (divided (text at)).tree (sym w.bodies ∙ ap (λ (l : Left). l.bodies) r), omega (arith, k, w.steps))
+      (no-body (divided [] (text at)).tree (sym w.bodies ∙ ap (λ (l : Left). l.bodies) r), omega (arith, k, w.steps))
 
   pub walk-ends : (at : P) (start now : ℕ) (met : List (BodyNode P)) → IsWalk at start now met []
-      → (option_map (λ t. Some (t ∷ [])) (divided (text at)).tree ≡ Some (read text met (Some [])))
-      × (start ≡ now + (divided (text at)).steps)
+      → (option_map (λ t. Some (t ∷ [])) (divided [] (text at)).tree ≡ Some (read text met (Some [])))
+      × (start ≡ now + (divided [] (text at)).steps)
   walk-ends at start now met w = (sym w.bodies, omega (arith, w.steps))

@@ -1,13 +1,14 @@
 -- A walk over the parts of a body, one part after the other.
 use Rattle.std.proofs.Common.{◌≡◌, ◌≢◌, ℕ, zero, suc, ◌+◌, ◌<◌, cond, Bool, true, false, List, [], ◌∷◌, ◌++◌, map, reverse, Option, Some}
 use Rattle.std.proofs.Common.{None, All, refl, sym, ap, ◌∙◌, subst, arith}
-use Rattle.std.specs.Prelude.{option_map, option_and_then, bytes_eq, codes}
+use Rattle.std.specs.Prelude.{option_map, option_and_then, bytes_eq, codes, ◌||◌}
 use Rattle.std.proofs.lemmas.List.{reverse-append}
 use Rattle.std.proofs.lemmas.List.Elements.{All-append, All-push}
 use Rattle.std.proofs.lemmas.Slice.Eq.{bytes_eq-Decides}
 use Rattle.op_logic.specs.Term.{Term, var, int, node, Args, no_args, arg, args_of, nth_arg, arity, rename, rename_args}
 use Rattle.op_logic.specs.Names.{name_at, named, HasNames, ArgsHaveNames}
-use Rattle.op_store.specs.Body.{part_of_term, part_of_pair, Body, goal, call, control, Division, one_step, joined, of_part, divided}
+use Rattle.op_trace.specs.Body.{Body, goal, call, control, Division, one_step, has_parts, joined, divided}
+use Rattle.op_store.specs.inner.BodyParts.{part_of_term, part_of_pair}
 use Rattle.op_store.specs.Nodes.{leaves}
 use Rattle.op_store.specs.inner.Walk.{Bodies, with_first, bodies_of, took, read, Left, left_of, step_before, refused}
 use Rattle.op_store.specs.declared.bodies.body_part.Part.{Part}
@@ -55,13 +56,26 @@ IsControl parts.Disjunction = Unit {0}
 IsControl parts.IfThen = Unit {0}
 IsControl p = ⊥
 
-control-of_part : (p : Part) (c d : Division) → IsControl p → of_part p c d ≡ d
-control-of_part parts.Conjunction c d h = refl
-control-of_part parts.Disjunction c d h = refl
-control-of_part parts.IfThen c d h = refl
-control-of_part parts.Variable c d h = absurd h
-control-of_part parts.Goal c d h = absurd h
-control-of_part parts.Number c d h = absurd h
+-- their names are those that have parts
+control-cond : (a b c : Bool) (p : Part) → cond a parts.Conjunction (cond b parts.Disjunction (cond c parts.IfThen parts.Goal)) ≡ p
+    → IsControl p → (a || (b || c)) ≡ true
+control-cond true b c p e h = refl
+control-cond false true c p e h = refl
+control-cond false false true p e h = refl
+control-cond false false false p e h = let Q : Part → Type 0 = IsControl in absurd (subst Q (sym e) h)
+
+control-has : (f : List ℕ) (p : Part) → part_of_pair f ≡ p → IsControl p → has_parts f ≡ true
+control-has f p e h = control-cond (bytes_eq f (codes ",")) (bytes_eq f (codes ";")) (bytes_eq f (codes "->")) p e h
+
+goal-cond : (a b c : Bool) → cond a parts.Conjunction (cond b parts.Disjunction (cond c parts.IfThen parts.Goal)) ≡ parts.Goal
+    → (a || (b || c)) ≡ false
+goal-cond true b c e = absurd cc
+goal-cond false true c e = absurd cc
+goal-cond false false true e = absurd cc
+goal-cond false false false e = refl
+
+goal-has : (f : List ℕ) → part_of_pair f ≡ parts.Goal → has_parts f ≡ false
+goal-has f e = goal-cond (bytes_eq f (codes ",")) (bytes_eq f (codes ";")) (bytes_eq f (codes "->")) e
 
 not-goal : (t : T) (p : Part) → part_of_term t ≡ p → IsControl p → part_of_term t ≢ parts.Goal
 not-goal t parts.Conjunction e h g = cc
@@ -88,19 +102,19 @@ control-two (node f (arg a (arg b (arg c ts)))) p e h = absurd (not-goal (node f
 
 -- and is divided by them
 pub control-divided : (t a b : T) (p : Part) → part_of_term t ≡ p → IsControl p → a ≡ nth_arg (args_of t) 0 → b ≡ nth_arg (args_of t) 1
-    → divided t ≡ joined (control_name p []) (divided a) (divided b)
+    → divided [] t ≡ joined (control_name p []) (divided [] a) (divided [] b)
 control-divided (var v) a b p e h ea eb = absurd (not-variable p h (sym e))
 control-divided (int i) a b p e h ea eb = absurd (not-number p h (sym e))
 control-divided (node f no_args) a b p e h ea eb = absurd (not-goal (node f no_args) p e h refl)
 control-divided (node f (arg x no_args)) a b p e h ea eb = absurd (not-goal (node f (arg x no_args)) p e h refl)
 control-divided (node f (arg x (arg y no_args))) a b p e h ea eb =
     let g : Division = one_step (Some (goal (node f (arg x (arg y no_args))))) in
-    let j : Division = joined f (divided x) (divided y) in
-    let one : divided (node f (arg x (arg y no_args))) ≡ j = ap (λ (q : Part). of_part q g j) e ∙ control-of_part p g j h in
+    let j : Division = joined f (divided [] x) (divided [] y) in
+    let one : divided [] (node f (arg x (arg y no_args))) ≡ j = ap (λ (c : Bool). cond c j g) (control-has f p e h) in
     let n : f ≡ control_name p [] = part_of_pair-named f ∙ (ap (λ (q : Part). control_name q f) e ∙ same p f h) in
-    one ∙ (ap (λ (k : List ℕ). joined k (divided x) (divided y)) n
-    ∙ (ap (λ (u : T). joined (control_name p []) (divided u) (divided y)) (sym ea)
-    ∙ ap (λ (u : T). joined (control_name p []) (divided a) (divided u)) (sym eb)))
+    one ∙ (ap (λ (k : List ℕ). joined k (divided [] x) (divided [] y)) n
+    ∙ (ap (λ (u : T). joined (control_name p []) (divided [] u) (divided [] y)) (sym ea)
+    ∙ ap (λ (u : T). joined (control_name p []) (divided [] a) (divided [] u)) (sym eb)))
   where
     same : (p : Part) (f : List ℕ) → IsControl p → control_name p f ≡ control_name p []
     same parts.Conjunction f h = refl
@@ -112,16 +126,17 @@ control-divided (node f (arg x (arg y no_args))) a b p e h ea eb =
 control-divided (node f (arg x (arg y (arg z ts)))) a b p e h ea eb = absurd (not-goal (node f (arg x (arg y (arg z ts)))) p e h refl)
 
 -- other parts are divided by themselves
-pub goal-divided : (t : T) → part_of_term t ≡ parts.Goal → divided t ≡ one_step (Some (goal t))
+pub goal-divided : (t : T) → part_of_term t ≡ parts.Goal → divided [] t ≡ one_step (Some (goal t))
 goal-divided (var v) e = absurd cc
 goal-divided (int i) e = absurd cc
 goal-divided (node f no_args) e = refl
 goal-divided (node f (arg a no_args)) e = refl
 goal-divided (node f (arg a (arg b no_args))) e =
-    ap (λ (q : Part). of_part q (one_step (Some (goal (node f (arg a (arg b no_args)))))) (joined f (divided a) (divided b))) e
+    ap (λ (c : Bool). cond c (joined f (divided [] a) (divided [] b)) (one_step (Some (goal (node f (arg a (arg b no_args)))))))
+    (goal-has f e)
 goal-divided (node f (arg a (arg b (arg c ts)))) e = refl
 
-pub variable-divided : (t : T) → part_of_term t ≡ parts.Variable → divided t ≡ one_step (Some (call t))
+pub variable-divided : (t : T) → part_of_term t ≡ parts.Variable → divided [] t ≡ one_step (Some (call t))
 variable-divided (var v) e = refl
 variable-divided (int i) e = absurd cc
 variable-divided (node f no_args) e = absurd cc
@@ -129,7 +144,7 @@ variable-divided (node f (arg a no_args)) e = absurd cc
 variable-divided (node f (arg a (arg b no_args))) e = absurd ((part_of_pair-none f).0 e)
 variable-divided (node f (arg a (arg b (arg c ts)))) e = absurd cc
 
-pub number-divided : (t : T) → part_of_term t ≡ parts.Number → divided t ≡ one_step None
+pub number-divided : (t : T) → part_of_term t ≡ parts.Number → divided [] t ≡ one_step None
 number-divided (var v) e = absurd cc
 number-divided (int i) e = refl
 number-divided (node f no_args) e = absurd cc
@@ -142,22 +157,18 @@ joined-some : (f : List ℕ) (o : Option Body) (m : ℕ) (b : Division) → 0 < 
 joined-some f None m b = omega arith
 joined-some f (Some t) m b = omega arith
 
-of_part-some : (p : Part) (c d : Division) → 0 < c.steps → 0 < d.steps → 0 < (of_part p c d).steps
-of_part-some parts.Conjunction c d h k = k
-of_part-some parts.Disjunction c d h k = k
-of_part-some parts.IfThen c d h k = k
-of_part-some parts.Variable c d h k = k
-of_part-some parts.Goal c d h k = h
-of_part-some parts.Number c d h k = k
+either-some : (b : Bool) (c d : Division) → 0 < c.steps → 0 < d.steps → 0 < (cond b c d).steps
+either-some true c d h k = h
+either-some false c d h k = k
 
-pub divided-some : (t : T) → 0 < (divided t).steps
+pub divided-some : (t : T) → 0 < (divided [] t).steps
 divided-some (var v) = omega arith
 divided-some (int i) = omega arith
 divided-some (node f no_args) = omega arith
 divided-some (node f (arg a no_args)) = omega arith
 divided-some (node f (arg a (arg b no_args))) =
-    of_part-some (part_of_pair f) (one_step (Some (goal (node f (arg a (arg b no_args)))))) (joined f (divided a) (divided b)) (omega arith)
-    (joined-some f (divided a).tree (divided a).steps (divided b))
+    either-some (has_parts f) (joined f (divided [] a) (divided [] b)) (one_step (Some (goal (node f (arg a (arg b no_args))))))
+    (joined-some f (divided [] a).tree (divided [] a).steps (divided [] b)) (omega arith)
 divided-some (node f (arg a (arg b (arg c ts)))) = omega arith
 
 left-same : (b c : Option (Option (List Body))) (m n : ℕ) → b ≡ c → m ≡ n
@@ -177,8 +188,8 @@ module _ {P : Type 0} (text : P → T) where
 
   left-next : (met : List (BodyNode P)) (todo : List P) (next : P) → left_of text met (todo ++ next ∷ [])
       ≡ record {
-        bodies = finished met (with_first (divided (text next)) (bodies_of (map text (reverse todo)))).bodies;
-        steps = (with_first (divided (text next)) (bodies_of (map text (reverse todo)))).steps;
+        bodies = finished met (with_first (divided [] (text next)) (bodies_of (map text (reverse todo)))).bodies;
+        steps = (with_first (divided [] (text next)) (bodies_of (map text (reverse todo)))).steps;
       }
   left-next met todo next =
       ap (λ (ps : List P). let b = bodies_of (map text ps) in
@@ -192,7 +203,7 @@ module _ {P : Type 0} (text : P → T) where
 
   -- a part that is a goal or a variable
   pub left-leaf : (met new : List (BodyNode P)) (todo : List P) (next : P) (x : BodyNode P) (v : Body)
-      → divided (text next) ≡ one_step (Some v)
+      → divided [] (text next) ≡ one_step (Some v)
       → ((s : List Body) → took text x s ≡ Some (v ∷ s)) → new ≡ met ++ x ∷ []
       → left_of text met (todo ++ next ∷ []) ≡ step_before (left_of text new todo)
   left-leaf met new todo next x v e h n =
@@ -203,7 +214,7 @@ module _ {P : Type 0} (text : P → T) where
       (leaf-bodies met x v r.bodies h) (omega arith)
       ∙ ap (λ (ns : List (BodyNode P)). step_before (left_of text ns todo)) (sym n)))
 
-  pub left-refused : (met : List (BodyNode P)) (todo : List P) (next : P) → divided (text next) ≡ one_step None
+  pub left-refused : (met : List (BodyNode P)) (todo : List P) (next : P) → divided [] (text next) ≡ one_step None
       → left_of text met (todo ++ next ∷ []) ≡ refused
   left-refused met todo next e =
       let r : Bodies = bodies_of (map text (reverse todo)) in
@@ -231,8 +242,9 @@ module _ {P : Type 0} (text : P → T) where
 
   left-parts : (met : List (BodyNode P)) (todo : List P) (a b : P) → left_of text met (todo ++ b ∷ a ∷ [])
       ≡ record {
-        bodies = finished met (with_first (divided (text a)) (with_first (divided (text b)) (bodies_of (map text (reverse todo))))).bodies;
-        steps = (with_first (divided (text a)) (with_first (divided (text b)) (bodies_of (map text (reverse todo))))).steps;
+        bodies = finished met
+            (with_first (divided [] (text a)) (with_first (divided [] (text b)) (bodies_of (map text (reverse todo))))).bodies;
+        steps = (with_first (divided [] (text a)) (with_first (divided [] (text b)) (bodies_of (map text (reverse todo))))).steps;
       }
   left-parts met todo a b =
       ap (λ (ps : List P). let b = bodies_of (map text ps) in
@@ -240,14 +252,14 @@ module _ {P : Type 0} (text : P → T) where
 
   -- a control construct
   pub left-pair : (met new : List (BodyNode P)) (todo more : List P) (next a b : P) (x : BodyNode P) (f : List ℕ)
-      → divided (text next) ≡ joined f (divided (text a)) (divided (text b))
+      → divided [] (text next) ≡ joined f (divided [] (text a)) (divided [] (text b))
       → ((t u : Body) (s : List Body) → took text x (t ∷ u ∷ s) ≡ Some (control f t u ∷ s)) → new ≡ met ++ x ∷ []
       → more ≡ todo ++ b ∷ a ∷ []
       → left_of text met (todo ++ next ∷ []) ≡ step_before (left_of text new more)
   left-pair met new todo more next a b x f e h n k =
       let r : Bodies = bodies_of (map text (reverse todo)) in
-      let ca : Division = divided (text a) in
-      let cb : Division = divided (text b) in
+      let ca : Division = divided [] (text a) in
+      let cb : Division = divided [] (text b) in
       left-next met todo next
       ∙ (ap (λ (c : Division). let b = with_first c r in let y : Left = record { bodies = finished met b.bodies; steps = b.steps } in y) e
       ∙ (left-same (finished met (with_first (joined f ca cb) r).bodies) (finished (met ++ x ∷ []) (with_first ca (with_first cb r)).bodies)
@@ -264,7 +276,8 @@ module _ {P : Type 0} (text : P → T) where
   pub left-some : (met : List (BodyNode P)) (todo : List P) (next : P) → 0 < (left_of text met (todo ++ next ∷ [])).steps
   left-some met todo next =
       subst (λ (l : Left). 0 < l.steps) (sym (left-next met todo next))
-      (first-some (divided (text next)).tree (divided (text next)).steps (bodies_of (map text (reverse todo))) (divided-some (text next)))
+      (first-some (divided [] (text next)).tree (divided [] (text next)).steps (bodies_of (map text (reverse todo)))
+      (divided-some (text next)))
 
   -- the walk begins with the whole
   start-bodies : (o : Option Body) (m : ℕ) → finished []
@@ -277,9 +290,9 @@ module _ {P : Type 0} (text : P → T) where
   start-steps (Some t) m = omega arith
 
   pub left-start : (at : P) → left_of text [] (at ∷ [])
-      ≡ record { bodies = option_map (λ t. Some (t ∷ [])) (divided (text at)).tree; steps = (divided (text at)).steps }
+      ≡ record { bodies = option_map (λ t. Some (t ∷ [])) (divided [] (text at)).tree; steps = (divided [] (text at)).steps }
   left-start at =
-      let c : Division = divided (text at) in
+      let c : Division = divided [] (text at) in
       left-same (finished [] (with_first c (bodies_of [])).bodies) (option_map (λ t. Some (t ∷ [])) c.tree)
       (with_first c (bodies_of [])).steps c.steps (start-bodies c.tree c.steps) (start-steps c.tree c.steps)
 

@@ -4,7 +4,7 @@ use Rattle.std.specs.Prelude.{option_map}
 use Rattle.std.proofs.lemmas.List.{length-take}
 use Rattle.op_logic.specs.Term.{Term, var, int, node, Args, no_args, arg}
 use Rattle.op_logic.specs.Names.{HasNames, ArgsHaveNames}
-use Rattle.op_store.specs.Body.{Body}
+use Rattle.op_trace.specs.Body.{Body}
 
 pub body-read : (o : Option Body) (r : Option (List Body)) → option_map (λ b. Some (b ∷ [])) o ≡ Some r
     → (b : Body) × ((o ≡ Some b) × (r ≡ Some (b ∷ [])))

@@ -8,7 +8,7 @@ use Rattle.op_logic.proofs.BoolCases.{if_false}
 use Rattle.op_logic.specs.Term.{Term, var, int, node, no_args, arg, size}
 use Rattle.op_logic.specs.Names.{named, HasNames}
 use Rattle.op_trace.specs.Database.{Text}
-use Rattle.op_store.specs.Body.{pair}
+use Rattle.op_trace.specs.Body.{pair}
 use Rattle.op_store.specs.Directives.{elements, conjuncts}
 use Rattle.op_store.specs.inner.Shapes.{is_pair, is_atom}
 

@@ -15,18 +15,19 @@ use Rattle.op_store.specs.declared.loading.directive.Word.{Word}
 use Rattle.op_store.specs.declared.loading.directive.Word.TheVariants as words
 use Rattle.op_store.specs.declared.names.locked.Locked.{Locked}
 use Rattle.op_store.specs.declared.procedures.pi.Pi.{Pi}
-use Rattle.op_store.specs.declared.procedures.procedure.Procedure.{Procedure as Row}
+use Rattle.op_store.specs.declared.procedures.procedure.Procedure.{Procedure as NumberedProcedure}
 use Rattle.op_trace.specs.Database.{Indicator, Database, Procedure, set_procedure, no_clauses}
 use Rattle.op_store.specs.Fault.{Fault, directive, and_then}
 use Rattle.op_store.specs.Locked.{is_locked}
 use Rattle.op_store.specs.Directives.{elements, operator_names, atom_name, atom_names, indicator, or_directive, made_dynamic, may_change}
 use Rattle.op_store.specs.Directives.{all_dynamic, all_indicate, entries, of_one, ops_set}
-use Rattle.op_store.specs.Rows.{Rows, row_in, with_row, no_numbered_clauses, pi_eq, indicator_named, row_named, rows_named, AreRows}
+use Rattle.op_store.specs.NumberedProcedures.{NumberedProcedures, numbered_procedure_in, with_numbered_procedure, no_numbered_clauses}
+use Rattle.op_store.specs.NumberedProcedures.{pi_eq, indicator_named, procedure_named, procedures_named, AreNumberedProcedures}
 use Rattle.op_store.specs.inner.Shapes.{names_of, word}
 use Rattle.op_store.specs.Stored.{Stored, database_of}
 use Rattle.op_store.proofs.NamedProcedures.{found-named, put-named}
 use Rattle.op_store.proofs.DirectiveEntries.{before, before-more}
-use Rattle.op_store.proofs.Soundness.{row-put}
+use Rattle.op_store.proofs.Soundness.{procedure-put}
 
 -- the element at an index, and those behind it
 at-next : {A : Type 0} (xs : List A) (i : ℕ) (x : A) → i < length xs → x ≡ get_or xs i x → drop i xs ≡ x ∷ drop (i + 1) xs
@@ -83,7 +84,8 @@ module _ {P : Type 0} (text : P → Term Text) where
       ap (all_indicate w) (rest-next xs i x l e) ∙ indicate-on w (rest xs (i + 1)) (indicator (text x))
       (ap is_some (sym k) ∙ (mapped-some (indicator_named names) r ∙ s))
 
-  pub indicate-refused : (names : List Text) (w : Database) (xs : List P) (i : ℕ) (x : P) (r : Option Pi) → i < length xs → x ≡ get_or xs i x
+  pub indicate-refused : (names : List Text) (w : Database) (xs : List P) (i : ℕ) (x : P) (r : Option Pi) → i < length xs
+      → x ≡ get_or xs i x
       → option_map (indicator_named names) r ≡ indicator (text x) → is_some r ≡ false
       → all_indicate w (map text (drop i xs)) ≡ Err directive
   indicate-refused names w xs i x r l e k s =
@@ -111,7 +113,8 @@ module _ {P : Type 0} (text : P → Term Text) where
   dynamic-goes l w u xs i x k h e f m =
       dynamic-met l w xs i x k h e f ∙ ap (λ (r : Result Database Fault). and_then r (λ u. all_dynamic l u (rest xs (i + 1)))) m
 
-  pub dynamic-stops : (l : Locked) (w : Database) (xs : List P) (i : ℕ) (x : P) (k : Indicator) (f : Fault) → i < length xs → x ≡ get_or xs i x
+  pub dynamic-stops : (l : Locked) (w : Database) (xs : List P) (i : ℕ) (x : P) (k : Indicator) (f : Fault) → i < length xs
+      → x ≡ get_or xs i x
       → Some k ≡ indicator (text x) → made_dynamic l w k ≡ Err f
       → all_dynamic l w (map text (drop i xs)) ≡ Err f
   dynamic-stops l w xs i x k f h e g m =
@@ -150,61 +153,67 @@ atoms-end text xs i ts l = ap (λ (ys : List _). before ts (atom_names (map text
 abbrev changed_by : Database → Indicator → Option Bool → Result Database Fault
 changed_by w k o = elim o [ None ↦ Ok (set_procedure w k no_clauses) | Some d ↦ cond d (Ok w) (Err directive) ]
 
-change-on : (names : List Text) (w : Database) (k : Indicator) (o : Option Row)
-    → may_change w k (option_map (row_named names) o) ≡ changed_by w k (option_map (λ p. p.dynamic) o)
+change-on : (names : List Text) (w : Database) (k : Indicator) (o : Option NumberedProcedure)
+    → may_change w k (option_map (procedure_named names) o) ≡ changed_by w k (option_map (λ p. p.dynamic) o)
 change-on names w k None = refl
 change-on names w k (Some p) = refl
 
 made-by : (s : Stored) (k : Pi) (is : Bool) (o : Option Bool) → IsTable s.names → is ≡ is_locked s.locked (indicator_named s.names k)
-    → is ≡ false → o ≡ option_map (λ p. p.dynamic) (row_in s.rows k)
+    → is ≡ false → o ≡ option_map (λ p. p.dynamic) (numbered_procedure_in s.procedures k)
     → made_dynamic s.locked (database_of s) (indicator_named s.names k) ≡ changed_by (database_of s) (indicator_named s.names k) o
 made-by s k is o t e n f =
     if_false (is_locked s.locked (indicator_named s.names k)) _ _ (sym e ∙ n)
-    ∙ (ap (may_change (database_of s) (indicator_named s.names k)) (found-named s.names t s.rows k)
-    ∙ (change-on s.names (database_of s) (indicator_named s.names k) (row_in s.rows k)
+    ∙ (ap (may_change (database_of s) (indicator_named s.names k)) (found-named s.names t s.procedures k)
+    ∙ (change-on s.names (database_of s) (indicator_named s.names k) (numbered_procedure_in s.procedures k)
     ∙ ap (changed_by (database_of s) (indicator_named s.names k)) (sym f)))
 
 pub made-kept : (s : Stored) (k : Pi) (is : Bool) → IsTable s.names → is ≡ is_locked s.locked (indicator_named s.names k) → is ≡ false
-    → Some true ≡ option_map (λ p. p.dynamic) (row_in s.rows k)
+    → Some true ≡ option_map (λ p. p.dynamic) (numbered_procedure_in s.procedures k)
     → made_dynamic s.locked (database_of s) (indicator_named s.names k) ≡ Ok (database_of s)
 made-kept s k is t e n f = made-by s k is (Some true) t e n f
 
 pub made-static : (s : Stored) (k : Pi) (is : Bool) → IsTable s.names → is ≡ is_locked s.locked (indicator_named s.names k) → is ≡ false
-    → Some false ≡ option_map (λ p. p.dynamic) (row_in s.rows k)
+    → Some false ≡ option_map (λ p. p.dynamic) (numbered_procedure_in s.procedures k)
     → made_dynamic s.locked (database_of s) (indicator_named s.names k) ≡ Err directive
 made-static s k is t e n f = made-by s k is (Some false) t e n f
 
-pub made-new : (s : Stored) (k : Pi) (rows : Rows) (is : Bool) → IsTable s.names → is ≡ is_locked s.locked (indicator_named s.names k)
-    → is ≡ false → None ≡ option_map (λ p. p.dynamic) (row_in s.rows k) → rows ≡ with_row s.rows k no_numbered_clauses
-    → made_dynamic s.locked (database_of s) (indicator_named s.names k) ≡ Ok (database_of (record s { rows = rows }))
-made-new s k rows is t e n f w =
+pub made-new : (s : Stored) (k : Pi) (ps : NumberedProcedures) (is : Bool) → IsTable s.names
+    → is ≡ is_locked s.locked (indicator_named s.names k)
+    → is ≡ false → None ≡ option_map (λ p. p.dynamic) (numbered_procedure_in s.procedures k)
+    → ps ≡ with_numbered_procedure s.procedures k no_numbered_clauses
+    → made_dynamic s.locked (database_of s) (indicator_named s.names k) ≡ Ok (database_of (record s { procedures = ps }))
+made-new s k ps is t e n f w =
     made-by s k is None t e n f
     ∙ ap (λ (ps : List (Indicator × Procedure)).
     let x : Database = record { procedures = ps; next = s.next; table = s.table; flags = s.flags } in Ok x)
-    (put-named s.names t s.rows k no_numbered_clauses ∙ ap (rows_named s.names) (sym w))
+    (put-named s.names t s.procedures k no_numbered_clauses ∙ ap (procedures_named s.names) (sym w))
 
-pub none-there : (rows : Rows) (k : Pi) → None ≡ option_map (λ p. p.dynamic) (row_in rows k) → row_in rows k ≡ None
-none-there rows k e = by (row_in rows k) e
+pub none-there : (ps : NumberedProcedures) (k : Pi) → None ≡ option_map (λ p. p.dynamic) (numbered_procedure_in ps k)
+    → numbered_procedure_in ps k ≡ None
+none-there ps k e = by (numbered_procedure_in ps k) e
   where
-    by : (o : Option Row) → None ≡ option_map (λ p. p.dynamic) o → o ≡ None
+    by : (o : Option NumberedProcedure) → None ≡ option_map (λ p. p.dynamic) o → o ≡ None
     by None e = refl
     by (Some p) e = absurd cc
 
-pub new-behind : (rows : Rows) (k : Pi) (p : Row) → row_in rows k ≡ None → take (length rows) (with_row rows k p) ≡ rows
+pub new-behind : (ps : NumberedProcedures) (k : Pi) (p : NumberedProcedure) → numbered_procedure_in ps k ≡ None
+    → take (length ps) (with_numbered_procedure ps k p) ≡ ps
 new-behind [] k p e = refl
 new-behind (x ∷ xs) k p e =
     by_test (pi_eq k x.0)
-    (λ y. let bad : Some x.1 ≡ None = sym (if_true (pi_eq k x.0) (Some x.1) (row_in xs k) y) ∙ e in absurd cc)
-    (λ y. ap (take (suc (length xs))) (if_false (pi_eq k x.0) ((x.0, p) ∷ xs) (x ∷ with_row xs k p) y)
-    ∙ ap (λ (rows : Rows). x ∷ rows) (new-behind xs k p (sym (if_false (pi_eq k x.0) (Some x.1) (row_in xs k) y) ∙ e)))
+    (λ y. let bad : Some x.1 ≡ None = sym (if_true (pi_eq k x.0) (Some x.1) (numbered_procedure_in xs k) y) ∙ e in absurd cc)
+    (λ y. ap (take (suc (length xs))) (if_false (pi_eq k x.0) ((x.0, p) ∷ xs) (x ∷ with_numbered_procedure xs k p) y)
+    ∙ ap (λ (ps : NumberedProcedures). x ∷ ps) (new-behind xs k p (sym (if_false (pi_eq k x.0) (Some x.1) (numbered_procedure_in xs k) y)
+    ∙ e)))
 
-pub rows-dynamic : (n : ℕ) (k : Pi) (rows : Rows) → k.name.0 < n → AreRows n rows → AreRows n (with_row rows k no_numbered_clauses)
-rows-dynamic n k rows l h = row-put n k no_numbered_clauses rows h (record { name = l; clauses = λ i d b. absurd (omega arith) })
+pub procedures-dynamic : (n : ℕ) (k : Pi) (ps : NumberedProcedures) → k.name.0 < n → AreNumberedProcedures n ps
+    → AreNumberedProcedures n (with_numbered_procedure ps k no_numbered_clauses)
+procedures-dynamic n k ps l h = procedure-put n k no_numbered_clauses ps h (record { name = l; clauses = λ i d b. absurd (omega arith) })
 
-pub rows-front : (n m : ℕ) (rows : Rows) → AreRows n rows → AreRows n (take m rows)
-rows-front n zero rows h = tt
-rows-front n (suc m) [] h = tt
-rows-front n (suc m) (e ∷ es) h = (h.0, rows-front n m es h.1)
+pub procedures-front : (n m : ℕ) (ps : NumberedProcedures) → AreNumberedProcedures n ps → AreNumberedProcedures n (take m ps)
+procedures-front n zero ps h = tt
+procedures-front n (suc m) [] h = tt
+procedures-front n (suc m) (e ∷ es) h = (h.0, procedures-front n m es h.1)
 
 -- words of directives
 

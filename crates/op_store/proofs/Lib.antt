@@ -4,7 +4,7 @@ mod ConversionPlaces
 mod BodyNodes
 mod LinkedNodes
 mod SharedClauses
-mod RowLaws
+mod ProcedureLaws
 pub mod NamedProcedures
 mod Numbers
 mod BodyTerms

@@ -4,7 +4,7 @@ use Rattle.std.proofs.Common.{arith, append_assoc, length-append}
 use Rattle.std.specs.Prelude.{pos, option_and_then, slice_index_or}
 use Rattle.op_logic.proofs.BoolCases.{by_order}
 use Rattle.op_logic.specs.Term.{int}
-use Rattle.op_store.specs.Body.{Body, goal}
+use Rattle.op_trace.specs.Body.{Body, goal}
 use Rattle.op_store.specs.Nodes.{node_tree, numbered, node_trees, body_tree, leaf, leaves, IsLinked, AreLinked, IsBody}
 use Rattle.op_store.specs.inner.Walk.{took, read, needs, linked_node, unlinked}
 use Rattle.op_store.specs.declared.bodies.body_node.BodyNode.{BodyNode}

@@ -1,5 +1,5 @@
 -- What the joining of terms tells of a store.
-use Rattle.std.proofs.Common.{◌≡◌, ℕ, suc, max, List, length, take, drop, Option, Some, None, Result, Ok, Err, All, refl, sym, ap, ◌∙◌}
+use Rattle.std.proofs.Common.{◌≡◌, ℕ, suc, max, List, [], length, take, drop, Option, Some, None, Result, Ok, Err, All, refl, sym, ap, ◌∙◌}
 use Rattle.std.proofs.Common.{subst, arith}
 use Rattle.std.specs.Prelude.{IfSome}
 use Rattle.op_logic.specs.Term.{Term}
@@ -9,7 +9,7 @@ use Rattle.op_trace.specs.Database.{Text}
 use Rattle.op_reader.specs.Reading.{Outcome, term, end, refused, reading_of}
 use Rattle.op_reader.specs.declared.fault.ReadFaultKind.{ReadFaultKind}
 use Rattle.op_store.specs.declared.names.locked.Locked.{Locked}
-use Rattle.op_store.specs.Body.{converted}
+use Rattle.op_trace.specs.Body.{converted}
 use Rattle.op_store.specs.Clauses.{clause, sentence_of, of_sentence, with_parts, with_term}
 use Rattle.op_store.specs.Counted.{variable_count}
 use Rattle.op_store.specs.Load.{Loaded, loaded, stopped, load_from, line_at, fault_line, first_token}
@@ -57,7 +57,7 @@ module _ {P : Type 0} (tree : P → Term ℕ) where
       → HasNames (length old) t → HasNames (length old) (tree h) → IfSome b (λ p. HasNames (length old) (tree p))
       → clause (named old (tree h)) (body_text (λ p. named old (tree p)) b) ≡ sentence_of (named old t)
       → with_parts l w (named new (tree h)) (body_variables (λ p. variable_count (tree p)) h b) (indicator_of_term (named new (tree h)))
-      (converted (body_text (λ p. named new (tree p)) b)).body ≡ with_term l w (named new t)
+      (converted [] (body_text (λ p. named new (tree p)) b)).body ≡ with_term l w (named new t)
   clause-told l w old new t h b kept ht hh hb e =
       let head : named new (tree h) ≡ named old (tree h) = named-more old new kept (tree h) hh in
       sym (ap (with_term l w) (named-more old new kept t ht)
@@ -65,7 +65,7 @@ module _ {P : Type 0} (tree : P → Term ℕ) where
       ∙ (ap (λ (u : Term Text). of_sentence l w (clause u (body_text (λ p. named old (tree p)) b))) (sym head)
       ∙ (ap (λ (u : Term Text). of_sentence l w (clause (named new (tree h)) u)) (body-more old new kept b hb)
       ∙ ap (λ (n : ℕ). with_parts l w (named new (tree h)) n (indicator_of_term (named new (tree h)))
-      (converted (body_text (λ p. named new (tree p)) b)).body) (body-count new h b)))))
+      (converted [] (body_text (λ p. named new (tree p)) b)).body) (body-count new h b)))))
 
   places-known : (Q : P → Type 0) (h : P) (b : Option P) → All Q (sentence_places (Clause h b)) → Q h × IfSome b Q
   places-known Q h None k = (k 0 h (omega arith), tt)
@@ -81,7 +81,7 @@ module _ {P : Type 0} (tree : P → Term ℕ) where
       → All (λ p. Q p × HasNames (length syms) (tree p)) (sentence_places (Clause h b))
       → clause (named syms (tree h)) (body_text (λ p. named syms (tree p)) b) ≡ sentence_of (named syms (tree root))
       → with_parts l w (named new (tree h)) (body_variables (λ p. variable_count (tree p)) h b) (indicator_of_term (named new (tree h)))
-      (converted (body_text (λ p. named new (tree p)) b)).body ≡ with_term l w (named new t)
+      (converted [] (body_text (λ p. named new (tree p)) b)).body ≡ with_term l w (named new t)
   clause-read Q l w old new syms t root h b s e kept ht known said =
       let places : All (λ p. Q p × HasNames (length old) (tree p)) (sentence_places (Clause h b)) =
       subst (λ (ns : List Text). All (λ p. Q p × HasNames (length ns) (tree p)) (sentence_places (Clause h b))) s known in
@@ -92,7 +92,8 @@ module _ {P : Type 0} (tree : P → Term ℕ) where
       (subst (λ (u : Term ℕ). clause (named syms (tree h)) (body_text (λ p. named syms (tree p)) b) ≡ sentence_of (named syms u)) e said))
 
 -- a term that was read with new names
-pub term-kept : (old mid new : Stored) (t : Term ℕ) (r : Result Database Fault) → database_of mid ≡ database_of old → mid ≡ with_names old mid.names
+pub term-kept : (old mid new : Stored) (t : Term ℕ) (r : Result Database Fault) → database_of mid ≡ database_of old
+    → mid ≡ with_names old mid.names
     → take (length mid.names) new.names ≡ mid.names → HasNames (length mid.names) t
     → with_term mid.locked (database_of mid) (named new.names t) ≡ r → with_term old.locked (database_of old) (named mid.names t) ≡ r
 term-kept old mid new t r w k kept h e =

@@ -16,9 +16,10 @@ use Rattle.op_store.specs.declared.procedures.pi.Pi.{Pi}
 use Rattle.op_term.specs.Ops.{Table}
 use Rattle.op_trace.specs.declared.flags.Flags.{Flags}
 use Rattle.op_store.specs.declared.names.locked.Locked.{Locked}
-use Rattle.op_store.specs.declared.procedures.procedure.Procedure.{Procedure as Row}
-use Rattle.op_store.specs.Rows.{clause_named, row_named, indicator_named, rows_named, Rows, pi_eq, row_in, with_row, extended_row, pi_of}
-use Rattle.op_store.specs.Rows.{IsNumberedClause, IsRow, AreRows}
+use Rattle.op_store.specs.declared.procedures.procedure.Procedure.{Procedure as NumberedProcedure}
+use Rattle.op_store.specs.NumberedProcedures.{clause_named, procedure_named, indicator_named, procedures_named, NumberedProcedures, pi_eq}
+use Rattle.op_store.specs.NumberedProcedures.{numbered_procedure_in, with_numbered_procedure, extended_numbered, pi_of}
+use Rattle.op_store.specs.NumberedProcedures.{IsNumberedClause, IsNumberedProcedure, AreNumberedProcedures}
 use Rattle.op_store.specs.Stored.{Stored, IsSound, database_of, with_numbered_clause, first_names}
 use Rattle.op_trace.specs.Database.{Database, Indicator, name_arity, Procedure}
 use Rattle.op_store.specs.inner.Parts.{body_variables}
@@ -35,11 +36,17 @@ numbered-more m n k r l s = record {
   body_within = s.body_within;
 }
 
--- the rows over more names
-pub rows-more : (m n : ℕ) (rows : Rows) → m ≤ n → AreRows m rows → AreRows n rows
-rows-more m n [] l h = tt
-rows-more m n (e ∷ es) l h =
-    (record { name = omega (arith, h.0.name); clauses = λ i d k. numbered-more m n e.0 _ l (h.0.clauses i d k) }, rows-more m n es l h.1)
+-- the procedures over more names
+pub procedures-more : (m n : ℕ) (ps : NumberedProcedures) → m ≤ n → AreNumberedProcedures m ps → AreNumberedProcedures n ps
+procedures-more m n [] l h = tt
+procedures-more m n (e ∷ es) l h = (
+  record {
+    name = omega (arith, h.0.name);
+    clauses = λ i d k. numbered-more m n e.0 _ l
+        (h.0.clauses i d k);
+  },
+  procedures-more m n es l h.1,
+)
 
 take-front : {A : Type 0} (k n : ℕ) (xs : List A) → k ≤ n → take k (take n xs) ≡ take k xs
 take-front zero n xs l = refl
@@ -59,7 +66,7 @@ sound-more s names h t e = record {
   names = t;
   begins = begins-more s.names names h.begins e;
   table = h.table;
-  rows = rows-more (length s.names) (length names) s.rows (names-more s.names names e) h.rows;
+  procedures = procedures-more (length s.names) (length names) s.procedures (names-more s.names names e) h.procedures;
 }
 
 both : (a b : Bool) → (a && b) ≡ true → (a ≡ true) × (b ≡ true)
@@ -86,30 +93,40 @@ numbered-push n k rs r h s = All-push (λ (q : NumberedClause). IsNumberedClause
 numbered-none : (n : ℕ) (k : Pi) → All (λ r. IsNumberedClause n k r) []
 numbered-none n k = λ i d l. absurd (omega arith)
 
-new-row : (n : ℕ) (k : Pi) (r : NumberedClause) → IsNumberedClause n k r → IsRow n k (extended_row None r)
-new-row n k r s = record { name = indicator-below n r.head k s.for s.head_names; clauses = numbered-push n k [] r (numbered-none n k) s }
+new-procedure : (n : ℕ) (k : Pi) (r : NumberedClause) → IsNumberedClause n k r → IsNumberedProcedure n k (extended_numbered None r)
+new-procedure n k r s = record {
+  name = indicator-below n r.head k s.for s.head_names;
+  clauses = numbered-push n k [] r
+      (numbered-none n k) s;
+}
 
-more-row : (n : ℕ) (k : Pi) (p : Row) (r : NumberedClause) → IsRow n k p → IsNumberedClause n k r → IsRow n k (extended_row (Some p) r)
-more-row n k p r h s = record { name = h.name; clauses = numbered-push n k p.clauses r h.clauses s }
+more-clauses : (n : ℕ) (k : Pi) (p : NumberedProcedure) (r : NumberedClause) → IsNumberedProcedure n k p → IsNumberedClause n k r
+    → IsNumberedProcedure n k (extended_numbered (Some p) r)
+more-clauses n k p r h s = record { name = h.name; clauses = numbered-push n k p.clauses r h.clauses s }
 
-row-found : (n : ℕ) (k : Pi) (rows : Rows) (r : NumberedClause) → AreRows n rows → IsNumberedClause n k r
-    → IsRow n k (extended_row (row_in rows k) r)
-row-found n k [] r h s = new-row n k r s
-row-found n k (e ∷ es) r h s =
+procedure-found : (n : ℕ) (k : Pi) (ps : NumberedProcedures) (r : NumberedClause) → AreNumberedProcedures n ps → IsNumberedClause n k r
+    → IsNumberedProcedure n k (extended_numbered (numbered_procedure_in ps k) r)
+procedure-found n k [] r h s = new-procedure n k r s
+procedure-found n k (e ∷ es) r h s =
     by_test (pi_eq k e.0)
-    (λ y. subst (λ (o : Option Row). IsRow n k (extended_row o r)) (sym (if_true (pi_eq k e.0) (Some e.1) (row_in es k) y))
-    (more-row n k e.1 r (subst (λ (x : Pi). IsRow n x e.1) (sym (same-pi k e.0 y)) h.0) s))
-    (λ y. subst (λ (o : Option Row). IsRow n k (extended_row o r)) (sym (if_false (pi_eq k e.0) (Some e.1) (row_in es k) y))
-    (row-found n k es r h.1 s))
+    (λ y. subst (λ (o : Option NumberedProcedure). IsNumberedProcedure n k (extended_numbered o r))
+    (sym (if_true (pi_eq k e.0) (Some e.1) (numbered_procedure_in es k) y))
+    (more-clauses n k e.1 r (subst (λ (x : Pi). IsNumberedProcedure n x e.1) (sym (same-pi k e.0 y)) h.0) s))
+    (λ y. subst (λ (o : Option NumberedProcedure). IsNumberedProcedure n k (extended_numbered o r))
+    (sym (if_false (pi_eq k e.0) (Some e.1) (numbered_procedure_in es k) y))
+    (procedure-found n k es r h.1 s))
 
-pub row-put : (n : ℕ) (k : Pi) (p : Row) (rows : Rows) → AreRows n rows → IsRow n k p → AreRows n (with_row rows k p)
-row-put n k p [] h s = (s, tt)
-row-put n k p (e ∷ es) h s =
+pub procedure-put : (n : ℕ) (k : Pi) (p : NumberedProcedure) (ps : NumberedProcedures) → AreNumberedProcedures n ps
+    → IsNumberedProcedure n k p → AreNumberedProcedures n (with_numbered_procedure ps k p)
+procedure-put n k p [] h s = (s, tt)
+procedure-put n k p (e ∷ es) h s =
     by_test (pi_eq k e.0)
-    (λ y. subst (λ (rs : Rows). AreRows n rs) (sym (if_true (pi_eq k e.0) ((e.0, p) ∷ es) (e ∷ with_row es k p) y))
-    (subst (λ (x : Pi). IsRow n x p) (same-pi k e.0 y) s, h.1))
-    (λ y. subst (λ (rs : Rows). AreRows n rs) (sym (if_false (pi_eq k e.0) ((e.0, p) ∷ es) (e ∷ with_row es k p) y))
-    (h.0, row-put n k p es h.1 s))
+    (λ y. subst (λ (rs : NumberedProcedures). AreNumberedProcedures n rs)
+    (sym (if_true (pi_eq k e.0) ((e.0, p) ∷ es) (e ∷ with_numbered_procedure es k p) y))
+    (subst (λ (x : Pi). IsNumberedProcedure n x p) (same-pi k e.0 y) s, h.1))
+    (λ y. subst (λ (rs : NumberedProcedures). AreNumberedProcedures n rs)
+    (sym (if_false (pi_eq k e.0) ((e.0, p) ∷ es) (e ∷ with_numbered_procedure es k p) y))
+    (h.0, procedure-put n k p es h.1 s))
 
 -- a clause that joins
 pub sound-joins : (s : Stored) (k : Pi) (r : NumberedClause) → IsSound s → IsNumberedClause (length s.names) k r
@@ -118,7 +135,8 @@ sound-joins s k r h i = record {
   names = h.names;
   begins = h.begins;
   table = h.table;
-  rows = row-put (length s.names) k (extended_row (row_in s.rows k) r) s.rows h.rows (row-found (length s.names) k s.rows r h.rows i);
+  procedures = procedure-put (length s.names) k (extended_numbered (numbered_procedure_in s.procedures k) r) s.procedures h.procedures
+      (procedure-found (length s.names) k s.procedures r h.procedures i);
 }
 
 -- a clause's variables are those of its parts
@@ -143,13 +161,15 @@ numbered-made old new k r head n e f own h b v wh wb = record {
 }
 
 -- a procedure that is found
-pub row-at : (n : ℕ) (k : Pi) (rows : Rows) (p : Row) → AreRows n rows → row_in rows k ≡ Some p → IsRow n k p
-row-at n k [] p h e = absurd cc
-row-at n k (x ∷ xs) p h e =
+pub procedure-at : (n : ℕ) (k : Pi) (ps : NumberedProcedures) (p : NumberedProcedure) → AreNumberedProcedures n ps
+    → numbered_procedure_in ps k ≡ Some p → IsNumberedProcedure n k p
+procedure-at n k [] p h e = absurd cc
+procedure-at n k (x ∷ xs) p h e =
     by_test (pi_eq k x.0)
-    (λ y. let same : x.1 ≡ p = cc (sym (if_true (pi_eq k x.0) (Some x.1) (row_in xs k) y) ∙ e) in
-    subst (λ (q : Row). IsRow n k q) same (subst (λ (i : Pi). IsRow n i x.1) (sym (same-pi k x.0 y)) h.0))
-    (λ y. row-at n k xs p h.1 (sym (if_false (pi_eq k x.0) (Some x.1) (row_in xs k) y) ∙ e))
+    (λ y. let same : x.1 ≡ p = cc (sym (if_true (pi_eq k x.0) (Some x.1) (numbered_procedure_in xs k) y) ∙ e) in
+    subst (λ (q : NumberedProcedure). IsNumberedProcedure n k q) same
+    (subst (λ (i : Pi). IsNumberedProcedure n i x.1) (sym (same-pi k x.0 y)) h.0))
+    (λ y. procedure-at n k xs p h.1 (sym (if_false (pi_eq k x.0) (Some x.1) (numbered_procedure_in xs k) y) ∙ e))
 
 -- names that grow name the clauses as before
 
@@ -173,28 +193,28 @@ module _ (old new : List Text) (kept : take (length old) new ≡ old) where
       ∙ ap (λ (cs : List Clause). clause_named old r ∷ cs) (clauses-kept k rs
       (All-tail (λ (r : NumberedClause). IsNumberedClause (length old) k r) r rs h))
 
-  row-kept : (k : Pi) (p : Row) → IsRow (length old) k p → row_named new p ≡ row_named old p
-  row-kept k p h =
+  procedure-kept : (k : Pi) (p : NumberedProcedure) → IsNumberedProcedure (length old) k p → procedure_named new p ≡ procedure_named old p
+  procedure-kept k p h =
       ap (λ (cs : List Clause). let q : Procedure = record { dynamic = p.dynamic; clauses = cs } in q) (clauses-kept k p.clauses h.clauses)
 
-  rows-kept : (rows : Rows) → AreRows (length old) rows → rows_named new rows ≡ rows_named old rows
-  rows-kept [] h = refl
-  rows-kept (e ∷ es) h =
-      ap (λ (f : Text). (name_arity f e.0.arity, row_named new e.1) ∷ rows_named new es) (name-kept e.0.name.0 h.0.name)
-      ∙ (ap (λ (p : Procedure). (indicator_named old e.0, p) ∷ rows_named new es) (row-kept e.0 e.1 h.0)
-      ∙ ap (λ (ps : List (Indicator × Procedure)). (indicator_named old e.0, row_named old e.1) ∷ ps) (rows-kept es h.1))
+  procedures-kept : (ps : NumberedProcedures) → AreNumberedProcedures (length old) ps → procedures_named new ps ≡ procedures_named old ps
+  procedures-kept [] h = refl
+  procedures-kept (e ∷ es) h =
+      ap (λ (f : Text). (name_arity f e.0.arity, procedure_named new e.1) ∷ procedures_named new es) (name-kept e.0.name.0 h.0.name)
+      ∙ (ap (λ (p : Procedure). (indicator_named old e.0, p) ∷ procedures_named new es) (procedure-kept e.0 e.1 h.0)
+      ∙ ap (λ (ps : List (Indicator × Procedure)). (indicator_named old e.0, procedure_named old e.1) ∷ ps) (procedures-kept es h.1))
 
 pub world-kept : (s : Stored) (names : List Text) → take (length s.names) names ≡ s.names → IsSound s
     → database_of (with_names s names) ≡ database_of s
 world-kept s names kept h =
     ap (λ (ps : List (Indicator × Procedure)).
     let w : Database = record { procedures = ps; next = s.next; table = s.table; flags = s.flags } in w)
-    (rows-kept s.names names kept s.rows h.rows)
+    (procedures-kept s.names names kept s.procedures h.procedures)
 
 -- of a store, by its fields, to which names join: it is sound as before, and has the same world
-module _ (l : Locked) (old new : List Text) (t : Table) (f : Flags) (rows : Rows) (next : ℕ) where
+module _ (l : Locked) (old new : List Text) (t : Table) (f : Flags) (ps : NumberedProcedures) (next : ℕ) where
   abbrev pub before : Stored
-  before = record { locked = l; names = old; table = t; flags = f; rows = rows; next = next }
+  before = record { locked = l; names = old; table = t; flags = f; procedures = ps; next = next }
 
   pub joined-sound : IsSound before → IsTable new → take (length old) new ≡ old → IsSound (with_names before new)
   joined-sound h table kept = sound-more before new h table kept

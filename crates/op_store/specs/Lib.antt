@@ -1,13 +1,11 @@
-pub mod Body
 pub mod Nodes
-pub mod BodyExamples
 pub mod Locked
 pub mod Fault
 pub mod Directives
 pub mod Clauses
 pub mod Load
 pub mod LoadExamples
-pub mod Rows
+pub mod NumberedProcedures
 pub mod Queries
 pub mod Counted
 pub mod Stored

@@ -1,6 +1,7 @@
 -- Loading a text, and reading a goal and a command. Terms are read one after the other with the operators and flags of that moment.
 use Rattle.std.specs.Prelude.{ℕ, zero, suc, ◌+◌, ◌==◌, ◌||◌, not, nat_lt, Bool, List, [], ◌∷◌, ◌++◌, take, drop, length, filter, count_by}
 use Rattle.std.specs.Prelude.{Option, Some, None, Result, Ok, Err, codes, bytes_eq, if◌then◌else◌}
+use Rattle.op_base.specs.Characters.{is_layout}
 use Rattle.op_logic.specs.Term.{Term}
 use Rattle.op_store.specs.Counted.{variable_count}
 use Rattle.op_trace.specs.Database.{Text}
@@ -12,7 +13,7 @@ use Rattle.op_reader.specs.declared.fault.ReadFaultKind.TheVariants.{NoEnd}
 use Rattle.op_reader.specs.Reading.{Outcome, term, end, refused, reading_of, first_place}
 use Rattle.op_store.specs.declared.names.locked.Locked.{Locked}
 use Rattle.op_trace.specs.Database.{Database}
-use Rattle.op_store.specs.Body.{converted}
+use Rattle.op_trace.specs.Body.{converted}
 use Rattle.op_store.specs.Fault.{Fault, syntax, trailing, body}
 use Rattle.op_store.specs.Clauses.{with_term}
 
@@ -75,9 +76,6 @@ pub record Query : Type 0 where
 abbrev pub query : Term Text → Term Text → List (Text × ℕ) → Query
 query t b names = record { body = b; names = names; variables = variable_count t }
 
-abbrev pub is_layout : ℕ → Bool
-is_layout b = b == 32 || (b == 9 || (b == 10 || (b == 11 || (b == 12 || b == 13))))
-
 -- layout, and at most one full stop
 abbrev pub is_rest : List ℕ → Bool
 is_rest bytes = let marks = filter (λ b. not (is_layout b)) bytes in bytes_eq marks [] || bytes_eq marks (codes ".")
@@ -97,7 +95,7 @@ goal_converted line t names (Some b) = Ok (query t b names)
 abbrev pub goal_read : List ℕ → Term Text → List (Text × ℕ) → ℕ → Result Query Found
 goal_read bytes t names used =
     let line = line_at 1 bytes (first_token bytes) in
-    if is_rest (drop used bytes) then goal_converted line t names (converted t).body else found line trailing
+    if is_rest (drop used bytes) then goal_converted line t names (converted [] t).body else found line trailing
 
 abbrev pub goal_outcome : List ℕ → Outcome → Result Query Found
 goal_outcome bytes end = found (line_at 1 bytes 0) (syntax NoEnd)
@@ -117,7 +115,7 @@ pub data Bad : Type 0 where
 
 -- a term that was read as a command
 abbrev pub command_read : Term Text → List (Text × ℕ) → Result Query Bad
-command_read t names = elim ((converted t).body) [ None ↦ Err (not_body t) | Some b ↦ Ok (query t b names) ]
+command_read t names = elim ((converted [] t).body) [ None ↦ Err (not_body t) | Some b ↦ Ok (query t b names) ]
 
 -- a text without a token counts as a term without its end; what stands behind the first term is not looked at
 abbrev pub command_outcome : List ℕ → Outcome → Result Query Bad

@@ -1,7 +1,7 @@
 -- What the nodes of a body stand for: each part of a control construct has a greater number than the construct.
 use Rattle.std.specs.Prelude.{ℕ, suc, pos, ◌-◌, ◌<◌, List, [], ◌∷◌, length, slice_index_or, codes}
 use Rattle.op_logic.specs.Term.{Term, int}
-use Rattle.op_store.specs.Body.{Body, goal, call, control}
+use Rattle.op_trace.specs.Body.{Body, goal, call, control}
 use Rattle.op_store.specs.declared.bodies.body_node.BodyNode.{BodyNode}
 use Rattle.op_store.specs.declared.bodies.body_node.BodyNode.TheVariants.{Goal, CallOf, And, Or, Then}
 

@@ -1,5 +1,5 @@
 -- Goals and commands over the numbers of names, and over the names.
-use Rattle.std.specs.Prelude.{◌≡◌, ◌<◌, ℕ, List, Some, None, Result, Ok, Err}
+use Rattle.std.specs.Prelude.{◌≡◌, ◌<◌, ℕ, List, [], Some, None, Result, Ok, Err}
 use Rattle.op_logic.specs.Names.{named, HasNames}
 use Rattle.op_logic.specs.Term.{IsWithin}
 use Rattle.op_store.specs.Counted.{variable_count}
@@ -11,11 +11,11 @@ use Rattle.op_store.specs.declared.goals.goal.Converted.{Converted}
 use Rattle.op_store.specs.declared.goals.goal.Converted.TheVariants as converted_as
 use Rattle.op_store.specs.declared.goals.command_fault.CommandFault.{CommandFault}
 use Rattle.op_store.specs.declared.goals.command_fault.CommandFault.TheVariants as faults
-use Rattle.op_store.specs.Body.{converted}
+use Rattle.op_trace.specs.Body.{converted}
 use Rattle.op_store.specs.Load.{Query, Found, Bad, unreadable, not_body, Loaded, loaded, stopped}
 use Rattle.op_store.specs.Stored.{Stored, database_of}
 use Rattle.op_store.specs.Fault.{Fault, syntax, trailing, head, body, locked, directive}
-use Rattle.op_store.specs.Rows.{indicator_named}
+use Rattle.op_store.specs.NumberedProcedures.{indicator_named}
 use Rattle.op_store.specs.declared.loading.load_fault.LoadFaultKind.{LoadFaultKind}
 use Rattle.op_store.specs.declared.loading.load_fault.LoadFaultKind.TheVariants as kinds
 use Rattle.op_store.specs.declared.loading.load_fault.LoadFault.{LoadFault}
@@ -37,9 +37,9 @@ IsSoundConverted n (converted_as.NotBody t) = HasNames n t
 -- the goal of a term that was read, or the term, which stands for no body
 abbrev pub IsConverted : List Text → Read → Converted → Type 0
 IsConverted names r (converted_as.Goal g) =
-    ((converted (named names r.term)).body ≡ Some (named names g.body)) × (g.names ≡ r.names)
+    ((converted [] (named names r.term)).body ≡ Some (named names g.body)) × (g.names ≡ r.names)
     × (g.vars ≡ variable_count (named names r.term))
-IsConverted names r (converted_as.NotBody t) = ((converted (named names r.term)).body ≡ None) × (t ≡ r.term)
+IsConverted names r (converted_as.NotBody t) = ((converted [] (named names r.term)).body ≡ None) × (t ≡ r.term)
 
 -- a term that stands for no body has its names in a table of so many
 abbrev pub IsSoundFault : ℕ → CommandFault → Type 0

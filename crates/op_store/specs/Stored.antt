@@ -10,7 +10,8 @@ use Rattle.op_trace.specs.declared.flags.Flags.{Flags}
 use Rattle.op_store.specs.declared.names.locked.Locked.{Locked}
 use Rattle.op_store.specs.declared.procedures.pi.Pi.{Pi}
 use Rattle.op_trace.specs.Database.{Database, Procedure}
-use Rattle.op_store.specs.Rows.{Rows, row_in, with_row, extended_row, all_numbered_clauses, rows_named, AreRows}
+use Rattle.op_store.specs.NumberedProcedures.{NumberedProcedures, numbered_procedure_in, with_numbered_procedure, extended_numbered}
+use Rattle.op_store.specs.NumberedProcedures.{all_numbered_clauses, procedures_named, AreNumberedProcedures}
 
 -- which names are locked; the names; the operators; the flags; the procedures; the number of the next clause
 pub record Stored : Type 0 where
@@ -18,11 +19,11 @@ pub record Stored : Type 0 where
   pub names : List Text
   pub table : Table
   pub flags : Flags
-  pub rows : Rows
+  pub procedures : NumberedProcedures
   pub next : ℕ
 
 abbrev pub database_of : Stored → Database
-database_of s = record { procedures = rows_named s.names s.rows; next = s.next; table = s.table; flags = s.flags }
+database_of s = record { procedures = procedures_named s.names s.procedures; next = s.next; table = s.table; flags = s.flags }
 
 -- the names that have the numbers 0 to 7: those of the control constructs (ISO/IEC 13211-1, 7.8), where call has any number of arguments
 abbrev pub first_names : List Text
@@ -35,25 +36,28 @@ new_store l = record {
   names = first_names;
   table = iso_table;
   flags = record { quotes = Codes; unknown_fails = false };
-  rows = [];
+  procedures = [];
   next = 0;
 }
 
 -- a clause joins at the end of its procedure
 abbrev pub with_numbered_clause : Stored → Pi → NumberedClause → Stored
-with_numbered_clause s k r = record s { rows = with_row s.rows k (extended_row (row_in s.rows k) r); next = suc s.next }
+with_numbered_clause s k r = record s {
+  procedures = with_numbered_procedure s.procedures k (extended_numbered (numbered_procedure_in s.procedures k) r);
+  next = suc s.next;
+}
 
 -- all clauses, procedure by procedure in order of first sight
 abbrev pub numbered_clauses : Stored → List NumberedClause
-numbered_clauses s = all_numbered_clauses s.rows
+numbered_clauses s = all_numbered_clauses s.procedures
 
-abbrev pub is_dynamic_row : Option Procedure → Bool
-is_dynamic_row None = false
-is_dynamic_row (Some p) = p.dynamic
+abbrev pub is_dynamic_procedure : Option Procedure → Bool
+is_dynamic_procedure None = false
+is_dynamic_procedure (Some p) = p.dynamic
 
 -- the names begin with those of the control constructs, and those of the procedures and their clauses are among them
 pub record IsSound (s : Stored) : Type 0 where
   pub names : IsTable s.names
   pub begins : take 8 s.names ≡ first_names
   pub table : ops.IsTable s.table
-  pub rows : AreRows (length s.names) s.rows
+  pub procedures : AreNumberedProcedures (length s.names) s.procedures

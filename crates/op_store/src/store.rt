@@ -6,7 +6,7 @@ ghost use Rattle.op_reader.specs.Passes.{Tells, HasKnownNames};
 ghost use Rattle.op_store.specs.Directives.{made_dynamic};
 ghost use Rattle.op_logic.specs.Term.{IsWithin, Term as SpecTerm};
 ghost use Rattle.op_store.specs.Counted.{variable_count};
-ghost use Rattle.op_store.specs.Body.{converted};
+ghost use Rattle.op_trace.specs.Body.{converted};
 ghost use Rattle.op_store.specs.Clauses.{with_parts};
 ghost use Rattle.op_store.specs.inner.Parts.{body_text, body_variables};
 ghost use Rattle.op_term.specs.Ops.{set_in};
@@ -14,7 +14,7 @@ ghost use Rattle.op_term.specs.declared.ops.OpFault.TheVariants.{Memory as want_
 ghost use Rattle.op_trace.specs.Database.{procedure_in, clauses_of_database, procedure_of, indicator_of_term};
 ghost use Rattle.op_store.specs.Load.{goal_of, command_of, load_text, load_from};
 ghost use Rattle.op_store.specs.Locked.{is_locked as the_locked};
-ghost use Rattle.op_store.specs.Rows.{row_in, indicator_named, clause_named, pi_of, IsNumberedClause};
+ghost use Rattle.op_store.specs.NumberedProcedures.{numbered_procedure_in, indicator_named, clause_named, pi_of, IsNumberedClause};
 
 use crate::goals::command::read_command;
 use crate::goals::command_fault::CommandFault;
@@ -61,17 +61,17 @@ impl Model for Store {
     ghost coded = { Prim.hlevel (codes, term_code) };
 
     ghost view = { λ s.
-        record { locked = s.locked; names = s.symbols; table = s.ops; flags = s.flags; rows = s.procedures; next = s.next } };
+        record { locked = s.locked; names = s.symbols; table = s.ops; flags = s.flags; procedures = s.procedures; next = s.next } };
 
-    ghost invariant = { λ s.
-        IsSound (record { locked = s.locked; names = s.symbols; table = s.ops; flags = s.flags; rows = s.procedures; next = s.next }) };
+    ghost invariant = { λ s. IsSound
+        (record { locked = s.locked; names = s.symbols; table = s.ops; flags = s.flags; procedures = s.procedures; next = s.next }) };
 }
 
 impl Store {
     ghost use Rattle.op_store.specs.Queries.{TellsGoal, TellsCommand, TellsLoad, IsSoundGoal, IsSoundFault, IsSoundLoadFault};
     ghost use Rattle.op_store.specs.inner.Told.{TellsTerm, with_names};
     ghost use Rattle.op_store.specs.Stored.{Stored, database_of, first_names, new_store, with_numbered_clause, numbered_clauses};
-    ghost use Rattle.op_store.specs.Stored.{is_dynamic_row, IsSound};
+    ghost use Rattle.op_store.specs.Stored.{is_dynamic_procedure, IsSound};
 
     /// A store without clauses, with the operators of the standard and the names of the control constructs.
     pub fn new(alloc: Global, locked: Locked) -> Result<Store, Memory>
@@ -146,7 +146,7 @@ impl Store {
 
     /// The clauses of a procedure at this moment, or None where there is no such procedure. It takes constant time.
     pub fn snapshot(&self, pi: Pi) -> Result<Option<Snapshot>, Memory>
-        ensures clauses { IfOk result (λ o. o ≡ option_map (λ p. p.clauses) (row_in self.now.rows pi)) }
+        ensures clauses { IfOk result (λ o. o ≡ option_map (λ p. p.clauses) (numbered_procedure_in self.now.procedures pi)) }
         ensures world { IfOk result (λ o. option_map (map (clause_named self.now.names)) o
             ≡ option_map (λ p. p.clauses) (procedure_in (database_of self.now).procedures (indicator_named self.now.names pi))) }
         ensures sound { IfOk result (λ o. IfSome o (All (λ r. IsNumberedClause (length self.now.names) pi r))) }
@@ -180,7 +180,7 @@ impl Store {
 
     /// Whether the program may change a procedure.
     pub fn is_dynamic(&self, pi: Pi) -> bool
-        ensures { result ≡ is_dynamic_row (procedure_in (database_of self.now).procedures (indicator_named self.now.names pi)) }
+        ensures { result ≡ is_dynamic_procedure (procedure_in (database_of self.now).procedures (indicator_named self.now.names pi)) }
     {
         let _names = self.symbols.count();
         match self.procedures.find(pi) {
@@ -263,7 +263,7 @@ impl Store {
         requires place { IfSome body (λ b. T.IsPlace tree.now b) }
         requires names { IfSome body (λ b. HasNames (length self.old.names) (T.term tree.now b)) }
         ensures body { IfOk result (λ o. option_map (named self.new.names) o
-            ≡ (converted (body_text (λ p. named self.new.names (T.term tree.now p)) body)).body) }
+            ≡ (converted [] (body_text (λ p. named self.new.names (T.term tree.now p)) body)).body) }
         ensures has { IfOk result (λ o. IfSome o (HasNames (length self.new.names))) }
         ensures within { IfOk result (λ o. (n : ℕ) → IfSome body (λ b. IsWithin n (T.term tree.now b)) → IfSome o (IsWithin n)) }
         ensures kept { self.new ≡ with_names self.old self.new.names }
@@ -291,14 +291,14 @@ impl Store {
 
     /// How many procedures there are.
     pub(crate) fn procedure_count(&self) -> u64
-        ensures { result ≡ length self.now.rows }
+        ensures { result ≡ length self.now.procedures }
     {
         self.procedures.len()
     }
 
     /// Forgets the procedures that were seen last, but for so many.
     pub(crate) fn forget_procedures(&mut self, count: u64)
-        ensures { self.new ≡ record self.old { rows = take count self.old.rows } }
+        ensures { self.new ≡ record self.old { procedures = take count self.old.procedures } }
     {
         self.procedures.truncate(count);
     }
@@ -306,9 +306,10 @@ impl Store {
     /// Makes a procedure dynamic, which it stays.
     pub(crate) fn make_dynamic(&mut self, pi: Pi) -> Result<(), TermFault>
         requires { pi.name.0 < length self.old.names }
-        ensures tells { TellsTerm self.new result (made_dynamic self.old.locked (database_of self.old) (indicator_named self.old.names pi)) }
-        ensures kept { self.new ≡ record self.old { rows = self.new.rows } }
-        ensures front { take (length self.old.rows) self.new.rows ≡ self.old.rows }
+        ensures tells { TellsTerm self.new result
+            (made_dynamic self.old.locked (database_of self.old) (indicator_named self.old.names pi)) }
+        ensures kept { self.new ≡ record self.old { procedures = self.new.procedures } }
+        ensures front { take (length self.old.procedures) self.new.procedures ≡ self.old.procedures }
         ensures err { OnErr result (self.new ≡ self.old) }
     {
         let locked = self.is_locked(pi);
@@ -362,7 +363,7 @@ impl Store {
             (with_parts self.old.locked (database_of self.old) (named self.new.names (T.term tree.now head.now))
             (body_variables (λ p. variable_count (T.term tree.now p)) head.now body)
             (indicator_of_term (named self.new.names (T.term tree.now head.now)))
-            (converted (body_text (λ p. named self.new.names (T.term tree.now p)) body)).body) }
+            (converted [] (body_text (λ p. named self.new.names (T.term tree.now p)) body)).body) }
         ensures names { take (length self.old.names) self.new.names ≡ self.old.names }
         ensures locked { self.new.locked ≡ self.old.locked }
         ensures err { OnErr result (self.new ≡ with_names self.old self.new.names) }

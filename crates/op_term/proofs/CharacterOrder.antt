@@ -79,21 +79,21 @@ thrice : (c : ℕ) → c / 262144 ≡ c / 64 / 64 / 64
 thrice c = omega arith
 
 encode-one : (c : ℕ) → c < 128 → encode_utf8 c ≡ c ∷ []
-  unfolding encode_utf8
+unfolding encode_utf8
 encode-one c h = if_true (ltb c 128) _ _ (lt-ltb c 128 h)
 
 encode-two : (c : ℕ) → 128 ≤ c → c < 2048 → encode_utf8 c ≡ two-bytes c
-  unfolding encode_utf8
+unfolding encode_utf8
 encode-two c h k = if_false (ltb c 128) _ _ (le-ltb c 128 h) ∙ if_true (ltb c 2048) _ _ (lt-ltb c 2048 k)
 
 encode-three : (c : ℕ) → 2048 ≤ c → c < 65536 → encode_utf8 c ≡ three-bytes c
-  unfolding encode_utf8
+unfolding encode_utf8
 encode-three c h k =
     if_false (ltb c 128) _ _ (le-ltb c 128 (omega arith)) ∙ (if_false (ltb c 2048) _ _ (le-ltb c 2048 h)
     ∙ (if_true (ltb c 65536) _ _ (lt-ltb c 65536 k) ∙ ap (λ n. (224 + n) ∷ following (c / 64) ∷ following c ∷ []) (twice c)))
 
 encode-four : (c : ℕ) → 65536 ≤ c → encode_utf8 c ≡ four-bytes c
-  unfolding encode_utf8
+unfolding encode_utf8
 encode-four c h =
     if_false (ltb c 128) _ _ (le-ltb c 128 (omega arith)) ∙ (if_false (ltb c 2048) _ _ (le-ltb c 2048 (omega arith))
     ∙ (if_false (ltb c 65536) _ _ (le-ltb c 65536 h)

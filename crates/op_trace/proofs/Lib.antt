@@ -1,3 +1,4 @@
+pub mod FollowedBodies
 pub mod WalkBarriers
 pub mod WalkEquations
 pub mod WalkSteps

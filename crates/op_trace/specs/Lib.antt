@@ -1,4 +1,6 @@
 pub mod Act
+pub mod Body
+pub mod BodyExamples
 pub mod Database
 pub mod Ending
 pub mod Examples

@@ -1,7 +1,7 @@
 -- The term of a converted body, over the numbers of names.
 use Rattle.std.specs.Prelude.{◌≡◌, ◌<◌, ℕ, List, ◌∷◌, length, map, codes}
 use Rattle.op_logic.specs.Term.{Term, node, no_args, arg}
-use Rattle.op_store.specs.Body.{pair}
+use Rattle.op_trace.specs.Body.{pair}
 use Rattle.op_logic.specs.Names.{name_at, named}
 use Rattle.op_term.specs.Places.{term_at}
 use Rattle.op_store.specs.declared.names.control_names.ControlNames.{ControlNames}

@@ -2,7 +2,7 @@
 -- before its parts.
 use Rattle.std.specs.Prelude.{ℕ, suc, ◌+◌, List, [], ◌∷◌, map, reverse, Option, Some, None, option_map, option_and_then, codes}
 use Rattle.op_logic.specs.Term.{Term}
-use Rattle.op_store.specs.Body.{Body, goal, call, control, Division, divided}
+use Rattle.op_trace.specs.Body.{Body, goal, call, control, Division, divided}
 use Rattle.op_store.specs.declared.bodies.body_node.BodyNode.{BodyNode}
 use Rattle.op_store.specs.declared.bodies.body_node.BodyNode.TheVariants.{Goal, CallOf, And, Or, Then}
 
@@ -20,7 +20,7 @@ with_first d r =
 
 abbrev pub bodies_of : List (Term (List ℕ)) → Bodies
 bodies_of [] = record { bodies = Some []; steps = 0 }
-bodies_of (t ∷ ts) = with_first (divided t) (bodies_of ts)
+bodies_of (t ∷ ts) = with_first (divided [] t) (bodies_of ts)
 
 -- a node in front of the bodies behind it, of which a control construct takes two
 abbrev pub took : {P : Type 0} → (P → Term (List ℕ)) → BodyNode P → List Body → Option (List Body)

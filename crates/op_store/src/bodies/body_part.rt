@@ -1,6 +1,6 @@
 ghost use Rattle.std.specs.Prelude.{◌≡◌, ◌<◌, ℕ, length};
 ghost use Rattle.op_logic.specs.Names.{HasNames, named};
-ghost use Rattle.op_store.specs.Body.{part_of_term, part_of_pair};
+ghost use Rattle.op_store.specs.inner.BodyParts.{part_of_term, part_of_pair};
 
 use op_term::{Node, Symbols, Tree};
 

@@ -1,7 +1,7 @@
 ghost use Rattle.std.specs.Prelude.{◌≡◌, ◌<◌, ◌≤◌, ◌++◌, ◌∷◌, [], ℕ, List, length, reverse, map, All, IfOk, OnOk, Some, option_map};
 ghost use Rattle.op_logic.specs.Names.{name_at, named};
 ghost use Rattle.op_term.specs.inner.Cells.{AllBelow};
-ghost use Rattle.op_store.specs.Body.{Body, term_of};
+ghost use Rattle.op_trace.specs.Body.{Body, term_of};
 ghost use Rattle.op_store.specs.Nodes.{leaves};
 ghost use Rattle.op_store.specs.inner.Walk.{needs, took, read};
 ghost use Rattle.op_store.specs.inner.Converted.{AreControlNames, texts_at, paired, called};

@@ -1,7 +1,7 @@
 ghost use Rattle.std.specs.Prelude.{◌≡◌, ◌≢◌, ◌<◌, ◌≤◌, ◌+◌, ◌++◌, ◌∷◌, [], ℕ, length, IfOk, OnOk, Err, Some, None, All, option_map};
 ghost use Rattle.op_logic.specs.Names.{HasNames, named};
 ghost use Rattle.op_logic.specs.Term.{args_of, nth_arg, arity};
-ghost use Rattle.op_store.specs.Body.{divided};
+ghost use Rattle.op_trace.specs.Body.{divided};
 ghost use Rattle.op_store.specs.Nodes.{body_tree, leaves};
 ghost use Rattle.op_store.specs.inner.Walk.{left_of, step_before, refused, read};
 
@@ -25,14 +25,14 @@ pub fn body_of<T: Tree>(
 ) -> Result<Body<T::At>, BodyFault>
     requires place { T.IsPlace tree.now at.now }
     requires names { HasNames (length symbols.now) (T.term tree.now at.now) }
-    ensures body { IfOk result (λ b. (divided (named symbols.now (T.term tree.now at.now))).tree
+    ensures body { IfOk result (λ b. (divided [] (named symbols.now (T.term tree.now at.now))).tree
         ≡ Some (body_tree (λ p. named symbols.now (T.term tree.now p)) b)) }
     ensures places { IfOk result (λ b. All (λ p. T.IsPlace tree.now p × HasNames (length symbols.now) (T.term tree.now p)) (leaves b)) }
-    ensures paid { OnOk result (fuel.old ≡ fuel.new + (divided (named symbols.now (T.term tree.now at.now))).steps) }
-    ensures not_callable { result ≡ Err BodyFault.NotCallable → (divided (named symbols.now (T.term tree.now at.now))).tree ≡ None }
+    ensures paid { OnOk result (fuel.old ≡ fuel.new + (divided [] (named symbols.now (T.term tree.now at.now))).steps) }
+    ensures not_callable { result ≡ Err BodyFault.NotCallable → (divided [] (named symbols.now (T.term tree.now at.now))).tree ≡ None }
     ensures refused { result ≡ Err BodyFault.NotCallable
-        → fuel.old ≡ fuel.new + (divided (named symbols.now (T.term tree.now at.now))).steps }
-    ensures spent { result ≡ Err BodyFault.Spent → fuel.old < (divided (named symbols.now (T.term tree.now at.now))).steps }
+        → fuel.old ≡ fuel.new + (divided [] (named symbols.now (T.term tree.now at.now))).steps }
+    ensures spent { result ≡ Err BodyFault.Spent → fuel.old < (divided [] (named symbols.now (T.term tree.now at.now))).steps }
     ensures falls { fuel.new ≤ fuel.old }
 {
     match nodes_of(alloc, tree, at, symbols, fuel) {
@@ -51,15 +51,15 @@ pub(crate) fn nodes_of<T: Tree>(
 ) -> Result<Vec<BodyNode<T::At>>, BodyFault>
     requires place { T.IsPlace tree.now at.now }
     requires names { HasNames (length symbols.now) (T.term tree.now at.now) }
-    ensures body { IfOk result (λ met. option_map (λ b. Some (b ∷ [])) (divided (named symbols.now (T.term tree.now at.now))).tree
+    ensures body { IfOk result (λ met. option_map (λ b. Some (b ∷ [])) (divided [] (named symbols.now (T.term tree.now at.now))).tree
         ≡ Some (read (λ p. named symbols.now (T.term tree.now p)) met.items (Some []))) }
     ensures places { IfOk result (λ met. All (λ p. T.IsPlace tree.now p × HasNames (length symbols.now) (T.term tree.now p))
         (leaves met.items)) }
-    ensures paid { OnOk result (fuel.old ≡ fuel.new + (divided (named symbols.now (T.term tree.now at.now))).steps) }
-    ensures not_callable { result ≡ Err BodyFault.NotCallable → (divided (named symbols.now (T.term tree.now at.now))).tree ≡ None }
+    ensures paid { OnOk result (fuel.old ≡ fuel.new + (divided [] (named symbols.now (T.term tree.now at.now))).steps) }
+    ensures not_callable { result ≡ Err BodyFault.NotCallable → (divided [] (named symbols.now (T.term tree.now at.now))).tree ≡ None }
     ensures refused { result ≡ Err BodyFault.NotCallable
-        → fuel.old ≡ fuel.new + (divided (named symbols.now (T.term tree.now at.now))).steps }
-    ensures spent { result ≡ Err BodyFault.Spent → fuel.old < (divided (named symbols.now (T.term tree.now at.now))).steps }
+        → fuel.old ≡ fuel.new + (divided [] (named symbols.now (T.term tree.now at.now))).steps }
+    ensures spent { result ≡ Err BodyFault.Spent → fuel.old < (divided [] (named symbols.now (T.term tree.now at.now))).steps }
     ensures falls { fuel.new ≤ fuel.old }
 {
     let mut todo = Vec::new(alloc);

@@ -1,8 +1,8 @@
-ghost use Rattle.std.specs.Prelude.{◌≡◌, ℕ, List, length, take, max, IfOk, IfSome, option_map};
+ghost use Rattle.std.specs.Prelude.{◌≡◌, ℕ, [], List, length, take, max, IfOk, IfSome, option_map};
 ghost use Rattle.op_logic.specs.Term.{IsWithin};
 ghost use Rattle.op_store.specs.Counted.{variable_count};
 ghost use Rattle.op_logic.specs.Names.{HasNames, named};
-ghost use Rattle.op_store.specs.Body.{converted};
+ghost use Rattle.op_trace.specs.Body.{converted};
 ghost use Rattle.op_store.specs.Counted.{node_variables};
 
 use crate::bodies::body_fault::BodyFault;
@@ -23,7 +23,7 @@ pub(crate) fn converted_term<T: Tree>(
 ) -> Result<Option<Term>, Memory>
     requires place { T.IsPlace tree.now at.now }
     requires names { HasNames (length symbols.old) (T.term tree.now at.now) }
-    ensures body { IfOk result (λ o. option_map (named symbols.new) o ≡ (converted (named symbols.new (T.term tree.now at.now))).body) }
+    ensures body { IfOk result (λ o. option_map (named symbols.new) o ≡ (converted [] (named symbols.new (T.term tree.now at.now))).body) }
     ensures has { IfOk result (λ o. IfSome o (HasNames (length symbols.new))) }
     ensures within { IfOk result (λ o. (n : ℕ) → IsWithin n (T.term tree.now at.now) → IfSome o (IsWithin n)) }
     ensures kept { take (length symbols.old) symbols.new ≡ symbols.old }

@@ -1,6 +1,6 @@
 ghost use Rattle.std.specs.Prelude.{◌≡◌, ◌≤◌, ◌∷◌, [], ℕ, List, reverse, length, IfOk, Some};
 ghost use Rattle.op_logic.specs.Term.{Term as SpecTerm};
-ghost use Rattle.op_store.specs.Body.{Body as BodyTree};
+ghost use Rattle.op_trace.specs.Body.{Body as BodyTree};
 ghost use Rattle.op_store.specs.Nodes.{body_tree, leaves};
 ghost use Rattle.op_store.specs.inner.Walk.{needs, linked_node, unlinked, read};
 

@@ -1,9 +1,9 @@
-ghost use Rattle.std.specs.Prelude.{◌≡◌, ◌<◌, ℕ, length, take, max, Some, IfOk, IfSome, option_map};
+ghost use Rattle.std.specs.Prelude.{◌≡◌, ◌<◌, ℕ, [], length, take, max, Some, IfOk, IfSome, option_map};
 ghost use Rattle.op_logic.specs.Term.{IsWithin};
 ghost use Rattle.op_store.specs.Counted.{variable_count};
 ghost use Rattle.op_logic.specs.Names.{HasNames, named};
-ghost use Rattle.op_store.specs.Body.{converted};
-ghost use Rattle.op_store.specs.Rows.{pi_of};
+ghost use Rattle.op_trace.specs.Body.{converted};
+ghost use Rattle.op_store.specs.NumberedProcedures.{pi_of};
 ghost use Rattle.op_store.specs.inner.Parts.{body_text, body_variables, truth};
 
 use crate::bodies::converted::{converted_term, count_variables};
@@ -48,7 +48,7 @@ pub(crate) fn clause_body<T: Tree>(
     requires place { IfSome body (λ b. T.IsPlace tree.now b) }
     requires names { IfSome body (λ b. HasNames (length symbols.old) (T.term tree.now b)) }
     ensures body { IfOk result (λ o. option_map (named symbols.new) o
-        ≡ (converted (body_text (λ p. named symbols.new (T.term tree.now p)) body)).body) }
+        ≡ (converted [] (body_text (λ p. named symbols.new (T.term tree.now p)) body)).body) }
     ensures has { IfOk result (λ o. IfSome o (HasNames (length symbols.new))) }
     ensures within { IfOk result (λ o. (n : ℕ) → IfSome body (λ b. IsWithin n (T.term tree.now b)) → IfSome o (IsWithin n)) }
     ensures kept { take (length symbols.old) symbols.new ≡ symbols.old }

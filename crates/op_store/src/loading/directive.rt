@@ -48,8 +48,8 @@ fn add_dynamic<T: Tree>(store: &mut Store, tree: &T, entries: &[T::At]) -> Resul
     requires { All (λ p. T.IsPlace tree.now p × HasNames (length store.old.names) (T.term tree.now p)) entries.now }
     ensures tells { TellsTerm store.new result (the_dynamic store.old.locked (database_of store.old)
         (map (λ p. named store.old.names (T.term tree.now p)) entries.now)) }
-    ensures kept { store.new ≡ record store.old { rows = store.new.rows } }
-    ensures front { take (length store.old.rows) store.new.rows ≡ store.old.rows }
+    ensures kept { store.new ≡ record store.old { procedures = store.new.procedures } }
+    ensures front { take (length store.old.procedures) store.new.procedures ≡ store.old.procedures }
 {
     'entries: for entry in entries {
         match indicator_of(tree, entry, store.symbols()) {
@@ -71,7 +71,7 @@ fn declare_dynamic<T: Tree>(
     requires names { HasNames (length store.old.names) (T.term tree.now at.now) }
     ensures tells { TellsTerm store.new result (the_dynamic store.old.locked (database_of store.old)
         (the_entries (named store.old.names (T.term tree.now at.now)))) }
-    ensures kept { store.new ≡ record store.old { rows = store.new.rows } }
+    ensures kept { store.new ≡ record store.old { procedures = store.new.procedures } }
     ensures err { OnErr result (store.new ≡ store.old) }
 {
     let entries = entries_of(alloc, tree, at, store.symbols())?;
@@ -112,7 +112,7 @@ fn direct_one<T: Tree>(
     requires names { HasNames (length store.old.names) (T.term tree.now at.now) }
     ensures tells { TellsTerm store.new result (of_one store.old.locked (database_of store.old) (name_at store.old.names name.0)
         (named store.old.names (T.term tree.now at.now))) }
-    ensures kept { store.new ≡ record store.old { rows = store.new.rows } }
+    ensures kept { store.new ≡ record store.old { procedures = store.new.procedures } }
     ensures err { OnErr result (store.new ≡ store.old) }
 {
     match word_of(store.symbols().name_of(name)) {

@@ -1,7 +1,7 @@
 ghost use Rattle.std.specs.Prelude.{◌≡◌, ◌<◌, ℕ, length, map, All, IfSome, option_map, Ok, Err, if◌then◌else◌};
 ghost use Rattle.op_logic.specs.Names.{HasNames, named};
 ghost use Rattle.op_trace.specs.Database.{Database};
-ghost use Rattle.op_store.specs.Rows.{indicator_named};
+ghost use Rattle.op_store.specs.NumberedProcedures.{indicator_named};
 ghost use Rattle.op_store.specs.Fault.{directive};
 ghost use Rattle.op_store.specs.Directives.{indicator, all_indicate as the_indicators};
 

@@ -1,8 +1,10 @@
 ghost use Rattle.std.specs.Prelude.{◌≡◌, ◌<◌, ◌≤◌, ◌+◌, ◌^◌, ℕ, length, take, drop, filter, not, IfOk};
 ghost use Rattle.op_store.specs.Load.{newlines as the_newlines, first_token as the_first_token, line_at as the_line};
-ghost use Rattle.op_store.specs.Load.{fault_line as the_fault_line, is_layout as the_layout, is_rest as the_rest};
+ghost use Rattle.op_store.specs.Load.{fault_line as the_fault_line, is_rest as the_rest};
+ghost use Rattle.op_base.specs.Characters.{is_layout as layout};
 
 use op_base::Memory;
+use op_base::characters::is_layout;
 use op_token::Scanner;
 use std::alloc::Global;
 
@@ -65,14 +67,8 @@ pub(crate) fn fault_line(line: u64, bytes: &[u8], place: u64) -> u64
     }
 }
 
-fn is_layout(byte: u8) -> bool
-    ensures { result ≡ the_layout byte }
-{
-    byte == b' ' || byte == b'\t' || byte == b'\n' || byte == 11 || byte == 12 || byte == b'\r'
-}
-
 fn marks(alloc: Global, bytes: &[u8]) -> Result<Vec<u8>, Memory>
-    ensures { IfOk result (λ v. v.items ≡ filter (λ b. not (the_layout b)) bytes.now) }
+    ensures { IfOk result (λ v. v.items ≡ filter (λ b. not (layout b)) bytes.now) }
 {
     let marks = bytes
         .iter()

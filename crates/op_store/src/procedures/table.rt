@@ -1,5 +1,6 @@
 ghost use Rattle.std.specs.Prelude.{◌≡◌, [], ◌∷◌, length, take, Some, None, option_copied, option_map, IfOk, OnOk, OnErr, MatchOption};
-ghost use Rattle.op_store.specs.Rows.{pi_eq, row_in, with_row, extended_row, all_numbered_clauses, no_numbered_clauses};
+ghost use Rattle.op_store.specs.NumberedProcedures.{pi_eq, numbered_procedure_in, with_numbered_procedure, extended_numbered};
+ghost use Rattle.op_store.specs.NumberedProcedures.{all_numbered_clauses, no_numbered_clauses};
 ghost use Rattle.std.specs.List.{IsDistinct};
 ghost use Rattle.std.specs.Map.{keys_of};
 
@@ -16,19 +17,19 @@ use std::marker::Model;
 #[derive(Drop)]
 pub(crate) struct Procedures {
     alloc: Global,
-    rows: IndexMap<Pi, Procedure>,
+    by_indicator: IndexMap<Pi, Procedure>,
 }
 
 impl Model for Procedures {
     ghost use Rattle.std.specs.Coded.{codes};
     ghost use Rattle.op_logic.specs.inner.Code.{term_code};
-    ghost use Rattle.op_store.specs.Rows.{Rows};
+    ghost use Rattle.op_store.specs.NumberedProcedures.{NumberedProcedures};
 
-    ghost Value = { Rows };
+    ghost Value = { NumberedProcedures };
 
     ghost coded = { Prim.hlevel (codes, term_code) };
 
-    ghost view = { λ p. p.rows.entries };
+    ghost view = { λ p. p.by_indicator.entries };
 }
 
 impl Procedures {
@@ -38,20 +39,20 @@ impl Procedures {
     {
         Procedures {
             alloc,
-            rows: IndexMap::new(alloc),
+            by_indicator: IndexMap::new(alloc),
         }
     }
 
     /// A procedure, in constant time.
     pub fn find(&self, pi: Pi) -> Option<&Procedure>
-        ensures { option_copied result ≡ row_in self.now pi }
+        ensures { option_copied result ≡ numbered_procedure_in self.now pi }
     {
-        self.rows.get(&pi)
+        self.by_indicator.get(&pi)
     }
 
     /// Whether a procedure is dynamic; None where there is no such procedure.
     pub fn dynamic(&self, pi: Pi) -> Option<bool>
-        ensures { result ≡ option_map (λ p. p.dynamic) (row_in self.now pi) }
+        ensures { result ≡ option_map (λ p. p.dynamic) (numbered_procedure_in self.now pi) }
     {
         match self.find(pi) {
             Some(procedure) => Some(procedure.dynamic),
@@ -61,15 +62,16 @@ impl Procedures {
 
     /// Adds a clause at the end of its procedure. A new procedure is static.
     pub fn add(&mut self, pi: Pi, clause: Clause) -> Result<(), Memory>
-        ensures ok { OnOk result (self.new ≡ with_row self.old pi (extended_row (row_in self.old pi) clause)) }
+        ensures ok { OnOk result (self.new
+            ≡ with_numbered_procedure self.old pi (extended_numbered (numbered_procedure_in self.old pi) clause)) }
         ensures err { OnErr result (self.new ≡ self.old) }
     {
-        if let Some(procedure) = self.rows.get_mut(&pi) {
+        if let Some(procedure) = self.by_indicator.get_mut(&pi) {
             return procedure.clauses.push(self.alloc, clause);
         }
         let mut clauses = Snapshot::new(self.alloc)?;
         clauses.push(self.alloc, clause)?;
-        self.rows.insert(
+        self.by_indicator.insert(
             pi,
             Procedure {
                 dynamic: false,
@@ -81,12 +83,12 @@ impl Procedures {
 
     /// Makes a procedure that isn't there, dynamic and without clauses.
     pub fn make_dynamic(&mut self, pi: Pi) -> Result<(), Memory>
-        requires { row_in self.old pi ≡ None }
-        ensures ok { OnOk result (self.new ≡ with_row self.old pi no_numbered_clauses) }
+        requires { numbered_procedure_in self.old pi ≡ None }
+        ensures ok { OnOk result (self.new ≡ with_numbered_procedure self.old pi no_numbered_clauses) }
         ensures err { OnErr result (self.new ≡ self.old) }
     {
         let clauses = Snapshot::new(self.alloc)?;
-        self.rows.insert(
+        self.by_indicator.insert(
             pi,
             Procedure {
                 dynamic: true,
@@ -101,15 +103,15 @@ impl Procedures {
         ensures count { result ≡ length self.now }
         ensures distinct { IsDistinct pi_eq (keys_of self.now) }
     {
-        self.rows.len() as u64
+        self.by_indicator.len() as u64
     }
 
     /// Drops the procedures that were seen last, but for so many.
     pub fn truncate(&mut self, count: u64)
         ensures { self.new ≡ take count self.old }
     {
-        let count = count.min(self.rows.len() as u64);
-        self.rows.truncate(count as usize);
+        let count = count.min(self.by_indicator.len() as u64);
+        self.by_indicator.truncate(count as usize);
     }
 
     /// The clauses of all procedures, in time linear in their number.
@@ -117,8 +119,8 @@ impl Procedures {
         ensures { IfOk result (λ s. s ≡ all_numbered_clauses self.now) }
     {
         let mut all = Vec::new(self.alloc);
-        'rows: for i in 0..self.rows.len() {
-            let (_, procedure) = self.rows.get_index(i).unwrap();
+        'procedures: for i in 0..self.by_indicator.len() {
+            let (_, procedure) = self.by_indicator.get_index(i).unwrap();
             procedure.clauses.add_to(&mut all)?;
         }
         Snapshot::of(self.alloc, all)

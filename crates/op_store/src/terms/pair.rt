@@ -1,7 +1,7 @@
 ghost use Rattle.std.specs.Prelude.{◌≡◌, ◌<◌, ◌+◌, ℕ, length, MatchOption, IfSome, false};
 ghost use Rattle.op_logic.specs.Names.{HasNames, named};
 ghost use Rattle.op_logic.specs.Term.{size};
-ghost use Rattle.op_store.specs.Body.{pair};
+ghost use Rattle.op_trace.specs.Body.{pair};
 ghost use Rattle.op_store.specs.inner.Shapes.{is_pair};
 
 use crate::terms::shape::{Shape, shape_of};

@@ -4,15 +4,16 @@ use Rattle.op_logic.specs.Names.{HasNames, named}
 use Rattle.op_bind.specs.declared.places.Clause.{Clause as NumberedClause}
 use Rattle.op_trace.specs.Database.{Clause}
 use Rattle.op_store.specs.Stored.{database_of}
-use Rattle.op_store.specs.Rows.{clause_named}
+use Rattle.op_store.specs.NumberedProcedures.{clause_named}
 use Rattle.op_session.specs.Runnable.{is_runnable, are_runnable}
-use Rattle.op_session.proofs.RunnableBodies.{rows-bodies, list_all-map}
+use Rattle.op_session.proofs.RunnableBodies.{procedures-bodies, list_all-map}
 use Rattle.op_session.proofs.runnable.are_runnable.Goals as goal
 
 pub are_runnable_clauses-requires : goal.are_runnable_clauses-requires
 are_runnable_clauses-requires c =
     let s = c.args.store.now in
-    subst (All (λ (r : NumberedClause). HasNames (length s.names) r.body)) (sym c.in_ok-clauses.ensures.clauses) (rows-bodies (length s.names) s.rows c.in_ok-clauses.ensures.sound.rows)
+    subst (All (λ (r : NumberedClause). HasNames (length s.names) r.body)) (sym c.in_ok-clauses.ensures.clauses)
+    (procedures-bodies (length s.names) s.procedures c.in_ok-clauses.ensures.sound.procedures)
 
 pub returns : goal.returns
 returns c =

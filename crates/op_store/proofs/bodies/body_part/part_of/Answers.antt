@@ -1,5 +1,5 @@
 use Rattle.std.proofs.Common.{◌∙◌, sym, ap}
-use Rattle.op_store.specs.Body.{part_of_pair}
+use Rattle.op_store.specs.inner.BodyParts.{part_of_pair}
 use Rattle.op_store.proofs.BodyParts.{of-pair, of-other}
 use Rattle.op_store.proofs.bodies.body_part.part_of.Goals as goal
 

@@ -3,7 +3,7 @@ use Rattle.std.specs.Prelude.{codes}
 use Rattle.op_logic.specs.Names.{name_at, named}
 use Rattle.op_store.specs.inner.Converted.{texts_at, paired}
 use Rattle.op_store.specs.declared.bodies.body_node.BodyNode.TheVariants as nodes
-use Rattle.op_store.proofs.RowLaws.{on-ok}
+use Rattle.op_store.proofs.ProcedureLaws.{on-ok}
 use Rattle.op_store.proofs.BodyTerms.{one-there, took-pair}
 use Rattle.op_store.proofs.bodies.build_body.push_part.Goals as goal
 

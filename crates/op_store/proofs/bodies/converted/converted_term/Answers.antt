@@ -1,6 +1,6 @@
 use Rattle.std.proofs.Common.{Option, Some, sym, ap, ◌∙◌}
 use Rattle.std.specs.Prelude.{option_map}
-use Rattle.op_store.specs.Body.{Body, term_of}
+use Rattle.op_trace.specs.Body.{Body, term_of}
 use Rattle.op_store.proofs.ConvertedTerm.{body-read, kept-has}
 use Rattle.op_store.proofs.ConversionNames.{converted-has, converted-within}
 use Rattle.op_store.proofs.ConversionSteps.{T}

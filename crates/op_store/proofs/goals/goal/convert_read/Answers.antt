@@ -1,9 +1,9 @@
-use Rattle.std.proofs.Common.{◌≡◌, ℕ, Option, sym, ap, ◌∙◌, subst, refl}
+use Rattle.std.proofs.Common.{◌≡◌, ℕ, [], Option, sym, ap, ◌∙◌, subst, refl}
 use Rattle.std.specs.Prelude.{option_map}
 use Rattle.op_logic.specs.Term.{Term, IsWithin}
 use Rattle.op_logic.specs.Names.{named}
 use Rattle.op_term.specs.Places.{term_at}
-use Rattle.op_store.specs.Body.{converted}
+use Rattle.op_trace.specs.Body.{converted}
 use Rattle.op_store.proofs.VariableCounts.{count-named, counted-exactly}
 use Rattle.op_store.proofs.ConvertedTerm.{kept-has}
 use Rattle.op_store.proofs.goals.goal.convert_read.Goals as goal
@@ -14,7 +14,7 @@ returns-in-Some-clause-goal c =
     let w = c.new-whole.result in
     let t : Term ℕ = c.args.read.term in
     let e : term_at w.terms c.root.result ≡ t = ap (term_at w.terms) c.root.ensures.root ∙ c.new-whole.ensures.value in (
-      ap (λ (t : Term ℕ). (converted (named names t)).body) (sym e)
+      ap (λ (t : Term ℕ). (converted [] (named names t)).body) (sym e)
           ∙ (sym c.in_ok-body.ensures.body ∙ ap (λ (o : Option (Term ℕ)). option_map (named names) o) c.in-Some.is),
       refl,
       counted-exactly c.args.read.vars t c.requires.variables.within c.requires.variables.there ∙ sym (count-named names t),

@@ -9,6 +9,6 @@ invariant-entries g l = record {
   tells : all_dynamic l.fn.store.locked (database_of l.fn.store) (map (λ p. named l.fn.store.names (g.T.Tree.term l.tree p)) l.entries)
       ≡ all_dynamic l.fn.store.locked (database_of l.store)
       (map (λ p. named l.fn.store.names (g.T.Tree.term l.tree p)) (drop l.entry-index l.entries));
-  kept : l.store ≡ record l.fn.store { rows = l.store.rows };
-  front : take (length l.fn.store.rows) l.store.rows ≡ l.fn.store.rows;
+  kept : l.store ≡ record l.fn.store { procedures = l.store.procedures };
+  front : take (length l.fn.store.procedures) l.store.procedures ≡ l.fn.store.procedures;
 }

@@ -45,6 +45,7 @@ returns-in-Err-Bad-clause-tells c = λ n.
     let old : Stored = c.args.store.now in
     step-refused old.locked (database_of old) c.args.line c.args.bytes.now c.in-Err-Bad.place c.in-Err-Bad.kind
     (rw c.in-Err-Bad.field-0-is at c.in-Err-Bad.ensures.tells) n
-    ∙ stopped-same (database_of old) (database_of c.read.new.self) _ c.fault_line.result (syntax c.in-Err-Bad.kind) (sym c.read.ensures.world)
+    ∙ stopped-same (database_of old) (database_of c.read.new.self) _ c.fault_line.result (syntax c.in-Err-Bad.kind)
+    (sym c.read.ensures.world)
     (sym (c.fault_line.ensures ∙ ap (fault_line c.args.line c.args.bytes.now) c.in-Err-Bad.place-is))
     ∙ ap (λ (k : ReadFaultKind). stopped (database_of c.read.new.self) c.fault_line.result (syntax k)) (sym c.in-Err-Bad.kind-is)

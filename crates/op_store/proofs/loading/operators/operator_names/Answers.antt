@@ -3,7 +3,7 @@ use Rattle.std.proofs.lemmas.List.Elements.{All-weaker, All-same}
 use Rattle.std.specs.Prelude.{option_map}
 use Rattle.op_logic.specs.Names.{named, HasNames}
 use Rattle.op_store.proofs.DirectiveLaws.{names-listed}
-use Rattle.op_store.proofs.RowLaws.{if-ok}
+use Rattle.op_store.proofs.ProcedureLaws.{if-ok}
 use Rattle.op_store.proofs.loading.operators.operator_names.Goals as goal
 
 pub returns-in-Some-clause-names : goal.returns-in-Some-clause-names

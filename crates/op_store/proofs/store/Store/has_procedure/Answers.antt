@@ -2,9 +2,9 @@ use Rattle.std.proofs.Common.{◌≡◌, ap, ◌∙◌, subst}
 use Rattle.std.specs.Prelude.{is_some}
 use Rattle.op_trace.specs.Database.{procedure_in}
 use Rattle.op_store.specs.Stored.{Stored, database_of}
-use Rattle.op_store.specs.Rows.{indicator_named}
+use Rattle.op_store.specs.NumberedProcedures.{indicator_named}
 use Rattle.op_store.proofs.NamedProcedures.{is-named}
-use Rattle.op_store.proofs.RowLaws.{is-copied}
+use Rattle.op_store.proofs.ProcedureLaws.{is-copied}
 use Rattle.op_store.proofs.store.Store.has_procedure.Goals as goal
 
 pub returns : goal.returns

@@ -12,7 +12,7 @@ pub returns-clause-exact : goal.returns-clause-exact
 returns-clause-exact c =
     let i = c.self.inside in
     let old : Stored =
-    record { locked = i.locked; names = i.symbols; table = i.ops; flags = i.flags; rows = i.procedures; next = i.next } in
+    record { locked = i.locked; names = i.symbols; table = i.ops; flags = i.flags; procedures = i.procedures; next = i.next } in
     let new = c.intern-sym.new.self in
     subst (λ (s : Stored). OnOk c.intern-sym.result (with_names old new ≡ with_names s (with_name s.names c.args.name.now))) c.self.view_is
     (joined-exact i.locked i.symbols new i.ops i.flags i.procedures i.next c.intern-sym.result c.args.name.now c.intern-sym.ensures.exact)

@@ -8,27 +8,30 @@ use Rattle.std.specs.Map.{lookup, set_value}
 use Rattle.indexmap.specs.IndexMap.{insert_entry}
 use Rattle.op_bind.specs.declared.places.Clause.{Clause as NumberedClause}
 use Rattle.op_store.specs.declared.procedures.pi.Pi.{Pi}
-use Rattle.op_store.specs.declared.procedures.procedure.Procedure.{Procedure as Row}
-use Rattle.op_store.specs.Rows.{Rows, pi_eq, all_numbered_clauses}
+use Rattle.op_store.specs.declared.procedures.procedure.Procedure.{Procedure as NumberedProcedure}
+use Rattle.op_store.specs.NumberedProcedures.{NumberedProcedures, pi_eq, all_numbered_clauses}
 
-set-inserts-on : (b : Bool) (e : Pi × Row) (es more same : Rows) (w : Row) (o : Option Row) (p : Row) → cond b (Some e.1) o ≡ Some p
+set-inserts-on : (b : Bool) (e : Pi × NumberedProcedure) (es more same : NumberedProcedures) (w : NumberedProcedure)
+    (o : Option NumberedProcedure) (p : NumberedProcedure) → cond b (Some e.1) o ≡ Some p
     → (o ≡ Some p → same ≡ more) → cond b ((e.0, w) ∷ es) (e ∷ same) ≡ cond b ((e.0, w) ∷ es) (e ∷ more)
 set-inserts-on true e es more same w o p h f = refl
-set-inserts-on false e es more same w o p h f = ap (λ (xs : Rows). e ∷ xs) (f h)
+set-inserts-on false e es more same w o p h f = ap (λ (xs : NumberedProcedures). e ∷ xs) (f h)
 
 -- writing to a procedure that is there
-pub set-inserts : (k : Pi) (es : Rows) (p w : Row) → lookup (pi_eq k) es ≡ Some p → set_value (pi_eq k) es w ≡ insert_entry pi_eq es k w
+pub set-inserts : (k : Pi) (es : NumberedProcedures) (p w : NumberedProcedure) → lookup (pi_eq k) es ≡ Some p
+    → set_value (pi_eq k) es w ≡ insert_entry pi_eq es k w
 set-inserts k [] p w h = absurd cc
 set-inserts k (e ∷ es) p w h =
     set-inserts-on (pi_eq k e.0) e es (insert_entry pi_eq es k w) (set_value (pi_eq k) es w) w (lookup (pi_eq k) es) p h
     (set-inserts k es p w)
 
-set-same-on : (b : Bool) (e : Pi × Row) (es same : Rows) (o : Option Row) (p : Row) → cond b (Some e.1) o ≡ Some p
+set-same-on : (b : Bool) (e : Pi × NumberedProcedure) (es same : NumberedProcedures) (o : Option NumberedProcedure) (p : NumberedProcedure)
+    → cond b (Some e.1) o ≡ Some p
     → (o ≡ Some p → same ≡ es) → cond b ((e.0, p) ∷ es) (e ∷ same) ≡ e ∷ es
-set-same-on true e es same o p h f = let q : p ≡ e.1 = cc in ap (λ (x : Row). (e.0, x) ∷ es) q
-set-same-on false e es same o p h f = ap (λ (xs : Rows). e ∷ xs) (f h)
+set-same-on true e es same o p h f = let q : p ≡ e.1 = cc in ap (λ (x : NumberedProcedure). (e.0, x) ∷ es) q
+set-same-on false e es same o p h f = ap (λ (xs : NumberedProcedures). e ∷ xs) (f h)
 
-pub set-same : (k : Pi) (es : Rows) (p : Row) → lookup (pi_eq k) es ≡ Some p → set_value (pi_eq k) es p ≡ es
+pub set-same : (k : Pi) (es : NumberedProcedures) (p : NumberedProcedure) → lookup (pi_eq k) es ≡ Some p → set_value (pi_eq k) es p ≡ es
 set-same k [] p h = absurd cc
 set-same k (e ∷ es) p h = set-same-on (pi_eq k e.0) e es (set_value (pi_eq k) es p) (lookup (pi_eq k) es) p h (set-same k es p)
 
@@ -41,21 +44,21 @@ on-err-map (Ok a) f p = tt
 on-err-map (Err e) f p = f p
 
 -- the clauses of one procedure more
-all-next : (rows : Rows) (i : ℕ) (e : Pi × Row) → slice_get rows i ≡ Some e
-    → all_numbered_clauses (take (suc i) rows) ≡ all_numbered_clauses (take i rows) ++ e.1.clauses
+all-next : (ps : NumberedProcedures) (i : ℕ) (e : Pi × NumberedProcedure) → slice_get ps i ≡ Some e
+    → all_numbered_clauses (take (suc i) ps) ≡ all_numbered_clauses (take i ps) ++ e.1.clauses
 all-next [] i e h = absurd cc
 all-next (d ∷ ds) zero e h =
-    let same : d ≡ e = cc in ap (λ (x : Pi × Row). x.1.clauses ++ []) same ∙ append-nil e.1.clauses
+    let same : d ≡ e = cc in ap (λ (x : Pi × NumberedProcedure). x.1.clauses ++ []) same ∙ append-nil e.1.clauses
 all-next (d ∷ ds) (suc i) e h =
     ap (λ (rs : List NumberedClause). d.1.clauses ++ rs) (all-next ds i e h)
     ∙ sym (append_assoc d.1.clauses (all_numbered_clauses (take i ds)) e.1.clauses)
 
-pub all-more : (rows : Rows) (i : ℕ) (e : Pi × Row) (old new : List NumberedClause) → Some e ≡ slice_get rows i
-    → old ≡ all_numbered_clauses (take i rows) → new ≡ old ++ e.1.clauses → new ≡ all_numbered_clauses (take (i + 1) rows)
-all-more rows i e old new h o n =
+pub all-more : (ps : NumberedProcedures) (i : ℕ) (e : Pi × NumberedProcedure) (old new : List NumberedClause) → Some e ≡ slice_get ps i
+    → old ≡ all_numbered_clauses (take i ps) → new ≡ old ++ e.1.clauses → new ≡ all_numbered_clauses (take (i + 1) ps)
+all-more ps i e old new h o n =
     let one : suc i ≡ i + 1 = omega arith in
     n ∙ (ap (λ (rs : List NumberedClause). rs ++ e.1.clauses) o
-    ∙ (sym (all-next rows i e (sym h)) ∙ ap (λ (k : ℕ). all_numbered_clauses (take k rows)) one))
+    ∙ (sym (all-next ps i e (sym h)) ∙ ap (λ (k : ℕ). all_numbered_clauses (take k ps)) one))
 
 pub if-ok : {A E : Type 0} {P Q : A → Type 0} (r : Result A E) → ((a : A) → P a → Q a) → IfOk r P → IfOk r Q
 if-ok (Ok a) f p = f a p

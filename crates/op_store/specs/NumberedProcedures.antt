@@ -9,30 +9,30 @@ use Rattle.op_term.specs.Head.{sym}
 use Rattle.op_trace.specs.Database.{Text, Clause}
 use Rattle.op_bind.specs.declared.places.Clause.{Clause as NumberedClause}
 use Rattle.op_store.specs.declared.procedures.pi.Pi.{Pi}
-use Rattle.op_store.specs.declared.procedures.procedure.Procedure.{Procedure as Row}
+use Rattle.op_store.specs.declared.procedures.procedure.Procedure.{Procedure as NumberedProcedure}
 use Rattle.op_trace.specs.Database.{Indicator, name_arity, Procedure}
 
-abbrev pub Rows : Type 0
-Rows = List (Pi × Row)
+abbrev pub NumberedProcedures : Type 0
+NumberedProcedures = List (Pi × NumberedProcedure)
 
 abbrev pub pi_eq : Pi → Pi → Bool
 pi_eq a b = (a.name.0 == b.name.0) && (a.arity == b.arity)
 
-abbrev pub row_in : Rows → Pi → Option Row
-row_in rows k = lookup (pi_eq k) rows
+abbrev pub numbered_procedure_in : NumberedProcedures → Pi → Option NumberedProcedure
+numbered_procedure_in procedures k = lookup (pi_eq k) procedures
 
-abbrev pub with_row : Rows → Pi → Row → Rows
-with_row rows k r = insert_entry pi_eq rows k r
+abbrev pub with_numbered_procedure : NumberedProcedures → Pi → NumberedProcedure → NumberedProcedures
+with_numbered_procedure procedures k r = insert_entry pi_eq procedures k r
 
-abbrev pub extended_row : Option Row → NumberedClause → Row
-extended_row None r = record { dynamic = false; clauses = r ∷ [] }
-extended_row (Some p) r = record { dynamic = p.dynamic; clauses = p.clauses ++ r ∷ [] }
+abbrev pub extended_numbered : Option NumberedProcedure → NumberedClause → NumberedProcedure
+extended_numbered None r = record { dynamic = false; clauses = r ∷ [] }
+extended_numbered (Some p) r = record { dynamic = p.dynamic; clauses = p.clauses ++ r ∷ [] }
 
 -- the clauses of all procedures
-abbrev pub all_numbered_clauses : Rows → List NumberedClause
-all_numbered_clauses rows = flat_map (λ e. e.1.clauses) rows
+abbrev pub all_numbered_clauses : NumberedProcedures → List NumberedClause
+all_numbered_clauses procedures = flat_map (λ e. e.1.clauses) procedures
 
-abbrev pub no_numbered_clauses : Row
+abbrev pub no_numbered_clauses : NumberedProcedure
 no_numbered_clauses = record { dynamic = true; clauses = [] }
 
 -- the procedure that a term is of
@@ -49,11 +49,11 @@ indicator_named names k = name_arity (name_at names k.name.0) k.arity
 abbrev pub clause_named : List Text → NumberedClause → Clause
 clause_named names r = record { id = r.id; head = named names r.head; body = named names r.body; variables = r.vars }
 
-abbrev pub row_named : List Text → Row → Procedure
-row_named names p = record { dynamic = p.dynamic; clauses = map (clause_named names) p.clauses }
+abbrev pub procedure_named : List Text → NumberedProcedure → Procedure
+procedure_named names p = record { dynamic = p.dynamic; clauses = map (clause_named names) p.clauses }
 
-abbrev pub rows_named : List Text → Rows → List (Indicator × Procedure)
-rows_named names rows = map (λ e. (indicator_named names e.0, row_named names e.1)) rows
+abbrev pub procedures_named : List Text → NumberedProcedures → List (Indicator × Procedure)
+procedures_named names procedures = map (λ e. (indicator_named names e.0, procedure_named names e.1)) procedures
 
 -- a clause for a procedure, whose names are among so many, and whose variables are counted
 pub record IsNumberedClause (n : ℕ) (k : Pi) (r : NumberedClause) : Type 0 where
@@ -63,10 +63,10 @@ pub record IsNumberedClause (n : ℕ) (k : Pi) (r : NumberedClause) : Type 0 whe
   pub head_within : IsWithin r.vars r.head
   pub body_within : IsWithin r.vars r.body
 
-pub record IsRow (n : ℕ) (k : Pi) (p : Row) : Type 0 where
+pub record IsNumberedProcedure (n : ℕ) (k : Pi) (p : NumberedProcedure) : Type 0 where
   pub name : k.name.0 < n
   pub clauses : All (λ r. IsNumberedClause n k r) p.clauses
 
-abbrev pub AreRows : ℕ → Rows → Type 0
-AreRows n [] = Unit {0}
-AreRows n (e ∷ es) = IsRow n e.0 e.1 × AreRows n es
+abbrev pub AreNumberedProcedures : ℕ → NumberedProcedures → Type 0
+AreNumberedProcedures n [] = Unit {0}
+AreNumberedProcedures n (e ∷ es) = IsNumberedProcedure n e.0 e.1 × AreNumberedProcedures n es
