@@ -12,7 +12,8 @@ use Rattle.op_trace.specs.World.{World, same_barrier, Tries, First, Item, Goal, 
 use Rattle.op_trace.specs.Act.{Yield, Fails, Gives, Gives_again, Act, Setup}
 use Rattle.op_trace.specs.Visit.{Verdict, Failed, CutTo, Stopped, Spent, Visited, gives, with_turns, and_then, event_of, with_event, pays}
 use Rattle.op_trace.specs.Visit.{reaches, cut, shows, Control, TrueGoal, FailGoal, CutGoal, Conjunction, Disjunction, IfThenElse}
-use Rattle.op_trace.specs.Visit.{BoxedGoal, control, entered, Choice, Redo, Branch, More, Fail, Condition, matched, try_clause, alternatives}
+use Rattle.op_trace.specs.Visit.{BoxedGoal, control, entered, Choice, Redo, Branch, More, Fail, Condition, matched, try_clause}
+use Rattle.op_trace.specs.Visit.{alternatives}
 use Rattle.op_trace.specs.Visit.{Again, Inside, Clauses, Tried, inside, counted_as, acts, tries_again, entered_box, exits, yields}
 use Rattle.op_trace.specs.Visit.{branches, after, boxed, selected, solved, visit, visit_with}
 use Rattle.op_trace.proofs.WalkRows.{visit_rows}
@@ -243,7 +244,8 @@ move-row s (Forward (Cut m ∷ J) K σ w) below h =
 move-row s (Forward (Try t k g ∷ J) K σ w) below h =
     let a : Act = s.act (s.budget - w.steps) t g σ w in
     ap (λ (v : Visited). and_then v (resume s K)) (visit_rows s (Try t k g ∷ J) σ w below)
-    ∙ acted-row (nat_le (w.steps + a.cost) s.budget) s a w (yields (visit s) s (visit_with (visit s) s J) k g J σ) (yielded k g J K σ) K refl
+    ∙ acted-row (nat_le (w.steps + a.cost) s.budget) s a w (yields (visit s) s (visit_with (visit s) s J) k g J σ) (yielded k g J K σ) K
+    refl
     (λ u fits. yields-row s k g J σ a.yield u K fits)
 move-row s (Forward (Goal t m ∷ J) K σ w) below h =
     ap (λ (v : Visited). and_then v (resume s K)) (visit_rows s (Goal t m ∷ J) σ w below)
