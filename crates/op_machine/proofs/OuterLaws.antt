@@ -9,7 +9,8 @@ use Rattle.op_trace.specs.World.{World, Tries, Item, Goal, Cut, Exit, Try, Solve
 use Rattle.op_trace.specs.Outside.{Outside, at}
 use Rattle.op_trace.specs.Act.{Setup, setup_for, Fails, done}
 use Rattle.op_trace.specs.Visit.{Inside, Clauses, Tried, inside, Stopped, Control, TrueGoal, FailGoal, CutGoal, Conjunction, Disjunction}
-use Rattle.op_trace.specs.Visit.{IfThenElse, BoxedGoal, control, with_event, with_turns, entered, Choice, Redo, Branch, More, Again, Fail, Condition}
+use Rattle.op_trace.specs.Visit.{IfThenElse, BoxedGoal, control, with_event, with_turns, entered, Choice, Redo, Branch, More, Again, Fail}
+use Rattle.op_trace.specs.Visit.{Condition}
 use Rattle.op_trace.specs.declared.port.Port.TheVariants as port
 use Rattle.op_machine.specs.Resume.{State, Forward, Backward, Over, Moved, silent, showing, paid, entered_state, acted, yielded, chosen}
 use Rattle.op_machine.specs.Resume.{head_unified, tried, branched, tried_again, move, owed, with_more, world_of}
