@@ -104,7 +104,6 @@ fn next_by(ended: Option<Ending>) -> Next
 }
 
 // The next turn of a program outside of which nothing lies.
-#[tactic(auto, using(op_machine::proofs::AnswerLaws::goes_nothing))]
 fn next_turn<L: Ledger>(machine: &mut Machine, steps: &mut Steps<L>) -> Result<Turn, Memory>
     ensures answers { IfOk result (λ turn. Answers turn machine.old machine.new
         (to_show machine.old) (to_show machine.new) (world_now machine.new)) }
