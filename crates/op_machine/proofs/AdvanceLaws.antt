@@ -24,7 +24,8 @@ use Rattle.op_machine.specs.Program.{clauses_from, clause_in}
 use Rattle.op_machine.specs.Meaning.{Frame, level_in, choice_points_of, setup_of, world_in, items_now, goal_now, bindings_now}
 use Rattle.op_machine.specs.Meaning.{choice_points_in, state_of, event_seen}
 use Rattle.op_machine.specs.inner.Invariant.{IsGood, IsMode, IsGoal, HasGoal}
-use Rattle.op_machine.specs.inner.Moves.{Advances, goal_moved, chosen_now, clause_tried, clause_unified, clauses_tried, box_invoked, box_entered}
+use Rattle.op_machine.specs.inner.Moves.{Advances, goal_moved, chosen_now, clause_tried, clause_unified, clauses_tried, box_invoked}
+use Rattle.op_machine.specs.inner.Moves.{box_entered}
 use Rattle.op_machine.specs.Resume.{State, entered_state, Backward, Moved, silent, pay, head_unified, tried, move, with_more}
 use Rattle.op_machine.proofs.StepLaws.{pay-yes, pay-no}
 use Rattle.op_machine.proofs.ClauseLists.{clauses_from-here}

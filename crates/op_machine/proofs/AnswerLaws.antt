@@ -1,7 +1,8 @@
 -- What the parts of a machine come to is what its calls answer.
-use Rattle.std.proofs.Common.{◌≡◌, ℕ, Bool, false, List, [], ◌∷◌, refl, sym, ap, ◌∙◌, append-nil}
+use Rattle.std.proofs.Common.{◌≡◌, ℕ, Bool, false, List, [], ◌∷◌, refl, sym, ap, ◌∙◌, subst, append-nil}
 use Rattle.op_trace.specs.declared.barrier.Barrier.TheVariants.{Call}
 use Rattle.op_trace.specs.World.{World, Turn, Goal, loaded}
+use Rattle.op_trace.specs.Outside.{Outside, no_outside, Beyond, Taking, nothing, at}
 use Rattle.op_trace.specs.Act.{Setup, setup_for}
 use Rattle.op_trace.specs.Visit.{Verdict, Failed, CutTo, Stopped, Spent, Visited, gives, with_turns, and_then, visit}
 use Rattle.op_trace.specs.Ending as ending
@@ -17,7 +18,9 @@ use Rattle.op_store.specs.Stored.{Stored, database_of}
 use Rattle.op_machine.specs.Program.{goal_named}
 use Rattle.op_machine.specs.Meaning.{state_of, world_in, verdict_of}
 use Rattle.op_machine.specs.Resume.{State, at_top, owed, resume}
-use Rattle.op_machine.specs.Machine.{kept_of, to_come, only_ending, ending_for, last_after, Answers}
+use Rattle.op_machine.specs.Outer.{state_at}
+use Rattle.op_machine.specs.Host.{IsNothing}
+use Rattle.op_machine.specs.Machine.{Kept, kept_of, to_come, world_now, only_ending, ending_for, last_after, Answers, Goes}
 use Rattle.op_machine.specs.inner.Turns.{Turned, IsBegun}
 
 -- at the top a cut is an end without alternatives
@@ -33,14 +36,14 @@ unfolding resume
 resume-none s v = ended v.turns v.verdict v.world
 
 pub begun-run : (t : Stored) (g : Term ℕ) (n : ℕ) (names : List (List ℕ × ℕ)) (b w : ℕ) (c : Core) (l : Last) (f : Bool)
-    → IsBegun t g n names b w c
-    → to_come (kept_of c l f) ≡ run (setup_for b w) (goal_named t g) n (loaded (database_of t))
+    → IsBegun t g n names b w c → (out : Outside) (o : List ℕ)
+    → to_come (kept_of c l f) out o ≡ run (setup_for b w) (goal_named t g) n (at out o (loaded (database_of t)))
 unfolding to_come owed
-begun-run t g n names b w c l f h =
+begun-run t g n names b w c l f h out o =
     let s : Setup = setup_for b w in
-    ap (λ (x : Setup). ran (owed x (state_of c))) h.setup
-    ∙ (ap (λ (x : State). ran (owed s x)) h.state
-    ∙ resume-none s (visit s (Goal (goal_named t g) (Call 0) ∷ []) [] (started n (loaded (database_of t)))))
+    ap (λ (x : Setup). ran (owed x (state_at out o (state_of c)))) h.setup
+    ∙ (ap (λ (x : State). ran (owed s (state_at out o x))) h.state
+    ∙ resume-none s (visit s (Goal (goal_named t g) (Call 0) ∷ []) [] (started n (at out o (loaded (database_of t))))))
 
 ending-same : (e : Ending) → ending_of (verdict_of e) ≡ ending_for e
 ending-same outcome.Stopped = refl
@@ -50,16 +53,32 @@ ending-same outcome.Spent = refl
 only-ending : (e : Ending) (w : World) → ran (gives (verdict_of e) w) ≡ only_ending e w
 only-ending e w = ap (λ (x : ending.Ending). record { turns = []; ending = x; world = w }) (ending-same e)
 
-pub turned-answers : (old new : Core) (l : Last) (f : Bool) (t : declared.Turn) → Turned old new t
-    → Answers t (kept_of old l f) (kept_of new (last_after t) false)
+-- over the same outside, with nothing written
+abbrev pub AnswersOver : declared.Turn → Kept → Kept → Outside → List ℕ → Type 0
+AnswersOver t old new h o = Answers t old new (to_come old h o) (to_come new h o) (at h o (world_now new))
+
+pub turned-answers : (old new : Core) (l : Last) (f : Bool) (t : declared.Turn) → Turned old new t → (g : Outside) (o : List ℕ)
+    → AnswersOver t (kept_of old l f) (kept_of new (last_after t) false) g o
 unfolding to_come
-turned-answers old new l f turn.Event h = (ap ran h.0.owed, refl, h.0.count)
-turned-answers old new l f turn.Solution h = (ap ran h.owed, refl, h.count)
-turned-answers old new l f (turn.Ended e) h = (
-  ap ran h.owed
-      ∙ only-ending e (world_in new),
-  sym (ap ran h.walked.owed),
-  refl,
-  refl,
-  h.walked.count,
-)
+turned-answers old new l f turn.Event h g o = (ap ran (h.0.owed g o), refl, h.0.count)
+turned-answers old new l f turn.Solution h g o = (ap ran (h.owed g o), refl, h.count)
+turned-answers old new l f (turn.Ended e) h g o =
+    (ap ran (h.owed g o) ∙ only-ending e (at g o (world_in new)), sym (ap ran (h.walked.owed g o)), refl, refl, h.walked.count)
+
+-- a host of which nothing was asked
+pub goes-still : (t : declared.Turn) (old new : Kept) (reach : Taking → List ℕ → Type 0) (out : Beyond) → reach nothing []
+    → ((g : Outside) (o : List ℕ) → AnswersOver t old new g o) → Goes t old new reach out out
+goes-still t old new reach out w a = record {
+  taking = nothing;
+  bytes = [];
+  went = w;
+  answers = λ rest o. subst (λ (p : List ℕ). Answers t old new (to_come old (out rest) o) (to_come new (out rest) p)
+      (at (out rest) p (world_now new))) (sym (append-nil o)) (a (out rest) o);
+}
+
+-- where nothing lies outside, what is to come and what is left are over nothing
+pub goes_nothing : (t : declared.Turn) (old new : Kept) → Goes t old new IsNothing (λ rest. no_outside) (λ rest. no_outside)
+    → AnswersOver t old new no_outside []
+goes_nothing t old new g =
+    subst (λ (p : List ℕ). Answers t old new (to_come old no_outside []) (to_come new no_outside p) (at no_outside p (world_now new)))
+    g.went.1 (g.answers [] [])

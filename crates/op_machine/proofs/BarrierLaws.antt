@@ -10,7 +10,8 @@ use Rattle.op_trace.specs.Database.{Text, Clause}
 use Rattle.op_trace.specs.World.{World, Tries, First, Item, Goal, Cut, Exit, Try, Has}
 use Rattle.op_trace.specs.Act.{Yield, Fails, Gives, Gives_again, Act, Setup}
 use Rattle.op_trace.specs.Visit.{Stopped, Control, TrueGoal, FailGoal, CutGoal, Conjunction, Disjunction, IfThenElse, BoxedGoal, control}
-use Rattle.op_trace.specs.Visit.{Inside, Clauses, Tried, inside, counted_as, is_true, entered, Choice, Redo, Branch, More, Again, Fail, Condition}
+use Rattle.op_trace.specs.Visit.{Inside, Clauses, Tried, inside, counted_as, is_true, entered, Choice, Redo, Branch, More, Again, Fail}
+use Rattle.op_trace.specs.Visit.{Condition}
 use Rattle.op_machine.specs.Resume.{stays, goes, keep, with_more, State, Forward, Backward, Over, Moved, paid, chosen, head_unified, tried}
 use Rattle.op_machine.specs.Resume.{branched, entered_state, acted, yielded, tried_again, move}
 use Rattle.op_machine.specs.inner.Barriers.{Behind, Scoped, IsGiven, IsGoalBarrier, AreGiven, AreScoped, InStep}
@@ -251,7 +252,8 @@ pub branched-in_step : (s : Setup) (t : Term Text) (m : Barrier) (σ : Bindings 
     → InStep (branched s t m σ J K w).state
 branched-in_step s t m σ J K w sc a all = paid-in_step (nat_le (w.steps + 1) s.budget) s 1 w _ (sc, a, all)
 
-pub acted-in_step : (t : Bool) (s : Setup) (a : Act) (k : ℕ) (g : Term Text) (J : List Item) (K : List Choice) (σ : Bindings Text) (w : World)
+pub acted-in_step : (t : Bool) (s : Setup) (a : Act) (k : ℕ) (g : Term Text) (J : List Item) (K : List Choice) (σ : Bindings Text)
+    (w : World)
     → Scoped K J → AreGiven w.calls w.conditions J → AreScoped w.calls w.conditions K
     → InStep (acted t s a w (yielded k g J K σ)).state
 acted-in_step true s a k g J K σ w sc gi all = go a.yield

@@ -10,7 +10,8 @@ use Rattle.op_trace.specs.Database.{Text, text_eq, Clause}
 use Rattle.op_trace.specs.World.{World, Tries, First, Item, Goal, Cut, Exit, Try, open_boxes}
 use Rattle.op_trace.specs.Act.{Yield, Fails, Gives, Gives_again, Act, Setup}
 use Rattle.op_trace.specs.Visit.{Stopped, Control, TrueGoal, FailGoal, CutGoal, Conjunction, Disjunction, IfThenElse, BoxedGoal, control}
-use Rattle.op_trace.specs.Visit.{Inside, Clauses, Tried, inside, counted_as, is_true, entered, Choice, Redo, Branch, More, Again, Fail, Condition}
+use Rattle.op_trace.specs.Visit.{Inside, Clauses, Tried, inside, counted_as, is_true, entered, Choice, Redo, Branch, More, Again, Fail}
+use Rattle.op_trace.specs.Visit.{Condition}
 use Rattle.op_trace.proofs.WalkSteps.{IsLess, within-less}
 use Rattle.op_machine.specs.Resume.{stays, goes, keep, with_more, State, Forward, Backward, Over, Moved, paid, chosen, head_unified, tried}
 use Rattle.op_machine.specs.Resume.{branched, entered_state, acted, yielded, tried_again, move}
@@ -253,7 +254,8 @@ branched-counted s t m σ J K w counts sol ev nest all =
     ))
 
 -- a try: it fails, or its box exits
-pub acted-counted : (t : Bool) (s : Setup) (a : Act) (k : ℕ) (g : Term Text) (J : List Item) (K : List Choice) (σ : Bindings Text) (w : World)
+pub acted-counted : (t : Bool) (s : Setup) (a : Act) (k : ℕ) (g : Term Text) (J : List Item) (K : List Choice) (σ : Bindings Text)
+    (w : World)
     → nat_le (w.steps + a.cost) s.budget ≡ t → Counts s w → w.solutions ≤ w.steps
     → w.events + (2 * suc (length (open_boxes J)) + pending K) ≤ event_bound w.steps → IsNested w.calls (Exit k g ∷ J) → AreNested w.calls K
     → Counted s (acted t s a w (yielded k g J K σ)).state
@@ -288,7 +290,11 @@ acted-counted true s a k g J K σ w test counts sol ev nest all = go a.yield
     )
 acted-counted false s a k g J K σ w test counts sol ev nest all =
     let more : event_bound w.steps ≤ event_bound s.budget = bound-same w.steps s.budget counts.steps in (
-      record { steps = omega arith; calls = omega (arith, counts.steps, counts.calls); conditions = omega (arith, counts.steps, counts.conditions) },
+      record {
+        steps = omega arith;
+        calls = omega (arith, counts.steps, counts.calls);
+        conditions = omega (arith, counts.steps, counts.conditions);
+      },
       omega (arith, ev, more),
       omega (arith, sol, counts.steps),
     )

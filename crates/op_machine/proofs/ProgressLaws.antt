@@ -10,7 +10,8 @@ use Rattle.op_trace.specs.World.{World, Tries, First, Item, Goal, Cut, Exit, Try
 use Rattle.op_trace.specs.Act.{Yield, Fails, Gives, Gives_again, Act, Setup}
 use Rattle.op_trace.specs.Visit.{Stopped, Control, TrueGoal, FailGoal, CutGoal, Conjunction, Disjunction, IfThenElse, BoxedGoal, control}
 use Rattle.op_trace.specs.declared.port.Port.TheVariants as port
-use Rattle.op_trace.specs.Visit.{with_event, Inside, Clauses, Tried, inside, counted_as, entered, Choice, Redo, Branch, More, Again, Fail, Condition}
+use Rattle.op_trace.specs.Visit.{with_event, Inside, Clauses, Tried, inside, counted_as, entered, Choice, Redo, Branch, More, Again, Fail}
+use Rattle.op_trace.specs.Visit.{Condition}
 use Rattle.op_trace.proofs.WalkSteps.{IsLess, within-less}
 use Rattle.op_machine.specs.Resume.{keep, with_more, State, Forward, Backward, Over, Moved, silent, paid, pay, chosen, head_unified, tried}
 use Rattle.op_machine.specs.Resume.{branched, showing, entered_state, acted, yielded, tried_again, move, world_of}
@@ -76,7 +77,8 @@ pub branched-onward : (s : Setup) (t : Term Text) (m : Barrier) (σ : Bindings T
 branched-onward s t m σ J K w below =
     paid-onward (nat_le (w.steps + 1) s.budget) s 1 w _ refl below (λ fits. record { count = omega arith; steps = omega arith })
 
-pub acted-onward : (t : Bool) (s : Setup) (a : Act) (k : ℕ) (g : Term Text) (J : List Item) (K : List Choice) (σ : Bindings Text) (w : World)
+pub acted-onward : (t : Bool) (s : Setup) (a : Act) (k : ℕ) (g : Term Text) (J : List Item) (K : List Choice) (σ : Bindings Text)
+    (w : World)
     → nat_le (w.steps + a.cost) s.budget ≡ t → w.steps ≤ s.budget → IsOnward s w (acted t s a w (yielded k g J K σ))
 acted-onward true s a k g J K σ w test below = go a.yield
   where
@@ -168,12 +170,14 @@ first-live (Exit k g ∷ J) K σ w h = absurd h
 first-live (Try t k g ∷ J) K σ w h = absurd h
 
 -- a try fails, or its box exits
-pub acted-lighter : (t : Bool) (s : Setup) (a : Act) (k : ℕ) (g : Term Text) (J : List Item) (K : List Choice) (σ : Bindings Text) (w : World)
+pub acted-lighter : (t : Bool) (s : Setup) (a : Act) (k : ℕ) (g : Term Text) (J : List Item) (K : List Choice) (σ : Bindings Text)
+    (w : World)
     → nat_le (w.steps + a.cost) s.budget ≡ t → w.steps ≤ s.budget
     → weight s (acted t s a w (yielded k g J K σ)).state < 3 * (s.budget - w.steps) + 2
 acted-lighter true s a k g J K σ w test below = go a.yield
   where
-    go : (y : Yield) → weight s (yielded k g J K σ y (record (counted_as w a.after) { steps = w.steps + a.cost })).state < 3 * (s.budget - w.steps) + 2
+    go : (y : Yield) → weight s (yielded k g J K σ y (record (counted_as w a.after) { steps = w.steps + a.cost })).state
+        < 3 * (s.budget - w.steps) + 2
     go Fails = omega arith
     go (Gives τ) = omega arith
     go (Gives_again τ x) = omega arith

@@ -2,6 +2,7 @@
 use Rattle.std.proofs.Common.{◌≡◌, ℕ, suc, ◌+◌, ◌^◌, ◌<◌, ◌≤◌, List, [], ◌∷◌, length, reverse, refl, sym, ap, ◌∙◌, subst, arith}
 use Rattle.op_trace.specs.Database.{Clause}
 use Rattle.op_trace.specs.World.{World, Turn}
+use Rattle.op_trace.specs.Outside.{Outside}
 use Rattle.op_trace.specs.Act.{Setup, setup_for}
 use Rattle.op_trace.specs.Visit.{with_turns, More}
 use Rattle.op_machine.specs.declared.core_state.Core.{Core}
@@ -20,11 +21,12 @@ use Rattle.op_machine.specs.inner.Invariant.{IsSound, AreFrames, IsKind, Fits}
 use Rattle.op_machine.specs.inner.Bounds.{Counted, event_bound}
 use Rattle.op_machine.specs.Resume.{State, Forward, Backward, Over, Moved, owed, move, world_of}
 use Rattle.op_machine.specs.inner.Barriers.{InStep}
+use Rattle.op_machine.specs.Outer.{state_at, turns_at}
 use Rattle.op_machine.specs.inner.Moves.{Advances, turns_of}
 use Rattle.op_machine.specs.inner.Turns.{turns_in, Follows, Walked, Showed, Ended}
 use Rattle.op_machine.proofs.ClauseLists.{clauses_from-some}
 use Rattle.op_machine.proofs.BoundLaws.{move-counted, bound-same}
-use Rattle.op_machine.proofs.MoveLaws.{move-equation}
+use Rattle.op_machine.proofs.OuterLaws.{move-equation-outer}
 use Rattle.op_machine.proofs.BarrierLaws.{move-in_step}
 use Rattle.op_machine.proofs.ProgressLaws.{count_in, IsOnward, move-onward, move-lighter, weight, IsOver, HasClauses}
 
@@ -105,13 +107,16 @@ advance-onward old new s h a =
     let as_ : (world_of (moved_from old).state).steps ≡ new.steps = ap (λ (w : World). w.steps) after in
     (omega (arith, on.count, be, ae, n), omega (arith, on.steps, bs, as_))
 
-pub advance-owed : (old new : Core) (s : Step) → IsSound old → Advances old new (moved_from old) s
-    → owed (setup_of old) (state_of old) ≡ with_turns (turns_of s new) (owed (setup_of new) (state_of new))
-advance-owed old new s h a =
-    move-equation (setup_of old) (state_of old) (below-budget old h) h.in_step
-    ∙ (ap (λ (ts : List Turn). with_turns ts (owed (setup_of old) (moved_from old).state)) (sym a.turns)
-    ∙ (ap (λ (t : State). with_turns (turns_of s new) (owed (setup_of old) t)) (sym a.state)
-    ∙ ap (λ (x : Setup). with_turns (turns_of s new) (owed x (state_of new))) (setup-same old new a.budget a.wanted)))
+-- whatever lies outside and whatever was written before
+pub advance-owed : (old new : Core) (s : Step) → IsSound old → Advances old new (moved_from old) s → (g : Outside) (o : List ℕ)
+    → owed (setup_of old) (state_at g o (state_of old))
+    ≡ with_turns (turns_at g o (turns_of s new)) (owed (setup_of new) (state_at g o (state_of new)))
+advance-owed old new s h a g o =
+    move-equation-outer g o old.budget old.wanted (state_of old) (below-budget old h) h.in_step
+    ∙ (ap (λ (ts : List Turn). with_turns (turns_at g o ts) (owed (setup_of old) (state_at g o (moved_from old).state))) (sym a.turns)
+    ∙ (ap (λ (t : State). with_turns (turns_at g o (turns_of s new)) (owed (setup_of old) (state_at g o t))) (sym a.state)
+    ∙ ap (λ (x : Setup). with_turns (turns_at g o (turns_of s new)) (owed x (state_at g o (state_of new))))
+    (setup-same old new a.budget a.wanted)))
 
 pub follows-on : (first mid new : Core) (s : Step) → Follows first mid → Advances mid new (moved_from mid) s → Follows first new
 follows-on first mid new s f a = record {
@@ -126,7 +131,7 @@ follows-on first mid new s f a = record {
 pub walked-on : (first mid new : Core) → Walked first mid → Advances mid new (moved_from mid) step.Silent → Walked first new
 walked-on first mid new w a = record {
   follows = follows-on first mid new step.Silent w.follows a;
-  owed = w.owed ∙ advance-owed mid new step.Silent w.follows.sound a;
+  owed = λ g o. w.owed g o ∙ advance-owed mid new step.Silent w.follows.sound a g o;
   count = omega (arith, w.count, (advance-onward mid new step.Silent w.follows.sound a).0);
 }
 
@@ -134,8 +139,8 @@ pub showed-on : (first mid new : Core) (s : Step) (t : Turn) → turns_of s new 
     → Advances mid new (moved_from mid) s → Showed first new t
 showed-on first mid new s t one w a = record {
   follows = follows-on first mid new s w.follows a;
-  owed = w.owed ∙ (advance-owed mid new s w.follows.sound a
-      ∙ ap (λ (ts : List Turn). with_turns ts (owed (setup_of new) (state_of new))) one);
+  owed = λ g o. w.owed g o ∙ (advance-owed mid new s w.follows.sound a g o
+      ∙ ap (λ (ts : List Turn). with_turns (turns_at g o ts) (owed (setup_of new) (state_at g o (state_of new)))) one);
   count = omega (arith, w.count, (advance-onward mid new s w.follows.sound a).0, ap length one);
 }
 
@@ -143,13 +148,14 @@ pub ended-at : (first mid : Core) (e : Ending) → Walked first mid → mid.mode
 unfolding owed
 ended-at first mid e w m = record {
   walked = w;
-  owed = w.owed ∙ ap (λ (q : Mode). owed (setup_of mid) (state_with mid.store (level_in mid) mid.frames.choices (world_in mid) q)) m;
+  owed = λ g o. w.owed g o
+      ∙ ap (λ (q : Mode). owed (setup_of mid) (state_at g o (state_with mid.store (level_in mid) mid.frames.choices (world_in mid) q))) m;
 }
 
 pub walked-self : (c : Core) → IsSound c → Walked c c
 walked-self c s = record {
   follows = record { sound = s; store = refl; names = refl; budget = refl; wanted = refl; later = omega arith };
-  owed = refl;
+  owed = λ g o. refl;
   count = refl;
 }
 

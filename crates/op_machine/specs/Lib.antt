@@ -1,5 +1,8 @@
+pub mod ActRules
+pub mod Host
 pub mod Machine
 pub mod Meaning
+pub mod Outer
 pub mod Program
 pub mod Resume
 pub mod View

@@ -1,6 +1,7 @@
 -- What callers see of a machine, and what its calls answer.
-use Rattle.std.specs.Prelude.{◌≡◌, ℕ, ◌+◌, ◌&&◌, not, Bool, true, false, List, [], ◌∷◌}
+use Rattle.std.specs.Prelude.{◌≡◌, ℕ, ◌+◌, ◌&&◌, not, Bool, true, false, List, [], ◌∷◌, ◌++◌}
 use Rattle.op_trace.specs.World.{World, Event, Turn, Shown, Solved, loaded}
+use Rattle.op_trace.specs.Outside.{Outside, Beyond, Taking, follow, at}
 use Rattle.op_trace.specs.Act.{Setup, setup_for}
 use Rattle.op_trace.specs.Run.{Run, ran}
 use Rattle.op_trace.specs.Ending as ending
@@ -21,6 +22,7 @@ use Rattle.op_bind.specs.State as bind
 use Rattle.op_machine.specs.Meaning.{Level, level_of, bindings_in, state_with, event_seen}
 use Rattle.op_machine.specs.inner.Invariant.{IsSeen}
 use Rattle.op_machine.specs.Resume.{State, owed}
+use Rattle.op_machine.specs.Outer.{state_at}
 
 -- what a caller sees of what a machine keeps: but the last event, no turn that was or is to come is among it
 pub record Kept : Type 0 where
@@ -65,7 +67,7 @@ kept_of c l f = record {
 abbrev pub setup : Kept → Setup
 setup k = setup_for k.budget k.wanted
 
--- the run's world at this moment
+-- the run's world at this moment, without what lies outside
 abbrev pub world_now : Kept → World
 world_now k = record (loaded (database_of k.tables)) {
   variables = k.bindings.count;
@@ -73,8 +75,7 @@ world_now k = record (loaded (database_of k.tables)) {
   conditions = k.conditions;
   steps = k.steps;
   events = k.events;
-  solutions =
-      k.solutions;
+  solutions = k.solutions;
 }
 
 abbrev pub level_now : Kept → Level
@@ -83,9 +84,9 @@ level_now k = level_of k.bindings k.continuations
 abbrev pub state_now : Kept → State
 state_now k = state_with k.tables (level_now k) k.frames.choices (world_now k) k.mode
 
--- the turns that are still to come, the ending, and the world at it
-unfoldable pub to_come : Kept → Run
-to_come k = ran (owed (setup k) (state_now k))
+-- the turns that are still to come, the ending, and the world at it, over what lies outside, where these bytes were written before
+unfoldable pub to_come : Kept → Outside → List ℕ → Run
+to_come k h o = ran (owed (setup k) (state_at h o (state_now k)))
 
 -- the event that was shown last
 abbrev pub event_now : Kept → Event
@@ -121,17 +122,26 @@ ending_for outcome.Spent = ending.Spent
 abbrev pub only_ending : Ending → World → Run
 only_ending e w = record { turns = []; ending = ending_for e; world = w }
 
--- the first of the turns to come was answered, and the rest are left; or none are, and the ending was answered
-abbrev pub Answers : declared.Turn → Kept → Kept → Type 0
-Answers turn.Event old new =
-    (to_come old ≡ with_turn (Shown (event_now new) (world_now new)) (to_come new)) × (has_event new ≡ true)
+-- of the turns that were to come the first was answered, in this world, and these are left; or none were, the ending was answered, and
+-- nothing else is left
+abbrev pub Answers : declared.Turn → Kept → Kept → Run → Run → World → Type 0
+Answers turn.Event old new before after w =
+    (before ≡ with_turn (Shown (event_now new) w) after) × (has_event new ≡ true) × (answered new ≡ answered old + 1)
+Answers turn.Solution old new before after w =
+    (before ≡ with_turn (Solved (bindings_in new.tables (level_now new)) w) after) × (has_solution new ≡ true)
     × (answered new ≡ answered old + 1)
-Answers turn.Solution old new =
-    (to_come old ≡ with_turn (Solved (bindings_in new.tables (level_now new)) (world_now new)) (to_come new)) × (has_solution new ≡ true)
-    × (answered new ≡ answered old + 1)
-Answers (turn.Ended e) old new =
-    (to_come old ≡ only_ending e (world_now new)) × (to_come new ≡ to_come old) × (has_event new ≡ false) × (has_solution new ≡ false)
-    × (answered new ≡ answered old)
+Answers (turn.Ended e) old new before after w =
+    (before ≡ only_ending e w) × (after ≡ before) × (has_event new ≡ false) × (has_solution new ≡ false) × (answered new ≡ answered old)
+
+-- A machine goes on over a host, which comes to what it is now by a taking and by writing some bytes. Whatever the source of the input
+-- still has, and whatever was written before, the turn is that of the run over it, and the rest of the run is left over what lies outside
+-- now.
+pub record Goes (t : declared.Turn) (old new : Kept) (reach : Taking → List ℕ → Type 0) (out out_now : Beyond) : Type 0 where
+  pub taking : Taking
+  pub bytes : List ℕ
+  pub went : reach taking bytes
+  pub answers : (rest o : List ℕ) → Answers t old new (to_come old (out (follow taking rest)) o) (to_come new (out_now rest) (o ++ bytes))
+      (at (out_now rest) (o ++ bytes) (world_now new))
 
 abbrev pub last_after : declared.Turn → Last
 last_after turn.Event = last.Event

@@ -10,7 +10,8 @@ use Rattle.op_trace.specs.Database.{Text, text_eq, Clause}
 use Rattle.op_trace.specs.World.{World, same_barrier, Tries, First, Item, Goal, Cut, Exit, Try, Turn, Shown, Solved}
 use Rattle.op_trace.specs.Act.{Yield, Fails, Gives, Gives_again, Act, Setup}
 use Rattle.op_trace.specs.Visit.{Verdict, Failed, CutTo, Stopped, Spent, Visited, gives, and_then, event_of, with_event, Control, TrueGoal}
-use Rattle.op_trace.specs.Visit.{FailGoal, CutGoal, Conjunction, Disjunction, IfThenElse, BoxedGoal, control, Inside, Clauses, Tried, inside, entered, Choice, Redo}
+use Rattle.op_trace.specs.Visit.{FailGoal, CutGoal, Conjunction, Disjunction, IfThenElse, BoxedGoal, control, Inside, Clauses, Tried}
+use Rattle.op_trace.specs.Visit.{inside, entered, Choice, Redo}
 use Rattle.op_trace.specs.Visit.{Branch, More, Again, Fail, Condition, counted_as, after, visit}
 
 -- where no choice point is left, a cut leaves nothing more to fail

@@ -10,6 +10,7 @@ mod continuations;
 mod control;
 mod core_state;
 mod goal_kind;
+mod host;
 pub mod laws;
 mod machine;
 mod start;
@@ -17,6 +18,7 @@ mod turn;
 mod view;
 
 pub use core_state::Ending;
-pub use machine::{Host, Machine};
+pub use host::{Host, Nothing};
+pub use machine::Machine;
 pub use turn::{Cause, MachineFault, Turn};
 pub use view::{EventView, SolutionView};

@@ -1,14 +1,17 @@
-ghost use Rattle.std.specs.Prelude.{◌≡◌, ◌≢◌, ◌+◌, ◌-◌, ◌^◌, ◌<◌, ◌≤◌, ◌↔◌, true, false, length, IfOk, OnErr, IsErrOf, IfSome, is_some};
-ghost use Rattle.std.specs.Prelude.{OnOk};
+ghost use Rattle.std.specs.Prelude.{◌≡◌, ◌≢◌, ◌+◌, ◌-◌, ◌^◌, ◌<◌, ◌≤◌, ◌↔◌, ℕ, true, false, List, [], length, take};
+ghost use Rattle.std.specs.Prelude.{IfOk, OnOk, OnErr, IsErrOf, IfSome, is_some};
 ghost use Rattle.op_store.specs.Queries.{IsSoundGoal};
 ghost use Rattle.op_store.specs.Stored.{database_of};
 ghost use Rattle.op_logic.specs.Names.{named};
 ghost use Rattle.op_trace.specs.Act.{setup_for};
 ghost use Rattle.op_trace.specs.Run.{run};
 ghost use Rattle.op_trace.specs.World.{loaded};
+ghost use Rattle.op_trace.specs.Outside.{Outside, nothing, at};
+ghost use Rattle.op_machine.specs.Host.{Leaves};
 ghost use Rattle.op_machine.specs.Machine.{last_after};
 
 use crate::core_state::{Core, Ending, Mode, Seen};
+use crate::host::Host;
 use crate::turn::{Cause, Last, MachineFault, Turn};
 use crate::view::{EventView, SolutionView};
 use op_base::{Memory, Steps};
@@ -18,9 +21,6 @@ use op_trace::Port;
 use std::alloc::Global;
 use std::marker::Model;
 use std::sync::ledger::Ledger;
-
-/// What lies outside a traced program. A program without builtins asks nothing of it.
-pub trait Host {}
 
 /// The walk over the search tree of a goal, a turn at a time. It keeps no list of turns.
 #[derive(Drop)]
@@ -49,11 +49,12 @@ impl Model for Machine {
 }
 
 impl Machine {
-    ghost use Rattle.op_machine.specs.Machine.{to_come, Answers, answered, event_now, has_event, has_solution};
+    ghost use Rattle.op_machine.specs.Machine.{to_come, Goes, answered, event_now, has_event, has_solution};
     ghost use Rattle.op_machine.specs.View.{event_in};
 
     /// A machine before the first turn of a goal's run over the clauses of a store: the run may take `budget` steps,
-    /// from 1 to 1,000,000,000, and ends at the solution numbered `wanted`, from 1, or at none for 0.
+    /// from 1 to 1,000,000,000, and ends at the solution numbered `wanted`, from 1, or at none for 0. The turns to come are those
+    /// of the run, whatever lies outside and whatever was written before.
     pub fn start(
         alloc: Global,
         store: Store,
@@ -64,9 +65,9 @@ impl Machine {
         requires goal { IsSoundGoal (length store.names) goal.now }
         requires some { 1 ≤ budget }
         requires limit { budget ≤ 1000000000 }
-        ensures run { IfOk result (λ m. to_come m
+        ensures run { IfOk result (λ m. (h : Outside) (o : List ℕ) → to_come m h o
             ≡ run (setup_for budget wanted) (named store.names goal.now.body) goal.now.vars
-            (loaded (database_of store))) }
+            (at h o (loaded (database_of store)))) }
         ensures names { IfOk result (λ m. m.names ≡ goal.now.names) }
         ensures steps { IfOk result (λ m. m.steps ≡ 0) }
         ensures answered { IfOk result (λ m. answered m ≡ 0) }
@@ -85,19 +86,24 @@ impl Machine {
 
     /// The next turn, or the ending, again each time. The ledger rises by the run's steps, but not by those of a call that
     /// answers a fault. After `Memory` the machine has ended, and answers so from then on; its steps and the number of
-    /// turns answered are those before the call.
+    /// turns answered are those before the call. A machine that has ended by a fault asks nothing of the host. Of the program a run
+    /// changes its names alone, and these only grow.
     pub fn next<H: Host, L: Ledger>(
         &mut self,
         host: &mut H,
         steps: &mut Steps<L>,
     ) -> Result<Turn, MachineFault>
-        ensures answers { IfOk result (λ t. Answers t self.old self.new) }
+        ensures goes { IfOk result (λ t. Goes t self.old self.new
+            (H.went host.old host.new) (H.outside host.old) (H.outside host.new)) }
+        ensures left { OnErr result (Leaves (H.went host.old host.new)) }
+        ensures unasked { self.old.faulted ≡ true → H.went host.old host.new nothing [] }
         ensures cost { OnOk result (steps.new ≡ steps.old + (self.new.steps - self.old.steps)) }
         ensures later { self.old.steps ≤ self.new.steps }
         ensures unpaid { OnErr result (steps.new ≡ steps.old) }
         ensures unmade { OnErr result (self.new.steps ≡ self.old.steps) }
         ensures unanswered { OnErr result (answered self.new ≡ answered self.old) }
-        ensures tables { self.new.tables ≡ self.old.tables }
+        ensures symbols { take (length self.old.tables.names) self.new.tables.names ≡ self.old.tables.names }
+        ensures program { self.new.tables ≡ record self.old.tables { names = self.new.tables.names } }
         ensures names { self.new.names ≡ self.old.names }
         ensures few { OnOk result (answered self.new < 2 ^ 63) }
         ensures whole { OnOk result (self.new.faulted ≡ false) }

@@ -5,18 +5,13 @@ ghost use Rattle.op_store.specs.Queries.{IsSoundGoal};
 
 use op_base::{Memory, Steps};
 use op_bind::{Bindings, Ref};
-use op_machine::{Ending, EventView, Host, Machine, MachineFault, SolutionView, Turn};
+use op_machine::{Ending, EventView, Machine, MachineFault, Nothing, SolutionView, Turn};
 use op_store::{Goal, Locked, Store};
 use op_term::{Node, Symbols};
 use op_trace::Port;
 use std::alloc::Global;
 use std::marker::Brand;
 use std::sync::ledger::{Blank, Ledger};
-
-#[derive(Drop)]
-struct Nothing;
-
-impl Host for Nothing {}
 
 fn word(port: Port) -> &'static str {
     match port {

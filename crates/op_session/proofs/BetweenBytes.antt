@@ -6,7 +6,6 @@ use Rattle.op_desk.specs.declared.chan.Chan.TheVariants.{Commands, Talk}
 use Rattle.op_desk.specs.Contents.{Known}
 use Rattle.op_desk.proofs.FrameLaws.{Same-refl, SameBut-from_Same, SameBut-then}
 use Rattle.op_trace.specs.Run.{Run, steps_at}
-use Rattle.op_machine.specs.Machine.{to_come}
 use Rattle.op_session.specs.Traced.{Traced}
 use Rattle.op_token.specs.Cut.{cut_of, text_in, rest_in, IsOpen, IsFollowed}
 use Rattle.op_token.proofs.TermTexts as cutting
@@ -80,7 +79,7 @@ pub memory_fault : (a : Sight) → Fault status.Memory a a
 memory_fault a = record { broken = tt; quiet = (calm_start a).quiet; counts = (refl, refl); faultless = λ t. tt }
 
 pub holds_start : (traced : Traced) (a : Sight) (before : ℕ) (feed : Feed) → Feeds traced at_start feed → feed.machine.steps ≡ 0
-    → to_come feed.machine ≡ traced.run → Holds traced a a 0 before before [] feed
+    → to_show feed.machine ≡ traced.run → Holds traced a a 0 before before [] feed
 holds_start traced a before feed f none same = record {
   taken = [];
   passed = [];

@@ -11,12 +11,12 @@ use Rattle.op_trace.specs.Run.{Run, events_of, worlds_of, steps_at}
 use Rattle.op_trace.specs.Ending as ending
 use Rattle.op_machine.specs.declared.core_state.Ending.{Ending}
 use Rattle.op_machine.specs.declared.core_state.Ending.TheVariants as outcome
-use Rattle.op_machine.specs.Machine.{Kept, to_come, ending_for, event_now, world_now}
+use Rattle.op_machine.specs.Machine.{Kept, ending_for, event_now, world_now}
 use Rattle.op_session.specs.declared.feed.Feed.{Feed}
 use Rattle.op_session.specs.Line.{event_line}
 use Rattle.op_session.specs.Moves.{Stand, At, next_from, moved, event_count, end_found}
 use Rattle.op_session.specs.Session.{line_at}
-use Rattle.op_session.specs.inner.Feeding.{AtEnd, Feeds, ShowsEvent, ShowsEnd, Shows, Arrives, ArrivesAt, Finds, IsHere, next_of}
+use Rattle.op_session.specs.inner.Feeding.{to_show, AtEnd, Feeds, ShowsEvent, ShowsEnd, Shows, Arrives, ArrivesAt, Finds, IsHere, next_of}
 
 -- where a list goes on
 pub record GoesOn {X : Type 0} (xs : List X) (p : ℕ) (x : X) (ys : List X) : Type 0 where
@@ -81,13 +81,13 @@ next_here run p h = rw (le_true (p + 1) (event_count run) (omega arith)) refl
 pub next_past : (run : Run) (p : ℕ) → event_count run ≤ p → next_from run p ≡ end_found run.ending
 next_past run p h = rw (le_false (p + 1) (event_count run) (omega arith)) refl
 
-pub finds_event : (traced : Traced) (s : Stand) (t : Stored) (k n : Kept) → Feeds traced s (record { machine = k; ended = None; commands = t }) → ShowsEvent k n → k.steps ≤ n.steps → n.tables ≡ k.tables → ArrivesAt traced s (record { machine = n; ended = None; commands = t })
+pub finds_event : (traced : Traced) (s : Stand) (t : Stored) (k n : Kept) → Feeds traced s (record { machine = k; ended = None; commands = t }) → ShowsEvent k n → k.steps ≤ n.steps → n.tables.table ≡ k.tables.table → ArrivesAt traced s (record { machine = n; ended = None; commands = t })
 finds_event traced s t k n f e later same =
     let here = f.events ∙ e.events in
     let worlds = f.worlds ∙ e.worlds in
-    let g = goes_on (events_of traced.run.turns) s.place (event_now n) (events_of (to_come n).turns) here in
-    let w = goes_on (worlds_of traced.run.turns) s.place (world_now n) (worlds_of (to_come n).turns) worlds in
-    let steps = steps_here traced.run s.place (world_now n) (worlds_of (to_come n).turns) worlds in
+    let g = goes_on (events_of traced.run.turns) s.place (event_now n) (events_of (to_show n).turns) here in
+    let w = goes_on (worlds_of traced.run.turns) s.place (world_now n) (worlds_of (to_show n).turns) worlds in
+    let steps = steps_here traced.run s.place (world_now n) (worlds_of (to_show n).turns) worlds in
     let looked : s.furthest ≡ s.place = f.looked in
     let most : max s.furthest (s.place + 1) ≡ s.place + 1 = omega arith in
     let within = g.within in
@@ -103,16 +103,16 @@ finds_event traced s t k n f e later same =
           steps = rw most (sym steps);
           least = omega (arith, steps);
           looked = most;
-          operators = ap (λ (x : Stored). x.table) same ∙ f.operators;
+          operators = same ∙ f.operators;
           reads = f.reads;
         };
       };
       here = e.here;
-      line = line_here traced.table (events_of traced.run.turns) s.place (event_now n) (events_of (to_come n).turns) here;
+      line = line_here traced.table (events_of traced.run.turns) s.place (event_now n) (events_of (to_show n).turns) here;
     }
 
 -- the end is found, where nothing stands behind the place
-pub finds_end : (traced : Traced) (s : Stand) (t : Stored) (k n : Kept) (e : Ending) → Feeds traced s (record { machine = k; ended = None; commands = t }) → ShowsEnd k n e → k.steps ≤ n.steps → n.tables ≡ k.tables → Arrives traced s (record { machine = n; ended = Some e; commands = t }) (end_found traced.run.ending)
+pub finds_end : (traced : Traced) (s : Stand) (t : Stored) (k n : Kept) (e : Ending) → Feeds traced s (record { machine = k; ended = None; commands = t }) → ShowsEnd k n e → k.steps ≤ n.steps → n.tables.table ≡ k.tables.table → Arrives traced s (record { machine = n; ended = Some e; commands = t }) (end_found traced.run.ending)
 finds_end traced s t k n e f h later same =
     let none : drop s.place (events_of traced.run.turns) ≡ [] = f.events ∙ h.none in
     let no_worlds : drop s.place (worlds_of traced.run.turns) ≡ [] = f.worlds ∙ h.no_worlds in
@@ -134,7 +134,7 @@ finds_end traced s t k n e f h later same =
         steps = rw (← place) (sym (steps ∙ world));
         least = omega arith;
         looked = record { furthest = refl; place = place; ending = f.ending ∙ h.ending };
-        operators = ap (λ (x : Stored). x.table) same ∙ f.operators;
+        operators = same ∙ f.operators;
         reads = f.reads;
       });
     }
@@ -166,7 +166,7 @@ finds_by traced s feed outcome.Failed h a = subst (λ x. Arrives traced s feed (
 finds_by traced s feed outcome.Spent h a = subst (λ x. Arrives traced s feed (end_found x)) h a
 
 -- after the machine was asked
-pub finds_asked : (traced : Traced) (s : Stand) (t : Stored) (k n : Kept) (was o : Option Ending) → is_some was ≡ false → Feeds traced s (record { machine = k; ended = was; commands = t }) → Shows k n o → k.steps ≤ n.steps → n.tables ≡ k.tables → Finds traced s (record { machine = n; ended = o; commands = t }) (next_of o)
+pub finds_asked : (traced : Traced) (s : Stand) (t : Stored) (k n : Kept) (was o : Option Ending) → is_some was ≡ false → Feeds traced s (record { machine = k; ended = was; commands = t }) → Shows k n o → k.steps ≤ n.steps → n.tables.table ≡ k.tables.table → Finds traced s (record { machine = n; ended = o; commands = t }) (next_of o)
 finds_asked traced s t k n (Some e) o none f h later same = absurd cc
 finds_asked traced s t k n None None none f h later same = finds_event traced s t k n f h later same
 finds_asked traced s t k n None (Some e) none f h later same = finds_by traced s _ e (f.ending ∙ h.ending) (finds_end traced s t k n e f h later same)

@@ -8,9 +8,9 @@ use Rattle.op_machine.specs.declared.core_state.Ending.{Ending}
 use Rattle.op_machine.specs.declared.turn.Turn as declared
 use Rattle.op_machine.specs.declared.turn.Turn.TheVariants as turn
 use Rattle.op_machine.specs.Meaning.{bindings_in}
-use Rattle.op_machine.specs.Machine.{Kept, to_come, with_turn, only_ending, event_now, world_now, level_now, Answers}
+use Rattle.op_machine.specs.Machine.{Kept, with_turn, only_ending, event_now, world_now, level_now, Answers}
 use Rattle.op_session.specs.Moves.{most_steps}
-use Rattle.op_session.specs.inner.Feeding.{most_of}
+use Rattle.op_session.specs.inner.Feeding.{to_show, most_of}
 
 shown_most : (e : Event) (w : World) (r : Run) → max w.steps (most_steps r) ≤ most_steps (with_turn (Shown e w) r)
 shown_most e w r = omega arith
@@ -21,18 +21,19 @@ solved_most σ w r = omega arith
 ending_most : (e : Ending) (w : World) → w.steps ≤ most_steps (only_ending e w)
 ending_most e w = omega arith
 
-pub answers_most : (t : declared.Turn) (old new : Kept) → Answers t old new → most_of new ≤ most_of old
+pub answers_most : (t : declared.Turn) (old new : Kept) → Answers t old new (to_show old) (to_show new) (world_now new)
+    → most_of new ≤ most_of old
 answers_most turn.Event old new a =
-    let h : most_of new ≤ most_steps (to_come old) =
-    subst (λ (r : Run). most_of new ≤ most_steps r) (sym a.0) (shown_most (event_now new) (world_now new) (to_come new)) in
+    let h : most_of new ≤ most_steps (to_show old) =
+    subst (λ (r : Run). most_of new ≤ most_steps r) (sym a.0) (shown_most (event_now new) (world_now new) (to_show new)) in
     omega arith
 answers_most turn.Solution old new a =
-    let h : most_of new ≤ most_steps (to_come old) =
+    let h : most_of new ≤ most_steps (to_show old) =
     subst (λ (r : Run). most_of new ≤ most_steps r) (sym a.0)
-    (solved_most (bindings_in new.tables (level_now new)) (world_now new) (to_come new)) in
+    (solved_most (bindings_in new.tables (level_now new)) (world_now new) (to_show new)) in
     omega arith
 answers_most (turn.Ended e) old new a =
-    let h : new.steps ≤ most_steps (to_come old) =
+    let h : new.steps ≤ most_steps (to_show old) =
     subst (λ (r : Run). new.steps ≤ most_steps r) (sym a.0) (ending_most e (world_now new)) in
-    let k : most_steps (to_come new) ≡ most_steps (to_come old) = ap most_steps a.1 in
+    let k : most_steps (to_show new) ≡ most_steps (to_show old) = ap most_steps a.1 in
     omega arith

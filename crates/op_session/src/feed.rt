@@ -1,13 +1,13 @@
-ghost use Rattle.std.specs.Prelude.{◌≡◌, ◌+◌, ◌-◌, ◌≤◌, true, IfOk, OnOk};
-ghost use Rattle.op_machine.specs.Machine.{has_event, event_now};
+ghost use Rattle.std.specs.Prelude.{◌≡◌, ◌+◌, ◌-◌, ◌≤◌, true, IfOk, OnOk, OnErr};
+ghost use Rattle.op_machine.specs.Machine.{Answers, has_event, event_now, world_now};
 ghost use Rattle.op_machine.specs.View.{event_in};
 ghost use Rattle.op_session.specs.Moves.{Stand, at_start};
 ghost use Rattle.op_session.specs.Traced.{Traced};
-ghost use Rattle.op_session.specs.inner.Feeding.{Finds, Shows, next_of, most_of};
+ghost use Rattle.op_session.specs.inner.Feeding.{Finds, Shows, next_of, most_of, to_show};
 
 use crate::command::Meaning;
 use op_base::{Memory, Steps};
-use op_machine::{Ending, EventView, Host, Machine, Turn};
+use op_machine::{Ending, EventView, Machine, Nothing, Turn};
 use op_store::Store;
 use op_term::Ops;
 use std::sync::ledger::Ledger;
@@ -103,11 +103,20 @@ fn next_by(ended: Option<Ending>) -> Next
     }
 }
 
-// A program without builtins asks nothing of what lies outside it.
-#[derive(Drop)]
-struct Nothing;
-
-impl Host for Nothing {}
+// The next turn of a program outside of which nothing lies.
+fn next_turn<L: Ledger>(machine: &mut Machine, steps: &mut Steps<L>) -> Result<Turn, Memory>
+    ensures answers { IfOk result (λ turn. Answers turn machine.old machine.new
+        (to_show machine.old) (to_show machine.new) (world_now machine.new)) }
+    ensures cost { steps.new ≡ steps.old + (machine.new.steps - machine.old.steps) }
+    ensures later { machine.old.steps ≤ machine.new.steps }
+    ensures unmade { OnErr result (machine.new.steps ≡ machine.old.steps) }
+    ensures table { machine.new.tables.table ≡ machine.old.tables.table }
+{
+    match machine.next(&mut Nothing, steps) {
+        Ok(turn) => Ok(turn),
+        Err(_) => Err(Memory),
+    }
+}
 
 // Asks a machine for turns up to the next event or its ending: a solution is passed over.
 #[tactic(auto, using(crate::proofs::MostSteps::answers_most))]
@@ -120,15 +129,13 @@ fn next_event<L: Ledger>(
     ensures later { machine.old.steps ≤ machine.new.steps }
     ensures within { machine.new.steps ≤ most_of machine.old }
     ensures rises { OnOk result (most_of machine.new ≤ most_of machine.old) }
-    ensures tables { machine.new.tables ≡ machine.old.tables }
+    ensures table { machine.new.tables.table ≡ machine.old.tables.table }
 {
-    let mut host = Nothing;
     loop {
-        match machine.next(&mut host, steps) {
-            Ok(Turn::Event) => return Ok(None),
-            Ok(Turn::Solution) => {}
-            Ok(Turn::Ended(ending)) => return Ok(Some(ending)),
-            Err(_) => return Err(Memory),
+        match next_turn(machine, steps)? {
+            Turn::Event => return Ok(None),
+            Turn::Solution => {}
+            Turn::Ended(ending) => return Ok(Some(ending)),
         }
     }
 }

@@ -4,6 +4,7 @@ pub mod BodyExamples
 pub mod Database
 pub mod Ending
 pub mod Examples
+pub mod Outside
 pub mod Run
 pub mod Visit
 pub mod World

@@ -20,7 +20,8 @@ abbrev pub IsGoalFirst : List Item → Type 0
 IsGoalFirst (Goal t m ∷ J) = Unit {0}
 IsGoalFirst I = ⊥
 
--- of the boxes that exit, or whose goal is tried, each has a number that was given out, and fewer are open behind it; behind a cut comes a goal
+-- of the boxes that exit, or whose goal is tried, each has a number that was given out, and fewer are open behind it; behind a cut comes a
+-- goal
 abbrev pub IsNested : ℕ → List Item → Type 0
 IsNested n [] = Unit {0}
 IsNested n (Goal t m ∷ J) = IsNested n J

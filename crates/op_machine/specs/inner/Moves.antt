@@ -18,7 +18,8 @@ use Rattle.op_machine.specs.declared.core_state.Step.TheVariants as step
 use Rattle.op_machine.specs.Meaning.{setup_of, world_in, items_now, goal_now, bindings_now, choice_points_in, state_of, event_seen}
 use Rattle.op_machine.specs.inner.Invariant.{IsGood, IsSeen}
 use Rattle.op_store.specs.Stored.{database_of}
-use Rattle.op_machine.specs.Resume.{State, entered_state, Moved, Forward, Backward, silent, pay, keep, if_then_else_chosen, chosen, invoked, head_unified, tried}
+use Rattle.op_machine.specs.Resume.{State, entered_state, Moved, Forward, Backward, silent, pay, keep, if_then_else_chosen, chosen, invoked}
+use Rattle.op_machine.specs.Resume.{head_unified, tried}
 use Rattle.op_machine.specs.Resume.{branched, move}
 
 -- the turn that a machine shows after a step
@@ -51,7 +52,8 @@ box_invoked c g n = invoked (goal_now c g) (items_now c n) (choice_points_in c) 
 -- a box was entered, at the present moment
 abbrev pub box_entered : Core → ℕ → ℕ → ℕ → State
 box_entered c k g n =
-    entered_state (inside (database_of c.store) (goal_now c g)) k (goal_now c g) (items_now c n) (choice_points_in c) (bindings_now c) (world_in c)
+    entered_state (inside (database_of c.store) (goal_now c g)) k (goal_now c g) (items_now c n) (choice_points_in c) (bindings_now c)
+    (world_in c)
 
 -- the body of a clause before items, with this barrier: nothing for a fact
 abbrev pub body_before : Core → ℕ → ℕ → List world.Item → List world.Item

@@ -2,6 +2,7 @@
 use Rattle.std.specs.Prelude.{◌≡◌, ℕ, ◌+◌, ◌≤◌, List, [], ◌∷◌}
 use Rattle.op_trace.specs.declared.barrier.Barrier.TheVariants.{Call}
 use Rattle.op_trace.specs.World.{Turn, Shown, Solved, Goal, loaded}
+use Rattle.op_trace.specs.Outside.{Outside, at}
 use Rattle.op_trace.specs.Act.{setup_for}
 use Rattle.op_trace.specs.Run.{started}
 use Rattle.op_trace.specs.Visit.{gives, with_turns}
@@ -13,6 +14,7 @@ use Rattle.op_logic.specs.Term.{Term}
 use Rattle.op_machine.specs.Meaning.{setup_of, world_in, state_of, event_seen, bindings_now, verdict_of}
 use Rattle.op_machine.specs.inner.Invariant.{IsSound, IsSeen}
 use Rattle.op_machine.specs.Resume.{owed, Forward}
+use Rattle.op_machine.specs.Outer.{state_at, turn_at}
 use Rattle.op_store.specs.Stored.{Stored, database_of}
 use Rattle.op_machine.specs.Program.{goal_named}
 
@@ -29,22 +31,24 @@ pub record Follows (old new : Core) : Type 0 where
   pub wanted : new.wanted ≡ old.wanted
   pub later : old.steps ≤ new.steps
 
--- by silent moves
+-- by silent moves, whatever lies outside and whatever was written before
 pub record Walked (old new : Core) : Type 0 where
   pub follows : Follows old new
-  pub owed : owed (setup_of old) (state_of old) ≡ owed (setup_of new) (state_of new)
+  pub owed : (h : Outside) (o : List ℕ) → owed (setup_of old) (state_at h o (state_of old))
+      ≡ owed (setup_of new) (state_at h o (state_of new))
   pub count : turns_in new ≡ turns_in old
 
 -- by silent moves, and one that showed this turn
 pub record Showed (old new : Core) (t : Turn) : Type 0 where
   pub follows : Follows old new
-  pub owed : owed (setup_of old) (state_of old) ≡ with_turns (t ∷ []) (owed (setup_of new) (state_of new))
+  pub owed : (h : Outside) (o : List ℕ) → owed (setup_of old) (state_at h o (state_of old))
+      ≡ with_turns (turn_at h o t ∷ []) (owed (setup_of new) (state_at h o (state_of new)))
   pub count : turns_in new ≡ turns_in old + 1
 
 -- by silent moves, to the end
 pub record Ended (old new : Core) (e : Ending) : Type 0 where
   pub walked : Walked old new
-  pub owed : owed (setup_of old) (state_of old) ≡ gives (verdict_of e) (world_in new)
+  pub owed : (h : Outside) (o : List ℕ) → owed (setup_of old) (state_at h o (state_of old)) ≡ gives (verdict_of e) (at h o (world_in new))
 
 abbrev pub Turned : Core → Core → declared.Turn → Type 0
 Turned old new turn.Event = Showed old new (Shown (event_seen new.store new.bindings new.seen) (world_in new)) × IsSeen new

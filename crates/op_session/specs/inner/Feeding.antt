@@ -1,6 +1,7 @@
 -- What the feed of a run's events keeps.
 use Rattle.std.specs.Prelude.{◌≡◌, ℕ, ◌+◌, ◌≤◌, true, [], ◌∷◌, drop, max, Option, Some, None}
 use Rattle.op_session.specs.inner.Reader.{IsReader}
+use Rattle.op_trace.specs.Outside.{no_outside}
 use Rattle.op_trace.specs.Run.{Run, events_of, worlds_of, steps_at}
 use Rattle.op_machine.specs.declared.core_state.Ending.{Ending}
 use Rattle.op_machine.specs.declared.core_state.Ending.TheVariants as outcome
@@ -23,16 +24,20 @@ abbrev pub Looked : Run → Stand → Option Ending → Type 0
 Looked run s None = s.furthest ≡ s.place
 Looked run s (Some e) = AtEnd run s e
 
--- what a machine still has to show, and the operators in which it is written
+-- what a machine still has to show: nothing lies outside its program
+abbrev pub to_show : Kept → Run
+to_show k = to_come k no_outside []
+
+-- and the operators in which it is written
 abbrev pub traced_by : Kept → Traced
-traced_by k = record { run = to_come k; table = k.tables.table }
+traced_by k = record { run = to_show k; table = k.tables.table }
 
 -- the feed stands where the user stands: the events behind the place are those that the machine still has to show
 pub record Feeds (traced : Traced) (s : Stand) (feed : Feed) : Type 0 where
-  pub events : drop s.place (events_of traced.run.turns) ≡ events_of (to_come feed.machine).turns
-  pub worlds : drop s.place (worlds_of traced.run.turns) ≡ worlds_of (to_come feed.machine).turns
-  pub ending : traced.run.ending ≡ (to_come feed.machine).ending
-  pub world : traced.run.world ≡ (to_come feed.machine).world
+  pub events : drop s.place (events_of traced.run.turns) ≡ events_of (to_show feed.machine).turns
+  pub worlds : drop s.place (worlds_of traced.run.turns) ≡ worlds_of (to_show feed.machine).turns
+  pub ending : traced.run.ending ≡ (to_show feed.machine).ending
+  pub world : traced.run.world ≡ (to_show feed.machine).world
   pub within : s.place ≤ event_count traced.run
   pub steps : feed.machine.steps ≡ steps_at traced.run s.furthest
   pub least : steps_at traced.run s.place ≤ feed.machine.steps
@@ -42,26 +47,26 @@ pub record Feeds (traced : Traced) (s : Stand) (feed : Feed) : Type 0 where
 
 -- the most steps that a machine has made or has still to show
 abbrev pub most_of : Kept → ℕ
-most_of k = max k.steps (most_steps (to_come k))
+most_of k = max k.steps (most_steps (to_show k))
 
 -- a machine went on to its next event
 pub record ShowsEvent (old new : Kept) : Type 0 where
-  pub events : events_of (to_come old).turns ≡ event_now new ∷ events_of (to_come new).turns
-  pub worlds : worlds_of (to_come old).turns ≡ world_now new ∷ worlds_of (to_come new).turns
-  pub ending : (to_come old).ending ≡ (to_come new).ending
-  pub world : (to_come old).world ≡ (to_come new).world
+  pub events : events_of (to_show old).turns ≡ event_now new ∷ events_of (to_show new).turns
+  pub worlds : worlds_of (to_show old).turns ≡ world_now new ∷ worlds_of (to_show new).turns
+  pub ending : (to_show old).ending ≡ (to_show new).ending
+  pub world : (to_show old).world ≡ (to_show new).world
   pub here : has_event new ≡ true
 
 -- or to its ending
 pub record ShowsEnd (old new : Kept) (e : Ending) : Type 0 where
-  pub none : events_of (to_come old).turns ≡ []
-  pub no_worlds : worlds_of (to_come old).turns ≡ []
-  pub events : events_of (to_come new).turns ≡ []
-  pub worlds : worlds_of (to_come new).turns ≡ []
-  pub ending : (to_come old).ending ≡ ending_for e
-  pub same_ending : (to_come new).ending ≡ ending_for e
-  pub world : (to_come old).world ≡ world_now new
-  pub same_world : (to_come new).world ≡ world_now new
+  pub none : events_of (to_show old).turns ≡ []
+  pub no_worlds : worlds_of (to_show old).turns ≡ []
+  pub events : events_of (to_show new).turns ≡ []
+  pub worlds : worlds_of (to_show new).turns ≡ []
+  pub ending : (to_show old).ending ≡ ending_for e
+  pub same_ending : (to_show new).ending ≡ ending_for e
+  pub world : (to_show old).world ≡ world_now new
+  pub same_world : (to_show new).world ≡ world_now new
 
 abbrev pub Shows : Kept → Kept → Option Ending → Type 0
 Shows old new None = ShowsEvent old new

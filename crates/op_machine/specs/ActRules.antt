@@ -1,0 +1,30 @@
+-- What each act of a table keeps, whatever acts join the table.
+use Rattle.std.specs.Prelude.{◌≡◌, ℕ, ◌≤◌, ◌++◌}
+use Rattle.op_logic.specs.Term.{Term}
+use Rattle.op_logic.specs.Bind.{Bindings}
+use Rattle.op_trace.specs.Database.{Text}
+use Rattle.op_trace.specs.World.{World, Tries}
+use Rattle.op_trace.specs.Act.{Yield, Fails, Gives, Gives_again, Act}
+
+-- these bindings are those with some before them, which are newer
+pub record Extends (old new : Bindings Text) : Type 0 where
+  pub newer : Bindings Text
+  pub is : new ≡ newer ++ old
+
+-- a solution binds further variables, and unbinds none
+abbrev pub OnlyBinds : Bindings Text → Yield → Type 0
+OnlyBinds σ Fails = Unit {0}
+OnlyBinds σ (Gives τ) = Extends σ τ
+OnlyBinds σ (Gives_again τ t) = Extends σ τ
+
+-- two acts that were not interrupted are the same
+pub record IsSameAct (a b : Act) : Type 0 where
+  pub cost : a.cost ≡ b.cost
+  pub after : a.after ≡ b.after
+  pub yield : a.yield ≡ b.yield
+
+-- an act is the same for all numbers of steps left that cover it
+pub record KeepsActRules (act : ℕ → Tries → Term Text → Bindings Text → World → Act) : Type 0 where
+  pub binds : (left : ℕ) (t : Tries) (g : Term Text) (σ : Bindings Text) (w : World) → OnlyBinds σ (act left t g σ w).yield
+  pub same : (m n : ℕ) (t : Tries) (g : Term Text) (σ : Bindings Text) (w : World) → (act m t g σ w).cost ≤ m → (act m t g σ w).cost ≤ n
+      → IsSameAct (act m t g σ w) (act n t g σ w)
