@@ -33,9 +33,6 @@ prefix_longer xs ys zs p = (p.0 ++ zs, ap (λ t. t ++ zs) p.1 ∙ append_assoc x
 pub prefix_self : (xs : List ℕ) → IsPrefix xs xs
 prefix_self xs = ([], sym (append-nil xs))
 
-pub said_prefix : (traced : Traced) (cs ds : List (List ℕ)) → IsPrefix (said_to traced cs) (said_to traced (cs ++ ds))
-said_prefix traced cs ds = (joined (answers_from traced (stand_at traced cs) ds), said_more traced cs ds)
-
 prefix_then : (xs ys zs : List ℕ) → IsPrefix xs ys → IsPrefix ys zs → IsPrefix xs zs
 prefix_then xs ys zs p q = subst (IsPrefix xs) (sym q.1) (prefix_longer xs ys q.0 p)
 
