@@ -172,7 +172,8 @@ pub left_broken : (traced : Traced) (s : Status) (m : Met) (a b : Sight) (taken 
     → Reached m (said_in traced) taken answers → IsPrefix line (line_met m) → Paid m s traced taken before after
     → WhenTold (a.left Commands) (λ bytes. BrokenOff traced s bytes a b before after)
 left_broken traced s m a b taken answers line before after i n k c w front enough l paid =
-    told_taken (a.left Commands) (b.left Commands) taken (λ bytes. BrokenOff traced s bytes a b before after) c (λ bytes rest e are. record {
+    told_taken (a.left Commands) (b.left Commands) taken (λ bytes. BrokenOff traced s bytes a b before after) c
+    (λ bytes rest e are. record {
       met = m;
       taken = taken;
       rest = rest;

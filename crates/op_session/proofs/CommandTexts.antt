@@ -221,8 +221,8 @@ complete_none traced c taken p k e =
     none : (n : ℕ) (s : Stand) → session_from traced true n s p ≡ no_more s
     none zero s = refl
     none (suc n) s =
-        let more : Piece → Course = λ x.
-        let a : Answer = answer_to traced s (command_text x p) in answer_first a (session_from traced true n a.stand (behind_command x p)) in
+        let a : Piece → Answer = λ x. answer_to traced s (command_text x p) in
+        let more : Piece → Course = λ x. answer_first (a x) (session_from traced true n (a x).stand (behind_command x p)) in
         ap (λ x. cond (is_due true x (length p)) (more x) (no_more s)) e
 
 some_more : (m : ℕ) → 0 < m → (k : ℕ) × (m ≡ suc k)

@@ -201,7 +201,8 @@ passes_limit traced a b c before after p feed h g =
           (Appends-trans (a.written Talk) (b.written Talk) (c.written Talk) (said_by h.course) too_long_line h.talk g.talk))
           (λ rest. subst (λ (d : Course). IsPrefix (said_by d) (said_in traced (complete (h.taken ++ rest)))) (sym whole)
           (front_so_far traced h.course h.taken p rest h.cuts))
-          (costs_by traced (so_far h.taken) feed before after (subst (λ (d : Course). Feeds traced d.stand feed) (sym whole) h.feeds) h.cost);
+          (costs_by traced (so_far h.taken) feed before after
+          (subst (λ (d : Course). Feeds traced d.stand feed) (sym whole) h.feeds) h.cost);
       broken = λ e. absurd e;
       untaken = λ e. absurd e;
       unpaid = λ e. absurd e;
