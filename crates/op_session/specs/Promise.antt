@@ -37,8 +37,7 @@ pub record Finished (traced : Traced) (bytes : List ℕ) (a b : Sight) : Type 0 
 abbrev pub DoneAs : Outcome → Sight → Sight → Type 0
 DoneAs (Line s text) a b = ⊥
 DoneAs Missing a b = ⊥
-DoneAs (Session traced) a b =
-    WhenTold (a.left Commands) (λ bytes. Finished traced bytes a b)
+DoneAs (Session traced) a b = WhenTold (a.left Commands) (λ bytes. Finished traced bytes a b)
 
 -- no step is made where no session is held, whatever the status; for a session whose commands were all answered there are two bounds, the
 -- run's steps at the furthest place that was looked at, and those at the last event up to there
@@ -167,8 +166,7 @@ abbrev pub BrokenAs : Outcome → Status → Sight → Sight → ℕ → ℕ →
 BrokenAs (Line t text) status.Read a b before after = (b.written Talk ≡ a.written Talk) × (b.left Commands ≡ a.left Commands)
 BrokenAs (Line t text) s a b before after = AppendsFront (a.written Talk) (b.written Talk) text × (b.left Commands ≡ a.left Commands)
 BrokenAs Missing s a b before after = IsUnread s × (b.written Talk ≡ a.written Talk) × (b.left Commands ≡ a.left Commands)
-BrokenAs (Session traced) s a b before after =
-    WhenTold (a.left Commands) (λ bytes. BrokenOff traced s bytes a b before after)
+BrokenAs (Session traced) s a b before after = WhenTold (a.left Commands) (λ bytes. BrokenOff traced s bytes a b before after)
 
 -- as many bytes of the commands were taken as may be, and none was asked for behind them: exactly so many are too many as well. The
 -- commands that were taken whole with the byte behind them were answered, with their steps; one whose full stop is the last of these
@@ -185,8 +183,7 @@ abbrev pub TooLongAs : Outcome → Sight → Sight → ℕ → ℕ → Type 0
 TooLongAs (Line status.TooLong text) a b before after = Appends (a.written Talk) (b.written Talk) text × (b.left Commands ≡ a.left Commands)
 TooLongAs (Line s text) a b before after = ⊥
 TooLongAs Missing a b before after = ⊥
-TooLongAs (Session traced) a b before after =
-    WhenTold (a.left Commands) (λ bytes. PastLimit traced bytes a b before after)
+TooLongAs (Session traced) a b before after = WhenTold (a.left Commands) (λ bytes. PastLimit traced bytes a b before after)
 
 -- a refusal of the words writes its line, or a front of it where it can't be written whole, takes nothing and makes no step
 abbrev pub WordsRefusedAs : Status → Sight → Sight → ℕ → ℕ → Type 0
