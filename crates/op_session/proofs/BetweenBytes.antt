@@ -1,6 +1,8 @@
 -- A session between two bytes of its commands.
-use Rattle.std.proofs.Common.{◌≡◌, ℕ, suc, ◌+◌, ◌-◌, ◌<◌, ◌≤◌, List, [], ◌∷◌, ◌++◌, length, take, get_or, Some, None, refl, sym, ap, ◌∙◌, subst, arith, append_assoc, length-append}
+use Rattle.std.proofs.Common.{◌≡◌, ℕ, suc, ◌+◌, ◌-◌, ◌<◌, ◌≤◌, List, [], ◌∷◌, ◌++◌, length, take, get_or, Some, None}
+use Rattle.std.proofs.Common.{refl, sym, ap, ◌∙◌, subst, arith, length-append}
 use Rattle.std.proofs.lemmas.List.{append-nil, get_or_default}
+use Rattle.std.proofs.KnownBytes.{Appends-nil, Appends-trans, Consumes-nil, Consumes-trans}
 use Rattle.std.specs.Io.KnownBytes.{Appends, Consumes}
 use Rattle.op_desk.specs.declared.chan.Chan.TheVariants.{Commands, Talk}
 use Rattle.op_desk.specs.Contents.{Known}
@@ -14,35 +16,17 @@ use Rattle.op_session.specs.declared.status.Status.{Status}
 use Rattle.op_session.specs.declared.status.Status.TheVariants as status
 use Rattle.op_session.specs.Call.{channel_limit}
 use Rattle.op_session.specs.Moves.{Stand, at_start, most_steps}
-use Rattle.op_session.specs.Session.{answer_to, said_to, session_text}
-use Rattle.op_session.specs.Promise.{WhenTold, IsPrefix, CostsAtMost, taken_whole, all_but_last, Met, InTaking, InKeeping, InAnswering, IsMet, IsCount, IsTaken, Answered, Paid, PaidFor, line_met, BrokenOff, CountsAs}
+use Rattle.op_session.specs.Session.{answer_to, Taking, so_far, complete, Course, no_more, session, said_by, said_in}
+use Rattle.op_session.specs.Promise.{WhenTold, IsPrefix, CostsAtMost, all_but_last, Met, InTaking, InKeeping, InAnswering}
+use Rattle.op_session.specs.Promise.{IsMet, IsCount, IsTaken, Reached, Paid, PaidFor, line_met, BrokenOff, CountsAs}
 use Rattle.op_session.specs.Sight.{Sight}
 use Rattle.op_session.specs.inner.Steps.{Quiet, Calm, Fault, TakesByte, TakesNothing}
 use Rattle.op_session.specs.inner.Feeding.{Feeds, most_of}
 use Rattle.op_session.specs.inner.Giving.{Pays, GivesAll, GivesFront}
-use Rattle.op_session.specs.inner.Progress.{Holds, BreaksOff}
-use Rattle.op_session.proofs.CommandTexts.{followed_length, cuts_start, cuts_byte, cuts_text}
-use Rattle.op_session.proofs.SaidToCommands.{stand_at, said_one, stand_more, between, whole_open, whole_kept, whole_followed, front_so_far, front_of_answer}
-
-pub consumes_more : (a b c : Known) (xs ys : List ℕ) → Consumes a b xs → Consumes b c ys → Consumes a c (xs ++ ys)
-consumes_more None b c xs ys p q = tt
-consumes_more (Some s) None c xs ys p q = absurd p
-consumes_more (Some s) (Some t) None xs ys p q = absurd q
-consumes_more (Some s) (Some t) (Some u) xs ys p q = p ∙ ap (λ v. xs ++ v) q ∙ sym (append_assoc xs ys u)
-
-pub appends_more : (a b c : Known) (xs ys : List ℕ) → Appends a b xs → Appends b c ys → Appends a c (xs ++ ys)
-appends_more None b c xs ys p q = tt
-appends_more (Some s) None c xs ys p q = absurd p
-appends_more (Some s) (Some t) None xs ys p q = absurd q
-appends_more (Some s) (Some t) (Some u) xs ys p q = q ∙ ap (λ v. v ++ ys) p ∙ append_assoc s xs ys
-
-pub appends_none : (a : Known) → Appends a a []
-appends_none None = tt
-appends_none (Some s) = sym (append-nil s)
-
-pub consumes_none : (a : Known) → Consumes a a []
-consumes_none None = tt
-consumes_none (Some s) = refl
+use Rattle.op_session.specs.inner.Behind.{with_answer}
+use Rattle.op_session.specs.inner.Progress.{Cuts, Holds, BreaksOff}
+use Rattle.op_session.proofs.CommandTexts.{followed_length, cuts_start, cuts_byte, cuts_text, so_far_is}
+use Rattle.op_session.proofs.SaidToCommands.{said_one, between, whole_kept, front_so_far, front_of_answer}
 
 pub quiet_more : (a b c : Sight) → Quiet a b → Quiet b c → Quiet a c
 quiet_more a b c p q = record {
@@ -82,12 +66,12 @@ pub holds_start : (traced : Traced) (a : Sight) (before : ℕ) (feed : Feed) →
     → to_show feed.machine ≡ traced.run → Holds traced a a 0 before before [] feed
 holds_start traced a before feed f none same = record {
   taken = [];
-  passed = [];
+  course = no_more at_start;
   count = refl;
-  cuts = cuts_start;
+  cuts = cuts_start traced;
   unended = tt;
-  commands = consumes_none (a.left Commands);
-  talk = appends_none (a.written Talk);
+  commands = Consumes-nil (a.left Commands);
+  talk = Appends-nil (a.written Talk);
   feeds = f;
   cost = omega arith;
   most = subst (λ (r : Run). most_of feed.machine ≤ most_steps r) same (omega arith);
@@ -100,12 +84,12 @@ pub holds_byte : (traced : Traced) (a b c : Sight) (n before after byte : ℕ) (
     → Holds traced a c (suc n) before after (p ++ byte ∷ []) feed
 holds_byte traced a b c n before after byte p feed h t o = record {
   taken = h.taken ++ byte ∷ [];
-  passed = h.passed;
+  course = h.course;
   count = let count = h.count in omega (arith, length-append h.taken (byte ∷ []));
-  cuts = cuts_byte h.passed h.taken p byte h.cuts;
+  cuts = cuts_byte traced h.course h.taken p byte h.cuts;
   unended = o;
-  commands = consumes_more (a.left Commands) (b.left Commands) (c.left Commands) h.taken (byte ∷ []) h.commands t.front;
-  talk = subst (λ k. Appends (a.written Talk) k (said_to traced h.passed)) (sym t.talk) h.talk;
+  commands = Consumes-trans (a.left Commands) (b.left Commands) (c.left Commands) h.taken (byte ∷ []) h.commands t.front;
+  talk = subst (λ k. Appends (a.written Talk) k (said_by h.course)) (sym t.talk) h.talk;
   feeds = h.feeds;
   cost = h.cost;
   most = h.most;
@@ -116,24 +100,24 @@ holds_byte traced a b c n before after byte p feed h t o = record {
 pub holds_text : (traced : Traced) (a b c d : Sight) (n before after paid byte : ℕ) (p : List ℕ) (feed new : Feed)
     → (h : Holds traced a b n before after p feed) → TakesByte b c byte → IsFollowed (p ++ byte ∷ []) → IsOpen
     (rest_in (cut_of (p ++ byte ∷ [])) (p ++ byte ∷ []))
-    → GivesAll traced (stand_at traced h.passed) (text_in (cut_of (p ++ byte ∷ [])) (p ++ byte ∷ [])) feed new after paid c d
+    → GivesAll traced h.course.stand (text_in (cut_of (p ++ byte ∷ [])) (p ++ byte ∷ [])) feed new after paid c d
     → Holds traced a d (suc n) before paid (rest_in (cut_of (p ++ byte ∷ [])) (p ++ byte ∷ [])) new
 holds_text traced a b c d n before after paid byte p feed new h t f o g =
     let q = p ++ byte ∷ [] in
     let text = text_in (cut_of q) q in
     record {
       taken = h.taken ++ byte ∷ [];
-      passed = h.passed ++ text ∷ [];
+      course = with_answer traced h.course text;
       count = let count = h.count in omega (arith, length-append h.taken (byte ∷ []));
-      cuts = cuts_text h.passed (h.taken ++ byte ∷ []) q (cuts_byte h.passed h.taken p byte h.cuts) f;
+      cuts = cuts_text traced h.course (h.taken ++ byte ∷ []) q (cuts_byte traced h.course h.taken p byte h.cuts) f;
       unended = o;
       commands = subst (λ k. Consumes (a.left Commands) k (h.taken ++ byte ∷ [])) (sym g.says.commands)
-          (consumes_more (a.left Commands) (b.left Commands) (c.left Commands) h.taken (byte ∷ []) h.commands t.front);
-      talk = subst (Appends (a.written Talk) (d.written Talk)) (sym (said_one traced h.passed text))
-          (appends_more (a.written Talk) (c.written Talk) (d.written Talk) (said_to traced h.passed)
-          (answer_to traced (stand_at traced h.passed) text).text
-          (subst (λ k. Appends (a.written Talk) k (said_to traced h.passed)) (sym t.talk) h.talk) g.says.talk);
-      feeds = subst (λ s. Feeds traced s new) (sym (stand_more traced at_start h.passed (text ∷ []))) g.feeds;
+          (Consumes-trans (a.left Commands) (b.left Commands) (c.left Commands) h.taken (byte ∷ []) h.commands t.front);
+      talk = subst (Appends (a.written Talk) (d.written Talk)) (sym (said_one traced h.course text))
+          (Appends-trans (a.written Talk) (c.written Talk) (d.written Talk) (said_by h.course)
+          (answer_to traced h.course.stand text).text
+          (subst (λ k. Appends (a.written Talk) k (said_by h.course)) (sym t.talk) h.talk) g.says.talk);
+      feeds = g.feeds;
       cost = let cost = h.cost in let pays = g.pays.cost in let later = g.pays.later in omega arith;
       most = let most = h.most in let rises = g.rises in omega arith;
       calm = calm_more a c d (calm_more a b c h.calm t.calm) g.says.calm;
@@ -144,64 +128,67 @@ pub paid_by : (traced : Traced) (s : Stand) (feed : Feed) (before after : ℕ) �
     → after ≤ before + steps_at traced.run s.furthest
 paid_by traced s feed before after f e = subst (λ n. after ≤ before + n) f.steps (omega (arith, e))
 
-pub paid_so_far : (traced : Traced) (a b : Sight) (n before after : ℕ) (p : List ℕ) (feed : Feed) (commands : List (List ℕ))
-    → (h : Holds traced a b n before after p feed)
-    → commands ≡ h.passed → CostsAtMost traced commands before after
-paid_so_far traced a b n before after p feed commands h e =
-    subst (λ cs. CostsAtMost traced cs before after) (sym e) (paid_by traced (stand_at traced h.passed) feed before after h.feeds h.cost)
+pub paid_so_far : (traced : Traced) (a b : Sight) (n before after : ℕ) (p : List ℕ) (feed : Feed) (t : Taking)
+    → (h : Holds traced a b n before after p feed) → session traced t ≡ h.course → CostsAtMost traced t before after
+paid_so_far traced a b n before after p feed t h e =
+    subst (λ (c : Course). after ≤ before + steps_at traced.run c.stand.furthest) (sym e)
+    (paid_by traced h.course.stand feed before after h.feeds h.cost)
 
 -- and of one command more
-pub paid_one : (traced : Traced) (a b : Sight) (n before after paid : ℕ) (p text : List ℕ) (feed new : Feed) (commands : List (List ℕ))
-    → (h : Holds traced a b n before after p feed)
-    → commands ≡ h.passed ++ text ∷ [] → Feeds traced (answer_to traced (stand_at traced h.passed) text).stand new
-    → Pays feed new after paid → CostsAtMost traced commands before paid
-paid_one traced a b n before after paid p text feed new commands h e f k =
-    let feeds : Feeds traced (stand_at traced (h.passed ++ text ∷ [])) new =
-    subst (λ s. Feeds traced s new) (sym (stand_more traced at_start h.passed (text ∷ []))) f in
+pub paid_one : (traced : Traced) (a b : Sight) (n before after paid : ℕ) (p text : List ℕ) (feed new : Feed) (t : Taking)
+    → (h : Holds traced a b n before after p feed) → session traced t ≡ with_answer traced h.course text
+    → Feeds traced (answer_to traced h.course.stand text).stand new → Pays feed new after paid → CostsAtMost traced t before paid
+paid_one traced a b n before after paid p text feed new t h e f k =
     let made : paid ≡ before + new.machine.steps = let cost = h.cost in let pays = k.cost in let later = k.later in omega arith in
-    subst (λ cs. CostsAtMost traced cs before paid) (sym e)
-    (paid_by traced (stand_at traced (h.passed ++ text ∷ [])) new before paid feeds made)
+    subst (λ (c : Course). paid ≤ before + steps_at traced.run c.stand.furthest) (sym e)
+    (paid_by traced (answer_to traced h.course.stand text).stand new before paid f made)
 
 -- and where that one was not answered whole
-pub paid_for : (traced : Traced) (s : Status) (a b : Sight) (n before after paid : ℕ) (p text : List ℕ) (feed new : Feed)
-    → (commands : List (List ℕ)) (h : Holds traced a b n before after p feed) → commands ≡ h.passed ++ text ∷ []
-    → (s ≡ status.Write → Feeds traced (answer_to traced (stand_at traced h.passed) text).stand new) → Pays feed new after paid
-    → PaidFor s traced commands before paid
-paid_for traced s a b n before after paid p text feed new commands h e f k =
-    (λ w. paid_one traced a b n before after paid p text feed new commands h e (f w) k, most h.cost h.most k.cost k.later k.within)
+pub paid_for : (traced : Traced) (s : Status) (a b : Sight) (n before after paid : ℕ) (p text : List ℕ) (feed new : Feed) (t : Taking)
+    → (h : Holds traced a b n before after p feed) → session traced t ≡ with_answer traced h.course text
+    → (s ≡ status.Write → Feeds traced (answer_to traced h.course.stand text).stand new) → Pays feed new after paid
+    → PaidFor s traced t before paid
+paid_for traced s a b n before after paid p text feed new t h e f k =
+    (λ w. paid_one traced a b n before after paid p text feed new t h e (f w) k, most h.cost h.most k.cost k.later k.within)
   where
     most : after ≡ before + feed.machine.steps → most_of feed.machine ≤ most_steps traced.run
         → paid ≡ after + (new.machine.steps - feed.machine.steps) → feed.machine.steps ≤ new.machine.steps
         → new.machine.steps ≤ most_of feed.machine → paid ≤ before + most_steps traced.run
     most c m d l w = omega arith
 
+-- what was told of the commands is what was taken and what is left
+pub told_taken : (commands left : Known) (taken : List ℕ) (P : List ℕ → Type 0) → Consumes commands left taken
+    → ((bytes rest : List ℕ) → left ≡ Some rest → bytes ≡ taken ++ rest → P bytes) → WhenTold commands P
+told_taken None left taken P c f = tt
+told_taken (Some bytes) None taken P c f = absurd c
+told_taken (Some bytes) (Some rest) taken P c f = f bytes rest refl c
+
 -- what a session that was broken off leaves, where the commands are told
-pub left_broken : (traced : Traced) (s : Status) (m : Met) (commands left talk said : Known) (taken answers line : List ℕ)
-    → (before after : ℕ)
-    → IsMet m s → IsCount m (length taken) → ((rest : List ℕ) → left ≡ Some rest → IsTaken m taken rest)
-    → Consumes commands left taken → Appends talk said (answers ++ line)
-    → ((rest : List ℕ) → left ≡ Some rest → IsPrefix answers (session_text traced (taken ++ rest)))
-    → Answered m traced taken answers → IsPrefix line (line_met m) → Paid m s traced taken before after
-    → WhenTold commands (λ bytes. BrokenOff traced s bytes talk said left before after)
-left_broken traced s m None left talk said taken answers line before after i n k c w front enough l paid = tt
-left_broken traced s m (Some bytes) None talk said taken answers line before after i n k c w front enough l paid = absurd c
-left_broken traced s m (Some bytes) (Some rest) talk said taken answers line before after i n k c w front enough l paid = record {
-  met = m;
-  taken = taken;
-  rest = rest;
-  answers = answers;
-  line = line;
-  is_met = i;
-  bytes_are = c;
-  left = refl;
-  count = n;
-  is_taken = k rest refl;
-  front = subst (λ bytes. IsPrefix answers (session_text traced bytes)) (sym c) (front rest refl);
-  answered = enough;
-  line_front = l;
-  written = w;
-  paid = paid;
-}
+pub left_broken : (traced : Traced) (s : Status) (m : Met) (a b : Sight) (taken answers line : List ℕ) (before after : ℕ)
+    → IsMet m s → IsCount m (length taken) → ((rest : List ℕ) → b.left Commands ≡ Some rest → IsTaken m traced taken rest)
+    → Consumes (a.left Commands) (b.left Commands) taken → Appends (a.written Talk) (b.written Talk) (answers ++ line)
+    → ((rest : List ℕ) → b.left Commands ≡ Some rest → IsPrefix answers (said_in traced (complete (taken ++ rest))))
+    → Reached m (said_in traced) taken answers → IsPrefix line (line_met m) → Paid m s traced taken before after
+    → WhenTold (a.left Commands) (λ bytes. BrokenOff traced s bytes a b before after)
+left_broken traced s m a b taken answers line before after i n k c w front enough l paid =
+    told_taken (a.left Commands) (b.left Commands) taken (λ bytes. BrokenOff traced s bytes a b before after) c
+    (λ bytes rest e are. record {
+      met = m;
+      taken = taken;
+      rest = rest;
+      answers = answers;
+      line = line;
+      is_met = i;
+      bytes_are = are;
+      left = e;
+      count = n;
+      is_taken = k rest e;
+      front = subst (λ t. IsPrefix answers (said_in traced (complete t))) (sym are) (front rest e);
+      answered = enough;
+      line_front = l;
+      written = w;
+      paid = paid;
+    })
 
 -- nothing stands behind the answers
 pub no_line : (talk said : Known) (answers : List ℕ) → Appends talk said answers → Appends talk said (answers ++ [])
@@ -211,20 +198,19 @@ no_line talk said answers = subst (Appends talk said) (sym (append-nil answers))
 pub breaks_take : (traced : Traced) (s : Status) (a b c : Sight) (n before after : ℕ) (p : List ℕ) (feed : Feed) → n < channel_limit
     → Holds traced a b n before after p feed → TakesNothing s b c → BreaksOff traced s a c before after
 breaks_take traced s a b c n before after p feed short h t =
-    let answers = said_to traced h.passed in
-    let whole : taken_whole h.taken ≡ h.passed = whole_open h.passed h.taken p h.cuts h.unended in
+    let answers = said_by h.course in
+    let whole : session traced (so_far h.taken) ≡ h.course = so_far_is traced h.course h.taken p h.cuts h.unended in
     record {
       fault = fault_more s a b c h.calm t.fault;
-      left = left_broken traced s InTaking (a.left Commands) (c.left Commands) (a.written Talk)
-          (c.written Talk) h.taken answers [] before after t.unread
+      left = left_broken traced s InTaking a c h.taken answers [] before after t.unread
           (subst (λ n. n < channel_limit) (sym h.count) short)
           (λ rest e. tt)
           (subst (λ k. Consumes (a.left Commands) k h.taken) (sym t.commands) h.commands)
           (no_line (a.written Talk) (c.written Talk) answers (subst (λ k. Appends (a.written Talk) k answers) (sym t.talk) h.talk))
-          (λ rest e. front_so_far traced h.passed h.taken p rest h.cuts)
-          (ap (said_to traced) (sym whole))
+          (λ rest e. front_so_far traced h.course h.taken p rest h.cuts)
+          (ap said_by (sym whole))
           ([], refl)
-          (paid_so_far traced a b n before after p feed (taken_whole h.taken) h whole);
+          (paid_so_far traced a b n before after p feed (so_far h.taken) h whole);
     }
 
 -- behind a text that ended no other has
@@ -248,54 +234,54 @@ pub breaks_push : (traced : Traced) (a b c : Sight) (n before after byte : ℕ) 
     → Holds traced a b n before after p feed → TakesByte b c byte → BreaksOff traced status.Memory a c before after
 breaks_push traced a b c n before after byte p feed short h t =
     let taken = h.taken ++ byte ∷ [] in
-    let answers = said_to traced h.passed in
-    let cuts = cuts_byte h.passed h.taken p byte h.cuts in
-    let kept : taken_whole (all_but_last taken) ≡ h.passed = whole_kept h.passed h.taken p byte h.cuts h.unended in
+    let answers = said_by h.course in
+    let cuts : Cuts traced h.course taken (p ++ byte ∷ []) = cuts_byte traced h.course h.taken p byte h.cuts in
+    let kept : session traced (so_far (all_but_last taken)) ≡ h.course = whole_kept traced h.course h.taken p byte h.cuts h.unended in
     record {
       fault = fault_more status.Memory a c c (calm_more a b c h.calm t.calm) (memory_fault c);
-      left = left_broken traced status.Memory InKeeping (a.left Commands) (c.left Commands) (a.written Talk)
-          (c.written Talk) taken answers [] before after refl
+      left = left_broken traced status.Memory InKeeping a c taken answers [] before after refl
           (count_byte n h.taken byte h.count short)
           (λ rest e. tt)
-          (consumes_more (a.left Commands) (b.left Commands) (c.left Commands) h.taken (byte ∷ []) h.commands t.front)
+          (Consumes-trans (a.left Commands) (b.left Commands) (c.left Commands) h.taken (byte ∷ []) h.commands t.front)
           (no_line (a.written Talk) (c.written Talk) answers (subst (λ k. Appends (a.written Talk) k answers) (sym t.talk) h.talk))
-          (λ rest e. front_so_far traced h.passed taken (p ++ byte ∷ []) rest cuts)
-          (ap (said_to traced) (sym kept))
+          (λ rest e. front_so_far traced h.course taken (p ++ byte ∷ []) rest cuts)
+          (ap said_by (sym kept))
           ([], refl)
-          (paid_so_far traced a b n before after p feed (taken_whole (all_but_last taken)) h kept);
+          (paid_so_far traced a b n before after p feed (so_far (all_but_last taken)) h kept);
     }
 
 -- an answer could not be given
 pub breaks_say : (traced : Traced) (s : Status) (a b c d : Sight) (n before after paid byte : ℕ) (p : List ℕ) (feed new : Feed)
     → n < channel_limit
     → (h : Holds traced a b n before after p feed) → TakesByte b c byte → IsFollowed (p ++ byte ∷ [])
-    → GivesFront traced (stand_at traced h.passed) (text_in (cut_of (p ++ byte ∷ [])) (p ++ byte ∷ [])) feed new s after paid c d
+    → GivesFront traced h.course.stand (text_in (cut_of (p ++ byte ∷ [])) (p ++ byte ∷ [])) feed new s after paid c d
     → BreaksOff traced s a d before paid
 breaks_say traced s a b c d n before after paid byte p feed new short h t f g =
     let q = p ++ byte ∷ [] in
     let taken = h.taken ++ byte ∷ [] in
-    let cuts = cuts_byte h.passed h.taken p byte h.cuts in
+    let cuts : Cuts traced h.course taken q = cuts_byte traced h.course h.taken p byte h.cuts in
     let text = text_in (cut_of q) q in
-    let answer = (answer_to traced (stand_at traced h.passed) text).text in
-    let said = said_to traced h.passed in
+    let answer = (answer_to traced h.course.stand text).text in
+    let said = said_by h.course in
     let front = take g.says.talk.count answer in
-    let kept : taken_whole (all_but_last taken) ≡ h.passed = whole_kept h.passed h.taken p byte h.cuts h.unended in
-    let whole : taken_whole taken ≡ h.passed ++ text ∷ [] = whole_followed h.passed taken q cuts f (rest_open q f) (followed_length q f) in
+    let kept : session traced (so_far (all_but_last taken)) ≡ h.course = whole_kept traced h.course h.taken p byte h.cuts h.unended in
+    let whole : session traced (so_far taken) ≡ with_answer traced h.course text =
+    so_far_is traced (with_answer traced h.course text) taken (rest_in (cut_of q) q) (cuts_text traced h.course taken q cuts f)
+    (rest_open q f) in
     record {
       fault = fault_more s a c d (calm_more a b c h.calm t.calm) g.says.fault;
-      left = left_broken traced s InAnswering (a.left Commands) (d.left Commands) (a.written Talk) (d.written Talk) taken
-          (said ++ front) [] before paid g.says.unwritten
+      left = left_broken traced s InAnswering a d taken (said ++ front) [] before paid g.says.unwritten
           (count_byte n h.taken byte h.count short)
-          (λ rest e. (text, whole ∙ ap (λ cs. cs ++ text ∷ []) (sym kept)))
+          (λ rest e. (answer, ap (λ (c : Course). c.answers) whole ∙ ap (λ (c : Course). c.answers ++ answer ∷ []) (sym kept)))
           (subst (λ k. Consumes (a.left Commands) k taken) (sym g.says.commands)
-          (consumes_more (a.left Commands) (b.left Commands) (c.left Commands) h.taken (byte ∷ []) h.commands t.front))
+          (Consumes-trans (a.left Commands) (b.left Commands) (c.left Commands) h.taken (byte ∷ []) h.commands t.front))
           (no_line (a.written Talk) (d.written Talk) (said ++ front)
-          (appends_more (a.written Talk) (c.written Talk) (d.written Talk) said front
+          (Appends-trans (a.written Talk) (c.written Talk) (d.written Talk) said front
           (subst (λ k. Appends (a.written Talk) k said) (sym t.talk) h.talk) g.says.talk.front))
-          (λ rest e. front_of_answer traced h.passed taken q rest g.says.talk.count cuts f (followed_length q f))
-          (between traced h.passed (taken_whole (all_but_last taken)) (taken_whole taken) text g.says.talk.count kept whole)
+          (λ rest e. front_of_answer traced h.course taken q rest g.says.talk.count cuts f)
+          (between traced h.course (so_far (all_but_last taken)) (so_far taken) text g.says.talk.count kept whole)
           ([], refl)
-          (paid_for traced s a b n before after paid p text feed new (taken_whole taken) h whole g.feeds g.pays);
+          (paid_for traced s a b n before after paid p text feed new (so_far taken) h whole g.feeds g.pays);
     }
 
 -- the same, as a session meets it
@@ -309,20 +295,20 @@ goes_open traced a b c n before after byte p q feed h t e o =
 pub goes_text : (traced : Traced) (a b c d : Sight) (n before after paid byte : ℕ) (p q text rest : List ℕ) (feed new : Feed)
     → (h : Holds traced a b n before after p feed) → TakesByte b c byte
     → q ≡ p ++ byte ∷ [] → IsFollowed q → text ≡ text_in (cut_of q) q → rest ≡ rest_in (cut_of q) q → IsOpen rest
-    → GivesAll traced (stand_at traced h.passed) text feed new after paid c d
+    → GivesAll traced h.course.stand text feed new after paid c d
     → Holds traced a d (suc n) before paid rest new
 goes_text traced a b c d n before after paid byte p q text rest feed new h t e f et er o g =
     let z = er ∙ ap (λ q. rest_in (cut_of q) q) e in
     subst (λ r. Holds traced a d (suc n) before paid r new) (sym z)
     (holds_text traced a b c d n before after paid byte p feed new h t (subst IsFollowed e f) (subst IsOpen z o)
-    (subst (λ t. GivesAll traced (stand_at traced h.passed) t feed new after paid c d) (et ∙ ap (λ q. text_in (cut_of q) q) e) g))
+    (subst (λ t. GivesAll traced h.course.stand t feed new after paid c d) (et ∙ ap (λ q. text_in (cut_of q) q) e) g))
 
 pub stops_text : (traced : Traced) (s : Status) (a b c d : Sight) (n before after paid byte : ℕ) (p q text : List ℕ) (feed new : Feed)
     → n < channel_limit
     → (h : Holds traced a b n before after p feed) → TakesByte b c byte
     → q ≡ p ++ byte ∷ [] → IsFollowed q → text ≡ text_in (cut_of q) q
-    → GivesFront traced (stand_at traced h.passed) text feed new s after paid c d
+    → GivesFront traced h.course.stand text feed new s after paid c d
     → BreaksOff traced s a d before paid
 stops_text traced s a b c d n before after paid byte p q text feed new short h t e f et g =
     breaks_say traced s a b c d n before after paid byte p feed new short h t (subst IsFollowed e f)
-    (subst (λ t. GivesFront traced (stand_at traced h.passed) t feed new s after paid c d) (et ∙ ap (λ q. text_in (cut_of q) q) e) g)
+    (subst (λ t. GivesFront traced h.course.stand t feed new s after paid c d) (et ∙ ap (λ q. text_in (cut_of q) q) e) g)

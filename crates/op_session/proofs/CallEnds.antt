@@ -1,20 +1,23 @@
 -- What calls leave that end before a session, or by one that another layer ran.
-use Rattle.std.proofs.Common.{◌≡◌, ℕ, ◌+◌, ◌<◌, ◌≤◌, List, [], Option, Some, None, Result, Ok, Err, IsTrue, refl, sym, ◌∙◌, subst, arith}
-use Rattle.std.specs.Io.KnownBytes.{Appends}
+use Rattle.std.proofs.Common.{◌≡◌, ℕ, ◌+◌, ◌<◌, ◌≤◌, List, [], ◌++◌, take, Option, Some, None, Result, Ok, Err, IsTrue}
+use Rattle.std.proofs.Common.{refl, sym, ◌∙◌, subst, arith}
+use Rattle.std.proofs.KnownBytes.{Appends-nil, Consumes-nil}
+use Rattle.std.specs.Io.KnownBytes.{Appends, Consumes}
 use Rattle.op_desk.specs.declared.chan.Chan.TheVariants.{Commands, Talk}
-use Rattle.op_desk.specs.Contents.{Known, AppendsFront}
+use Rattle.op_desk.specs.Contents.{AppendsFront}
 use Rattle.op_desk.proofs.FrameLaws.{SameBut-then}
 use Rattle.op_trace.specs.Run.{steps_at}
 use Rattle.op_session.specs.declared.status.Status.{Status}
 use Rattle.op_session.specs.declared.status.Status.TheVariants as status
 use Rattle.op_session.specs.Traced.{Traced}
-use Rattle.op_session.specs.Call.{Outcome, Line, Missing, Session}
-use Rattle.op_session.specs.Session.{session_text, commands_in}
-use Rattle.op_session.specs.Promise.{WhenTold, InTaking, IsUnread, IsBroken, IsFaultless, CountsAs, Finished, Costs, PastLimit, BrokenOff, DoneAs, CostsAs, LoadAs, TooLongAs, BrokenAs, HasFile}
+use Rattle.op_session.specs.Call.{Outcome, Line, Missing, Session, channel_limit}
+use Rattle.op_session.specs.Session.{so_far, complete, said_in}
+use Rattle.op_session.specs.Promise.{WhenTold, InTaking, IsUnread, IsBroken, IsFaultless, CountsAs, too_long_line}
+use Rattle.op_session.specs.Promise.{Finished, Costs, PastLimit, BrokenOff, DoneAs, CostsAs, LoadAs, TooLongAs, BrokenAs, HasFile}
 use Rattle.op_session.specs.Sight.{Sight}
 use Rattle.op_session.specs.inner.Steps.{Quiet, SaysFront, Says, Untouched, Unread, ended_as}
 use Rattle.op_session.specs.inner.Progress.{Leaves, IsOutcome}
-use Rattle.op_session.proofs.BetweenBytes.{appends_none, calm_start}
+use Rattle.op_session.proofs.BetweenBytes.{calm_start, left_broken}
 
 pub not_done : (s : Status) → IsBroken s → s ≡ status.Done → ⊥
 not_done s i e = subst IsBroken e i
@@ -78,30 +81,17 @@ no_fewer : (n m : ℕ) → n ≤ n + m
 no_fewer n m = omega arith
 
 -- nothing was said or taken
-untouched_session : (traced : Traced) (s : Status) (commands left talk said : Known) (n : ℕ) → IsUnread s → said ≡ talk → left ≡ commands
-    → WhenTold commands (λ bytes. BrokenOff traced s bytes talk said left n n)
-untouched_session traced s None left talk said n u t c = tt
-untouched_session traced s (Some bytes) left talk said n u t c = record {
-  met = InTaking;
-  taken = [];
-  rest = bytes;
-  answers = [];
-  line = [];
-  is_met = u;
-  bytes_are = refl;
-  left = c;
-  count = none_taken;
-  is_taken = tt;
-  front = (session_text traced bytes, refl);
-  answered = refl;
-  line_front = ([], refl);
-  written = subst (λ k. Appends talk k []) (sym t) (appends_none talk);
-  paid = no_fewer n (steps_at traced.run 0);
-}
+untouched_session : (traced : Traced) (s : Status) (a b : Sight) (n : ℕ) → IsUnread s → b.written Talk ≡ a.written Talk
+    → b.left Commands ≡ a.left Commands → WhenTold (a.left Commands) (λ bytes. BrokenOff traced s bytes a b n n)
+untouched_session traced s a b n u t c =
+    left_broken traced s InTaking a b [] [] [] n n u none_taken (λ rest e. tt)
+    (subst (λ k. Consumes (a.left Commands) k []) (sym c) (Consumes-nil (a.left Commands)))
+    (subst (λ k. Appends (a.written Talk) k []) (sym t) (Appends-nil (a.written Talk)))
+    (λ rest e. (said_in traced (complete rest), refl)) refl ([], refl) (no_fewer n (steps_at traced.run 0))
 
 pub no_front : (a b : Sight) (text : List ℕ) → b.written Talk ≡ a.written Talk → AppendsFront (a.written Talk) (b.written Talk) text
 no_front a b text t =
-    record { count = 0; within = omega arith; front = subst (λ k. Appends (a.written Talk) k []) (sym t) (appends_none (a.written Talk)) }
+    record { count = 0; within = omega arith; front = subst (λ k. Appends (a.written Talk) k []) (sym t) (Appends-nil (a.written Talk)) }
 
 untouched_by : (x : Outcome) (s : Status) (a b : Sight) (n : ℕ) → IsUnread s → b.written Talk ≡ a.written Talk
     → b.left Commands ≡ a.left Commands → BrokenAs x s a b n n
@@ -110,7 +100,7 @@ untouched_by (Line t text) status.Memory a b n u k c = (no_front a b text k, c)
 untouched_by (Line t text) s a b n u k c = absurd u
 untouched_by Missing s a b n u k c = (u, k, c)
 untouched_by (Session traced) s a b n u k c =
-    untouched_session traced s (a.left Commands) (b.left Commands) (a.written Talk) (b.written Talk) n u k c
+    untouched_session traced s a b n u k c
 
 -- no step was made
 unpaid_by : (x : Outcome) (s : Status) (a : Sight) (n : ℕ) → IsBroken s → CostsAs x s a n n
@@ -122,7 +112,7 @@ told_any : (o : Option Outcome) (P : Outcome → Type 0) → ((x : Outcome) → 
 told_any None P f = tt
 told_any (Some x) P f = f x
 
-told_by : (o : Option Outcome) (P Q : Outcome → Type 0) → ((x : Outcome) → P x → Q x) → WhenTold o P → WhenTold o Q
+told_by : {A : Type 0} (o : Option A) (P Q : A → Type 0) → ((x : A) → P x → Q x) → WhenTold o P → WhenTold o Q
 told_by None P Q f p = tt
 told_by (Some x) P Q f p = f x p
 
@@ -219,19 +209,58 @@ retell None x s a b before after i l = record {
 retell (Some y) x s a b before after i l = subst (λ x. Leaves (Some x) s a b before after) (sym i) l
 
 -- what was untouched before
+finished_after : (traced : Traced) (bytes : List ℕ) (a b c : Sight) → Untouched a b → Finished traced bytes b c
+    → Finished traced bytes a c
+finished_after traced bytes a b c u d = record {
+  short = d.short;
+  answers = subst (λ t. Appends t (c.written Talk) (said_in traced (complete bytes))) u.talk d.answers;
+  read = d.read;
+}
+
+past_limit_after : (traced : Traced) (bytes : List ℕ) (a b c : Sight) (before after : ℕ) → Untouched a b
+    → PastLimit traced bytes b c before after → PastLimit traced bytes a c before after
+past_limit_after traced bytes a b c before after u d = record {
+  long = d.long;
+  left = d.left;
+  front = d.front;
+  written = subst (λ t. Appends t (c.written Talk) (said_in traced (so_far (take channel_limit bytes)) ++ too_long_line)) u.talk d.written;
+  costs = d.costs;
+}
+
+broken_off_after : (traced : Traced) (s : Status) (bytes : List ℕ) (a b c : Sight) (before after : ℕ) → Untouched a b
+    → BrokenOff traced s bytes b c before after → BrokenOff traced s bytes a c before after
+broken_off_after traced s bytes a b c before after u d = record {
+  met = d.met;
+  taken = d.taken;
+  rest = d.rest;
+  answers = d.answers;
+  line = d.line;
+  is_met = d.is_met;
+  bytes_are = d.bytes_are;
+  left = d.left;
+  count = d.count;
+  is_taken = d.is_taken;
+  front = d.front;
+  answered = d.answered;
+  line_front = d.line_front;
+  written = subst (λ t. Appends t (c.written Talk) (d.answers ++ d.line)) u.talk d.written;
+  paid = d.paid;
+}
+
 done_after : (a b c : Sight) → Untouched a b → (x : Outcome) → DoneAs x b c → DoneAs x a c
 done_after a b c u (Line s text) d = d
 done_after a b c u Missing d = d
 done_after a b c u (Session traced) d =
-    subst (λ k. WhenTold k (λ bytes. Finished traced bytes (a.written Talk) (c.written Talk) (c.left Commands))) u.commands
-    (subst (λ t. WhenTold (b.left Commands) (λ bytes. Finished traced bytes t (c.written Talk) (c.left Commands))) u.talk d)
+    subst (λ k. WhenTold k (λ bytes. Finished traced bytes a c)) u.commands
+    (told_by (b.left Commands) (λ bytes. Finished traced bytes b c) (λ bytes. Finished traced bytes a c)
+    (λ bytes. finished_after traced bytes a b c u) d)
 
 cost_after : (s : Status) (a b : Sight) (before after : ℕ) → Untouched a b → (x : Outcome) → CostsAs x s b before after
     → CostsAs x s a before after
 cost_after s a b before after u (Line t text) d = d
 cost_after s a b before after u Missing d = d
 cost_after s a b before after u (Session traced) d =
-    λ e. subst (λ k. WhenTold k (λ bytes. Costs traced (commands_in bytes) before after)) u.commands (d e)
+    λ e. subst (λ k. WhenTold k (λ bytes. Costs traced (complete bytes) before after)) u.commands (d e)
 
 load_after : (a b c : Sight) → Untouched a b → (x : Outcome) → LoadAs x b c → LoadAs x a c
 load_after a b c u (Line status.Load text) d = subst (λ t. Appends t (c.written Talk) text) u.talk d
@@ -242,8 +271,9 @@ too_long_after : (a b c : Sight) (before after : ℕ) → Untouched a b → (x :
 too_long_after a b c before after u (Line status.TooLong text) d =
     (subst (λ t. Appends t (c.written Talk) text) u.talk d.0, d.1 ∙ u.commands)
 too_long_after a b c before after u (Session traced) d =
-    subst (λ k. WhenTold k (λ bytes. PastLimit traced bytes (a.written Talk) (c.written Talk) (c.left Commands) before after)) u.commands
-    (subst (λ t. WhenTold (b.left Commands) (λ bytes. PastLimit traced bytes t (c.written Talk) (c.left Commands) before after)) u.talk d)
+    subst (λ k. WhenTold k (λ bytes. PastLimit traced bytes a c before after)) u.commands
+    (told_by (b.left Commands) (λ bytes. PastLimit traced bytes b c before after) (λ bytes. PastLimit traced bytes a c before after)
+    (λ bytes. past_limit_after traced bytes a b c before after u) d)
 too_long_after a b c before after u x d = absurd d
 
 broken_after : (s : Status) (a b c : Sight) (before after : ℕ) → Untouched a b → (x : Outcome) → BrokenAs x s b c before after
@@ -252,8 +282,9 @@ broken_after status.Read a b c before after u (Line t text) d = (d.0 ∙ u.talk,
 broken_after s a b c before after u (Line t text) d = (subst (λ k. AppendsFront k (c.written Talk) text) u.talk d.0, d.1 ∙ u.commands)
 broken_after s a b c before after u Missing d = (d.0, d.1 ∙ u.talk, d.2 ∙ u.commands)
 broken_after s a b c before after u (Session traced) d =
-    subst (λ k. WhenTold k (λ bytes. BrokenOff traced s bytes (a.written Talk) (c.written Talk) (c.left Commands) before after)) u.commands
-    (subst (λ t. WhenTold (b.left Commands) (λ bytes. BrokenOff traced s bytes t (c.written Talk) (c.left Commands) before after)) u.talk d)
+    subst (λ k. WhenTold k (λ bytes. BrokenOff traced s bytes a c before after)) u.commands
+    (told_by (b.left Commands) (λ bytes. BrokenOff traced s bytes b c before after) (λ bytes. BrokenOff traced s bytes a c before after)
+    (λ bytes. broken_off_after traced s bytes a b c before after u) d)
 
 pub leaves_after : (o : Option Outcome) (s : Status) (a b c : Sight) (before after : ℕ) → Untouched a b → Leaves o s b c before after
     → Leaves o s a c before after

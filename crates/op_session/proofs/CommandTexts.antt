@@ -1,15 +1,19 @@
--- The texts of the commands, as they come byte by byte.
-use Rattle.std.proofs.Common.{◌≡◌, ℕ, zero, suc, ◌+◌, ◌-◌, ◌<◌, ◌≤◌, true, false, cond, List, [], ◌∷◌, ◌++◌, length, drop, refl, sym, ap, ◌∙◌, subst, arith, zero-add, append_assoc, length-append}
+-- The commands, as they come byte by byte, and the course of the session that answers them.
+use Rattle.std.proofs.Common.{◌≡◌, ℕ, zero, suc, ◌+◌, ◌-◌, ◌<◌, ◌≤◌, Bool, true, false, cond, List, [], ◌∷◌, ◌++◌, length, drop}
+use Rattle.std.proofs.Common.{refl, sym, ap, ◌∙◌, subst, arith, zero-add, append_assoc, length-append}
+use Rattle.std.proofs.lemmas.List.{append-nil}
 use Rattle.std.specs.Prelude.{nat_lt}
 use Rattle.std.proofs.lemmas.Bool.Decides.{nat_tests}
 use Rattle.op_base.specs.Characters.{is_layout}
 use Rattle.op_token.specs.declared.piece.Piece.{Piece}
 use Rattle.op_token.specs.declared.piece.Piece.TheVariants.{Text, NoEnd, Empty}
-use Rattle.op_token.specs.Cut.{cut_of, text_in, behind_layout, rest_in, is_text, texts, behind_texts, IsOpen, IsFollowed, IsUnended}
+use Rattle.op_token.specs.Cut.{cut_of, text_in, behind_layout, rest_in, IsText, IsOpen, IsFollowed, IsUnended}
 use Rattle.op_token.proofs.TermTexts as cutting
-use Rattle.op_session.specs.Session.{commands_in, last_text}
-use Rattle.op_session.specs.inner.Behind.{commands_from, rest_texts}
-use Rattle.op_session.specs.Promise.{followed_texts, has_behind}
+use Rattle.op_session.specs.Traced.{Traced}
+use Rattle.op_session.specs.Moves.{Stand, at_start}
+use Rattle.op_session.specs.Session.{Answer, answer_to, so_far, complete, is_due, command_text, behind_command}
+use Rattle.op_session.specs.Session.{Course, no_more, answer_first, session_from, session}
+use Rattle.op_session.specs.inner.Behind.{behind, resumed, with_answer}
 use Rattle.op_session.specs.inner.Progress.{Cuts}
 
 -- a followed text has a byte at least, and one behind it
@@ -38,170 +42,224 @@ rest_length p f =
     drop_one (x ∷ p) zero h = sym h
     drop_one (x ∷ p) (suc n) h = drop_one p n (omega arith)
 
--- the texts that have a byte behind them
-pub followed_none : (n : ℕ) (p : List ℕ) → IsOpen p → followed_texts n p ≡ []
-followed_none zero p o = refl
-followed_none (suc n) p o =
-    ap (λ b. cond b (text_in (cut_of p) p ∷ followed_texts n (rest_in (cut_of p) p)) []) (none (cut_of p) (length p) o)
+-- while no text has a byte behind it, no command stands first
+pub none_due : (traced : Traced) (n : ℕ) (s : Stand) (p : List ℕ) → IsOpen p → session_from traced false n s p ≡ no_more s
+none_due traced zero s p o = refl
+none_due traced (suc n) s p o =
+    let x : Piece = cut_of p in
+    let a : Answer = answer_to traced s (command_text x p) in
+    ap (λ b. cond b (answer_first a (session_from traced false n a.stand (behind_command x p))) (no_more s)) (none x (length p) o)
   where
-    none : (x : Piece) (n : ℕ) → IsUnended x n → has_behind x n ≡ false
+    none : (x : Piece) (n : ℕ) → IsUnended x n → is_due false x n ≡ false
     none (Text f t) n u = let e : t ≡ n = u in grind (arith, nat_tests)
     none NoEnd n u = refl
     none Empty n u = refl
 
-has_byte : (p r : List ℕ) → IsFollowed p → has_behind (cut_of p) (length (p ++ r)) ≡ true
-has_byte p r f =
+lt_true : (m n : ℕ) → m < n → nat_lt m n ≡ true
+lt_true m n h = grind (arith, nat_tests)
+
+-- a text with a byte behind it is a command, whatever comes behind that
+due_more : (over : Bool) (p r : List ℕ) → IsFollowed p → is_due over (cut_of p) (length (p ++ r)) ≡ true
+due_more false p r f =
     let i = cutting.followed_is (cut_of p) (length p) f in
     let l : i.1.0 < length (p ++ r) = omega (arith, i.1.1.1, length-append p r) in
-    subst (λ x. has_behind x (length (p ++ r)) ≡ true) (sym i.1.1.0) (lt_true i.1.0 (length (p ++ r)) l)
-  where
-    lt_true : (m n : ℕ) → m < n → nat_lt m n ≡ true
-    lt_true m n h = grind (arith, nat_tests)
+    subst (λ x. is_due false x (length (p ++ r)) ≡ true) (sym i.1.1.0) (lt_true i.1.0 (length (p ++ r)) l)
+due_more true p r f =
+    let i = cutting.followed_is (cut_of p) (length p) f in
+    subst (λ x. is_due true x (length (p ++ r)) ≡ true) (sym i.1.1.0) refl
 
-pub followed_one : (n : ℕ) (p r : List ℕ) → IsFollowed p
-    → followed_texts (suc n) (p ++ r) ≡ text_in (cut_of p) p ∷ followed_texts n (rest_in (cut_of p) p ++ r)
-followed_one n p r f =
-    subst (λ x. cond (has_behind x (length (p ++ r))) (text_in x (p ++ r) ∷ followed_texts n (rest_in x (p ++ r))) []
-    ≡ text_in (cut_of p) p ∷ followed_texts n (rest_in (cut_of p) p ++ r))
-    (sym (cutting.cut_more p r f))
-    (ap (λ b. cond b (text_in (cut_of p) (p ++ r) ∷ followed_texts n (rest_in (cut_of p) (p ++ r))) []) (has_byte p r f)
-    ∙ ap (λ t. t ∷ followed_texts n (rest_in (cut_of p) (p ++ r))) (cutting.text_more p r f)
-    ∙ ap (λ s. text_in (cut_of p) p ∷ followed_texts n s) (cutting.rest_more p r f))
+text_is_command : (x : Piece) (bytes : List ℕ) → IsText x → command_text x bytes ≡ text_in x bytes
+text_is_command (Text f t) bytes h = refl
+text_is_command NoEnd bytes h = absurd h
+text_is_command Empty bytes h = absurd h
+
+rest_is_behind : (x : Piece) (bytes : List ℕ) → IsText x → behind_command x bytes ≡ rest_in x bytes
+rest_is_behind (Text f t) bytes h = refl
+rest_is_behind NoEnd bytes h = absurd h
+rest_is_behind Empty bytes h = absurd h
+
+-- it is answered, and the session goes on behind it
+pub followed_one : (traced : Traced) (over : Bool) (n : ℕ) (s : Stand) (p r : List ℕ) → IsFollowed p
+    → session_from traced over (suc n) s (p ++ r)
+    ≡ resumed traced (with_answer traced (no_more s) (text_in (cut_of p) p)) over n (rest_in (cut_of p) p ++ r)
+followed_one traced over n s p r f =
+    let q : List ℕ = p ++ r in
+    let x : Piece = cut_of p in
+    let whole : IsText x = cutting.followed_is_text p f in
+    let here : Bool → List ℕ → List ℕ → Course = λ b t u.
+    cond b (answer_first (answer_to traced s t) (session_from traced over n (answer_to traced s t).stand u)) (no_more s) in
+    ap (λ y. here (is_due over y (length q)) (command_text y q) (behind_command y q)) (cutting.cut_more p r f)
+    ∙ ap (λ b. here b (command_text x q) (behind_command x q)) (due_more over p r f)
+    ∙ ap (λ t. here true t (behind_command x q)) (text_is_command x q whole ∙ cutting.text_more p r f)
+    ∙ ap (λ u. here true (text_in x p) u) (rest_is_behind x q whole ∙ cutting.rest_more p r f)
+
+-- an answer behind a course, and what comes behind that
+one_between : (traced : Traced) (c : Course) (t : List ℕ) (d : Course)
+    → behind c (behind (with_answer traced (no_more c.stand) t) d) ≡ behind (with_answer traced c t) d
+one_between traced c t d =
+    let a : Answer = answer_to traced c.stand t in
+    let f : List (List ℕ) → Course = λ xs. record { answers = xs; stand = d.stand; left = d.left } in
+    ap f (sym (append_assoc c.answers (a.text ∷ []) d.answers))
 
 -- before the first byte
-pub cuts_start : Cuts [] [] []
-cuts_start = record {
-  texts = λ n r. ap (λ m. texts m r) (zero-add n);
-  behind = λ n r. ap (λ m. behind_texts m r) (zero-add n);
-  followed = λ n r. ap (λ m. followed_texts m r) (zero-add n);
+pub cuts_start : (traced : Traced) → Cuts traced (no_more at_start) [] []
+cuts_start traced = record {
+  count = 0;
+  goes_on = λ over n r. ap (λ m. session_from traced over m at_start r) (zero-add n);
+  unread = refl;
   short = omega arith;
 }
 
 -- a byte more
-pub cuts_byte : (passed : List (List ℕ)) (taken p : List ℕ) (b : ℕ) → Cuts passed taken p → Cuts passed (taken ++ b ∷ []) (p ++ b ∷ [])
-cuts_byte passed taken p b c =
-    let short = c.short in
+pub cuts_byte : (traced : Traced) (c : Course) (taken p : List ℕ) (b : ℕ) → Cuts traced c taken p
+    → Cuts traced c (taken ++ b ∷ []) (p ++ b ∷ [])
+cuts_byte traced c taken p b k =
+    let short = k.short in
     record {
-      texts = λ n r. rw (append_assoc taken (b ∷ []) r, append_assoc p (b ∷ []) r) (c.texts n (b ∷ r));
-      behind = λ n r. rw (append_assoc taken (b ∷ []) r, append_assoc p (b ∷ []) r) (c.behind n (b ∷ r));
-      followed = λ n r. rw (append_assoc taken (b ∷ []) r, append_assoc p (b ∷ []) r) (c.followed n (b ∷ r));
+      count = k.count;
+      goes_on = λ over n r. rw (append_assoc taken (b ∷ []) r, append_assoc p (b ∷ []) r) (k.goes_on over n (b ∷ r));
+      unread = k.unread;
       short = omega (arith, length-append taken (b ∷ []), length-append p (b ∷ []));
     }
 
--- a text more
-pub cuts_text : (passed : List (List ℕ)) (taken p : List ℕ) → Cuts passed taken p → IsFollowed p
-    → Cuts (passed ++ text_in (cut_of p) p ∷ []) taken (rest_in (cut_of p) p)
-cuts_text passed taken p c f =
-    let t = text_in (cut_of p) p in
-    let l : length (passed ++ t ∷ []) ≡ suc (length passed) = omega (arith, length-append passed (t ∷ [])) in
-    let more : (n : ℕ) → length (passed ++ t ∷ []) + n ≡ length passed + suc n = λ n. rw l (omega arith) in
-    let short = c.short in
+-- a command more
+pub cuts_text : (traced : Traced) (c : Course) (taken p : List ℕ) → Cuts traced c taken p → IsFollowed p
+    → Cuts traced (with_answer traced c (text_in (cut_of p) p)) taken (rest_in (cut_of p) p)
+cuts_text traced c taken p k f =
+    let t : List ℕ = text_in (cut_of p) p in
+    let u : List ℕ = rest_in (cut_of p) p in
+    let a : Answer = answer_to traced c.stand t in
+    let more : (n : ℕ) → suc k.count + n ≡ k.count + suc n = λ n. omega arith in
+    let short = k.short in
     record {
-      texts = λ n r. rw (more n, append_assoc passed (t ∷ [])) (c.texts (suc n) r ∙ ap (λ ts. passed ++ ts) (cutting.texts_more n p r f));
-      behind = λ n r. rw (more n) (c.behind (suc n) r ∙ cutting.behind_more n p r f);
-      followed = λ n r. rw (more n, append_assoc passed (t ∷ [])) (c.followed (suc n) r ∙ ap (λ ts. passed ++ ts) (followed_one n p r f));
-      short = omega (arith, l, rest_length p f, followed_length p f);
+      count = suc k.count;
+      goes_on = λ over n r.
+          ap (λ m. session_from traced over m at_start (taken ++ r)) (more n)
+          ∙ k.goes_on over (suc n) r
+          ∙ ap (λ d. behind c d) (followed_one traced over n c.stand p r f)
+          ∙ one_between traced c t (session_from traced over n a.stand (u ++ r));
+      unread = refl;
+      short = omega (arith, rest_length p f, followed_length p f);
     }
 
--- all commands are those that were passed and those in what is left
-pub commands_more : (passed : List (List ℕ)) (taken p r : List ℕ) (m : ℕ) → Cuts passed taken p
-    → commands_from (length passed + m) (taken ++ r) ≡ passed ++ commands_from m (p ++ r)
-commands_more passed taken p r m c =
-    let last : List ℕ → List (List ℕ) = λ s. last_text (cut_of s) s in
-    ap (λ ts. ts ++ last (behind_texts (length passed + m) (taken ++ r))) (c.texts m r)
-    ∙ ap (λ s. (passed ++ texts m (p ++ r)) ++ last s) (c.behind m r)
-    ∙ append_assoc passed (texts m (p ++ r)) (last (behind_texts m (p ++ r)))
-
-pub commands_text : (m : ℕ) (p r : List ℕ) → IsFollowed p
-    → commands_from (suc m) (p ++ r) ≡ text_in (cut_of p) p ∷ commands_from m (rest_in (cut_of p) p ++ r)
-commands_text m p r f =
-    let last : List ℕ → List (List ℕ) = λ s. last_text (cut_of s) s in
-    ap (λ ts. ts ++ last (behind_texts (suc m) (p ++ r))) (cutting.texts_more m p r f)
-    ∙ ap (λ s. text_in (cut_of p) p ∷ (texts m (rest_in (cut_of p) p ++ r) ++ last s)) (cutting.behind_more m p r f)
-
--- how many more texts there may be
-pub record Fuel (passed : List (List ℕ)) (bytes p : List ℕ) : Type 0 where
+-- how many more commands there may be
+pub record Fuel (count : ℕ) (bytes p : List ℕ) : Type 0 where
   pub more : ℕ
-  pub all : length bytes ≡ length passed + more
+  pub all : length bytes ≡ count + more
   pub enough : length p ≤ more
 
-pub fuel : (passed : List (List ℕ)) (taken p r : List ℕ) → Cuts passed taken p → Fuel passed (taken ++ r) p
-fuel passed taken p r c =
-    let short = c.short in
+pub fuel : (traced : Traced) (c : Course) (taken p r : List ℕ) (k : Cuts traced c taken p) → Fuel k.count (taken ++ r) p
+fuel traced c taken p r k =
+    let short = k.short in
     let l = length-append taken r in
     record {
-      more = length (taken ++ r) - length passed;
+      more = length (taken ++ r) - k.count;
       all = omega arith;
       enough = omega arith;
     }
 
-no_texts : (n : ℕ) → texts n [] ≡ []
-no_texts zero = refl
-no_texts (suc n) = refl
+-- the session over all bytes is the course so far, and what comes behind it
+pub session_at : (traced : Traced) (c : Course) (taken p r : List ℕ) (over : Bool) (k : Cuts traced c taken p)
+    → session traced (record { bytes = taken ++ r; over = over }) ≡ resumed traced c over (fuel traced c taken p r k).more (p ++ r)
+session_at traced c taken p r over k =
+    let u : Fuel k.count (taken ++ r) p = fuel traced c taken p r k in
+    ap (λ m. session_from traced over m at_start (taken ++ r)) u.all ∙ k.goes_on over u.more r
 
-nothing_behind : (n : ℕ) → behind_texts n [] ≡ []
-nothing_behind zero = refl
-nothing_behind (suc n) = refl
+pub session_here : (traced : Traced) (c : Course) (taken p : List ℕ) (over : Bool) (k : Cuts traced c taken p)
+    → session traced (record { bytes = taken; over = over }) ≡ resumed traced c over (fuel traced c taken p [] k).more p
+session_here traced c taken p over k =
+    ap (λ t. session_from traced over (length t) at_start t) (sym (append-nil taken))
+    ∙ session_at traced c taken p [] over k
+    ∙ ap (λ q. resumed traced c over (fuel traced c taken p [] k).more q) (append-nil p)
 
--- the last bytes are one text, a rest without an end, or nothing
-pub commands_rest : (m : ℕ) (p : List ℕ) → IsOpen p → length p ≤ m → commands_from m p ≡ rest_texts (cut_of p) p
-commands_rest m p o h = by (cut_of p) refl
+none_behind : (c : Course) → c.left ≡ [] → behind c (no_more c.stand) ≡ c
+none_behind c e =
+    let f : List (List ℕ) → List ℕ → Course = λ xs l. record { answers = xs; stand = c.stand; left = l } in
+    ap (λ xs. f xs []) (append-nil c.answers) ∙ ap (λ l. f c.answers l) (sym e)
+
+-- the session over what was taken is the course so far, while no text has a byte behind it
+pub so_far_is : (traced : Traced) (c : Course) (taken p : List ℕ) → Cuts traced c taken p → IsOpen p → session traced (so_far taken) ≡ c
+so_far_is traced c taken p k o =
+    session_here traced c taken p false k
+    ∙ ap (λ d. behind c d) (none_due traced (fuel traced c taken p [] k).more c.stand p o)
+    ∙ none_behind c k.unread
+
+-- nothing is left to answer
+over_none : (traced : Traced) (n : ℕ) (s : Stand) → session_from traced true n s [] ≡ no_more s
+over_none traced zero s = refl
+over_none traced (suc n) s = refl
+
+filled : (p : List ℕ) → is_due true (cut_of p) (length p) ≡ true → 0 < length p
+filled [] h = absurd cc
+filled (b ∷ p) h = omega arith
+
+-- behind the last command nothing is left
+none_left : (p : List ℕ) → IsOpen p → behind_command (cut_of p) p ≡ []
+none_left p o = by (cut_of p) refl
   where
-    last : List ℕ → List (List ℕ)
-    last s = last_text (cut_of s) s
-
     dropped : (p : List ℕ) (n : ℕ) → length p ≤ n → drop n p ≡ []
     dropped [] zero h = refl
     dropped [] (suc n) h = refl
     dropped (x ∷ p) zero h = absurd (omega arith)
     dropped (x ∷ p) (suc n) h = dropped p n (omega arith)
 
-    left : (p : List ℕ) (n : ℕ) → length p ≤ n → behind_layout (drop n p) ≡ []
-    left p n h = ap behind_layout (dropped p n h)
-
-    unended : (x : Piece) → cut_of p ≡ x → IsUnended x (length p)
-    unended x e = subst (λ x. IsUnended x (length p)) e o
-
-    texts_none : (m : ℕ) → is_text (cut_of p) ≡ false → texts m p ≡ []
-    texts_none zero e = refl
-    texts_none (suc m) e = ap (λ b. cond b (text_in (cut_of p) p ∷ texts m (rest_in (cut_of p) p)) []) e
-
-    behind_none : (m : ℕ) → is_text (cut_of p) ≡ false → behind_texts m p ≡ p
-    behind_none zero e = refl
-    behind_none (suc m) e = ap (λ b. cond b (behind_texts m (rest_in (cut_of p) p)) p) e
-
-    none : (m : ℕ) → is_text (cut_of p) ≡ false → commands_from m p ≡ last p
-    none m e = ap (λ ts. ts ++ last (behind_texts m p)) (texts_none m e) ∙ ap last (behind_none m e)
-
-    texts_one : (m f t : ℕ) → cut_of p ≡ Text f t → length p ≤ t → texts (suc m) p ≡ text_in (Text f t) p ∷ []
-    texts_one m f t e l =
-        subst (λ x. cond (is_text x) (text_in x p ∷ texts m (rest_in x p)) [] ≡ text_in (Text f t) p ∷ []) (sym e)
-        (ap (λ s. text_in (Text f t) p ∷ texts m s) (left p t l) ∙ ap (λ ts. text_in (Text f t) p ∷ ts) (no_texts m))
-
-    behind_one : (m f t : ℕ) → cut_of p ≡ Text f t → length p ≤ t → behind_texts (suc m) p ≡ []
-    behind_one m f t e l =
-        subst (λ x. cond (is_text x) (behind_texts m (rest_in x p)) p ≡ []) (sym e)
-        (ap (λ s. behind_texts m s) (left p t l) ∙ nothing_behind m)
-
-    one : (m f t : ℕ) → cut_of p ≡ Text f t → length p ≤ t → commands_from (suc m) p ≡ text_in (Text f t) p ∷ []
-    one m f t e l =
-        ap (λ ts. ts ++ last (behind_texts (suc m) p)) (texts_one m f t e l)
-        ∙ ap (λ s. text_in (Text f t) p ∷ last s) (behind_one m f t e l)
-
-    some_more : (m : ℕ) → 0 < m → (k : ℕ) × (m ≡ suc k)
-    some_more zero h = absurd (omega arith)
-    some_more (suc k) h = (k, refl)
-
-    by : (x : Piece) → cut_of p ≡ x → commands_from m p ≡ rest_texts (cut_of p) p
+    by : (x : Piece) → cut_of p ≡ x → behind_command (cut_of p) p ≡ []
     by (Text f t) e =
-        let w = cutting.cut_within p f t e in
-        let u : t ≡ length p = unended (Text f t) e in
-        let within = w.0 in
-        let k = some_more m (omega arith) in
-        subst (λ x. commands_from m p ≡ rest_texts x p) (sym e)
-        (subst (λ m. commands_from m p ≡ text_in (Text f t) p ∷ []) (sym k.1) (one k.0 f t e (omega arith)))
-    by NoEnd e = subst (λ x. commands_from m p ≡ rest_texts x p) (sym e) (none m (ap is_text e) ∙ ap (λ x. last_text x p) e)
-    by Empty e = subst (λ x. commands_from m p ≡ rest_texts x p) (sym e) (none m (ap is_text e) ∙ ap (λ x. last_text x p) e)
+        let u : t ≡ length p = subst (λ x. IsUnended x (length p)) e o in
+        subst (λ x. behind_command x p ≡ []) (sym e) (ap behind_layout (dropped p t (omega (arith, u))))
+    by NoEnd e = subst (λ x. behind_command x p ≡ []) (sym e) refl
+    by Empty e = subst (λ x. behind_command x p ≡ []) (sym e) refl
 
-pub commands_are : (bytes : List ℕ) (n : ℕ) → length bytes ≡ n → commands_in bytes ≡ commands_from n bytes
-commands_are bytes n e = ap (λ n. commands_from n bytes) e
+-- the commands are over, and nothing but layout and comments is left
+pub complete_none : (traced : Traced) (c : Course) (taken p : List ℕ) → Cuts traced c taken p → cut_of p ≡ Empty
+    → session traced (complete taken) ≡ c
+complete_none traced c taken p k e =
+    session_here traced c taken p true k
+    ∙ ap (λ d. behind c d) (none (fuel traced c taken p [] k).more c.stand)
+    ∙ none_behind c k.unread
+  where
+    none : (n : ℕ) (s : Stand) → session_from traced true n s p ≡ no_more s
+    none zero s = refl
+    none (suc n) s =
+        let a : Piece → Answer = λ x. answer_to traced s (command_text x p) in
+        let more : Piece → Course = λ x. answer_first (a x) (session_from traced true n (a x).stand (behind_command x p)) in
+        ap (λ x. cond (is_due true x (length p)) (more x) (no_more s)) e
+
+some_more : (m : ℕ) → 0 < m → (k : ℕ) × (m ≡ suc k)
+some_more zero h = absurd (omega arith)
+some_more (suc k) h = (k, refl)
+
+-- or one command is left
+pub complete_one : (traced : Traced) (c : Course) (taken p : List ℕ) → Cuts traced c taken p → IsOpen p
+    → is_due true (cut_of p) (length p) ≡ true
+    → session traced (complete taken) ≡ with_answer traced c (command_text (cut_of p) p)
+complete_one traced c taken p k o due =
+    let u : Fuel k.count (taken ++ []) p = fuel traced c taken p [] k in
+    let enough = u.enough in
+    let some = filled p due in
+    let j = some_more u.more (omega arith) in
+    session_here traced c taken p true k
+    ∙ ap (λ m. resumed traced c true m p) j.1
+    ∙ ap (λ d. behind c d) (one j.0 c.stand)
+  where
+    one : (n : ℕ) (s : Stand)
+        → session_from traced true (suc n) s p
+        ≡ answer_first (answer_to traced s (command_text (cut_of p) p)) (no_more (answer_to traced s (command_text (cut_of p) p)).stand)
+    one n s =
+        let x : Piece = cut_of p in
+        let a : Answer = answer_to traced s (command_text x p) in
+        ap (λ b. cond b (answer_first a (session_from traced true n a.stand (behind_command x p))) (no_more s)) due
+        ∙ ap (λ v. answer_first a (session_from traced true n a.stand v)) (none_left p o)
+        ∙ ap (λ d. answer_first a d) (over_none traced n a.stand)
+
+-- a session reads all bytes
+pub all_read : (traced : Traced) (over : Bool) (n : ℕ) (s : Stand) (bytes : List ℕ) → (session_from traced over n s bytes).left ≡ []
+all_read traced over zero s bytes = refl
+all_read traced over (suc n) s bytes =
+    let x : Piece = cut_of bytes in
+    let a : Answer = answer_to traced s (command_text x bytes) in
+    let more : Course = session_from traced over n a.stand (behind_command x bytes) in
+    elim (is_due over x (length bytes)) as (λ b. (cond b (answer_first a more) (no_more s)).left ≡ []) [
+      | true ↦ all_read traced over n a.stand (behind_command x bytes)
+      | false ↦ refl
+    ]

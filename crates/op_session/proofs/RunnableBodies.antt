@@ -1,23 +1,35 @@
 -- Which goals can be run, by their outermost nodes, and a walk over the parts of a body.
-use Rattle.std.proofs.Common.{◌≡◌, ◌≢◌, ℕ, suc, ◌+◌, ◌<◌, ◌==◌, ◌&&◌, Bool, true, false, List, [], ◌∷◌, ◌++◌, map, Some, is_some, refl, sym, ap, ◌∙◌, arith, sum_by, All}
+use Rattle.std.proofs.Common.{◌≡◌, ◌≢◌, ℕ, suc, ◌+◌, ◌<◌, ◌==◌, ◌&&◌, ◌||◌, Bool, true, false, cond, List, [], ◌∷◌, ◌++◌, map}
+use Rattle.std.proofs.Common.{Some, is_some, codes, refl, sym, ap, ◌∙◌, arith, sum_by, All}
 use Rattle.std.proofs.lemmas.Bool.Decides.{nat_tests}
 use Rattle.std.proofs.lemmas.List.{map-append}
 use Rattle.std.proofs.lemmas.List.Folds.{list_all-append}
 use Rattle.std.proofs.lemmas.List.Sums.{sum_by-append}
 use Rattle.std.proofs.lemmas.List.Elements.{All-append}
 use Rattle.std.specs.List.{list_all}
-use Rattle.op_logic.specs.Term.{Term, var, int, node, no_args, arg, args_of, nth_arg, arity, size}
+use Rattle.op_logic.specs.Term.{Term, var, int, node, no_args, arg, atom, args_of, nth_arg, arity, size}
 use Rattle.op_logic.specs.Names.{name_at, named, HasNames}
 use Rattle.op_logic.proofs.RenamedUnification.{arity-rename}
 use Rattle.op_term.specs.Head.{head, sym as name}
 use Rattle.op_term.specs.declared.symbols.Sym.{Sym}
 use Rattle.op_term.specs.declared.node.Node.TheVariants as nodes
-use Rattle.op_trace.specs.Database.{Text}
+use Rattle.op_trace.specs.Database.{Text, text_eq}
+use Rattle.op_trace.specs.Visit.{Control, TrueGoal, FailGoal, CutGoal, Conjunction, Disjunction, IfThenElse, BoxedGoal}
+use Rattle.op_trace.specs.Visit.{control_of_disjunction, control_of_pair}
 use Rattle.op_bind.specs.declared.places.Clause.{Clause as NumberedClause}
 use Rattle.op_store.specs.declared.procedures.pi.Pi.{Pi}
 use Rattle.op_store.specs.NumberedProcedures.{NumberedProcedures, all_numbered_clauses, IsNumberedClause, AreNumberedProcedures}
 use Rattle.op_trace.specs.Database.{name_arity, indicator_of_term, Database, procedure_in}
-use Rattle.op_session.specs.Runnable.{is_goal, is_control_pair_name, is_control_pair, is_runnable, all_runnable}
+use Rattle.op_session.specs.Runnable.{has_box, is_defined, is_runnable}
+use Rattle.op_session.specs.inner.Parts.{is_goal, is_control_pair_name, is_control_pair, all_runnable}
+
+-- a compound is no control construct without parts
+no_control_atom : (w : Database) (g : Text) (m : ℕ)
+    → is_some (procedure_in w.procedures (name_arity g (suc m))) ≡ is_goal w (Some (name_arity g (suc m)))
+no_control_atom w g m = rw (never m) refl
+  where
+    never : (m : ℕ) → (suc m == 0) ≡ false
+    never m = grind (arith, nat_tests)
 
 -- a compound's procedure, and what is asked of a goal of it
 pub goal-struct : (w : Database) (names : List Text) (t : Term ℕ) (f : Sym) (n : ℕ) → nodes.Struct f n ≡ head t
@@ -31,24 +43,22 @@ goal-struct w names (node g (arg a ts)) f n e =
     ap (λ (x : Sym). is_some (procedure_in w.procedures (name_arity (name_at names x.0) n))) s
     ∙ ap (λ (m : ℕ). is_some (procedure_in w.procedures (name_arity (name_at names g) m))) k
     ∙ ap (λ (m : ℕ). is_some (procedure_in w.procedures (name_arity (name_at names g) (suc m)))) (sym (arity-rename (name_at names) ts))
-    ∙ no_control_atom (arity (args_of (named names (node g ts))))
-  where
-    never : (m : ℕ) → (suc m == 0) ≡ false
-    never m = grind (arith, nat_tests)
-
-    no_control_atom : (m : ℕ) → is_some (procedure_in w.procedures (name_arity (name_at names g) (suc m))) ≡ is_goal w (Some (name_arity (name_at names g) (suc m)))
-    no_control_atom m = rw (never m) refl
+    ∙ no_control_atom w (name_at names g) (arity (args_of (named names (node g ts))))
 
 -- a control construct of two parts is a compound of two arguments with the name `,`, `;` or `->`
-pub control_pair-two : (names : List Text) (t : Term ℕ) (f : Sym) (n : ℕ) → nodes.Struct f n ≡ head t → n ≡ 2 → is_control_pair_name (name_at names f.0) ≡ is_control_pair (named names t)
+pub control_pair-two : (names : List Text) (t : Term ℕ) (f : Sym) (n : ℕ) → nodes.Struct f n ≡ head t → n ≡ 2
+    → is_control_pair_name (name_at names f.0) ≡ is_control_pair (named names t)
 control_pair-two names (var v) f n e two = absurd cc
 control_pair-two names (int i) f n e two = absurd cc
 control_pair-two names (node g no_args) f n e two = absurd cc
 control_pair-two names (node g (arg a no_args)) f n e two = let k : n ≡ 1 = cc in absurd (omega arith)
-control_pair-two names (node g (arg a (arg b no_args))) f n e two = let s : f ≡ name g = cc in ap (λ (x : Sym). is_control_pair_name (name_at names x.0)) s
-control_pair-two names (node g (arg a (arg b (arg c ts)))) f n e two = let k : n ≡ suc (suc (suc (arity ts))) = cc in absurd (omega arith)
+control_pair-two names (node g (arg a (arg b no_args))) f n e two =
+    let s : f ≡ name g = cc in ap (λ (x : Sym). is_control_pair_name (name_at names x.0)) s
+control_pair-two names (node g (arg a (arg b (arg c ts)))) f n e two =
+    let k : n ≡ suc (suc (suc (arity ts))) = cc in absurd (omega arith)
 
-pub control_pair-other : (names : List Text) (t : Term ℕ) (f : Sym) (n : ℕ) → nodes.Struct f n ≡ head t → n ≢ 2 → is_control_pair (named names t) ≡ false
+pub control_pair-other : (names : List Text) (t : Term ℕ) (f : Sym) (n : ℕ) → nodes.Struct f n ≡ head t → n ≢ 2
+    → is_control_pair (named names t) ≡ false
 control_pair-other names (var v) f n e two = absurd cc
 control_pair-other names (int i) f n e two = absurd cc
 control_pair-other names (node g no_args) f n e two = absurd cc
@@ -56,10 +66,60 @@ control_pair-other names (node g (arg a no_args)) f n e two = refl
 control_pair-other names (node g (arg a (arg b no_args))) f n e two = let k : n ≡ 2 = cc in absurd (two k)
 control_pair-other names (node g (arg a (arg b (arg c ts)))) f n e two = refl
 
+-- a control construct of two parts has no box
+disjunction-unboxed : (a b : Term Text) → has_box (control_of_disjunction a b) ≡ false
+disjunction-unboxed (var v) b = refl
+disjunction-unboxed (int i) b = refl
+disjunction-unboxed (node f no_args) b = refl
+disjunction-unboxed (node f (arg c no_args)) b = refl
+disjunction-unboxed (node f (arg c (arg t no_args))) b =
+    elim (text_eq f (codes "->"))
+    as (λ x. has_box (cond x (IfThenElse c t b) (Disjunction (node f (arg c (arg t no_args))) b)) ≡ false) [ true ↦ refl | false ↦ refl ]
+disjunction-unboxed (node f (arg c (arg t (arg u ts)))) b = refl
+
+pair-unboxed : (f : Text) (a b : Term Text) → is_control_pair_name f ≡ true → has_box (control_of_pair f a b) ≡ false
+pair-unboxed f a b e =
+    by (text_eq f (codes ",")) (text_eq f (codes ";")) (text_eq f (codes "->")) (control_of_disjunction a b) (disjunction-unboxed a b) e
+  where
+    by : (c s i : Bool) (d : Control) → has_box d ≡ false → (c || (s || i)) ≡ true
+        → has_box (cond c (Conjunction a b) (cond s d (cond i (IfThenElse a b (atom (codes "fail"))) BoxedGoal))) ≡ false
+    by true s i d h e = refl
+    by false true i d h e = h
+    by false false true d h e = refl
+    by false false false d h e = absurd cc
+
+-- and another compound of two arguments has one
+pair-boxed : (f : Text) (a b : Term Text) → is_control_pair_name f ≡ false → has_box (control_of_pair f a b) ≡ true
+pair-boxed f a b e =
+    by (text_eq f (codes ",")) (text_eq f (codes ";")) (text_eq f (codes "->")) (control_of_disjunction a b) e
+  where
+    by : (c s i : Bool) (d : Control) → (c || (s || i)) ≡ false
+        → has_box (cond c (Conjunction a b) (cond s d (cond i (IfThenElse a b (atom (codes "fail"))) BoxedGoal))) ≡ true
+    by true s i d e = absurd cc
+    by false true i d e = absurd cc
+    by false false true d e = absurd cc
+    by false false false d e = refl
+
+-- an atom is a control construct without parts, or its procedure is asked for
+atom-met : (t f u c p : Bool)
+    → ((t || (f || (u || c))) || p)
+    ≡ cond (has_box (cond t TrueGoal (cond f FailGoal (cond u FailGoal (cond c CutGoal BoxedGoal))))) p true
+atom-met true f u c p = refl
+atom-met false true u c p = refl
+atom-met false false true c p = refl
+atom-met false false false true p = refl
+atom-met false false false false p = refl
+
+and-one : (a b : Bool) → (a && (b && true)) ≡ (a && b)
+and-one true true = refl
+and-one true false = refl
+and-one false b = refl
+
 -- the two parts of a control construct
 pub record Parts (w : Database) (names : List Text) (t : Term ℕ) : Type 0 where
   pub two : arity (args_of t) ≡ 2
-  pub run : is_runnable w (named names t) ≡ (is_runnable w (named names (nth_arg (args_of t) 0)) && is_runnable w (named names (nth_arg (args_of t) 1)))
+  pub run : is_runnable w (named names t)
+      ≡ (is_runnable w (named names (nth_arg (args_of t) 0)) && is_runnable w (named names (nth_arg (args_of t) 1)))
   pub less : size (nth_arg (args_of t) 0) + size (nth_arg (args_of t) 1) < size t
 
 pub parts-of : (w : Database) (names : List Text) (t : Term ℕ) → is_control_pair (named names t) ≡ true → Parts w names t
@@ -67,11 +127,18 @@ parts-of w names (var v) e = absurd cc
 parts-of w names (int i) e = absurd cc
 parts-of w names (node f no_args) e = absurd cc
 parts-of w names (node f (arg a no_args)) e = absurd cc
-parts-of w names (node f (arg a (arg b no_args))) e = record {
-  two = refl;
-  run = rw e refl;
-  less = omega arith;
-}
+parts-of w names (node f (arg a (arg b no_args))) e =
+    let g : Text = name_at names f in
+    let c : Term Text = named names a in
+    let d : Term Text = named names b in
+    let p : Bool = is_defined w (indicator_of_term (node g (arg c (arg d no_args)))) in
+    record {
+      two = refl;
+      run =
+          ap (λ (x : Bool). cond x p (list_all (λ (b : Bool). b) (is_runnable w c ∷ is_runnable w d ∷ []))) (pair-unboxed g c d e)
+          ∙ and-one (is_runnable w c) (is_runnable w d);
+      less = omega arith;
+    }
 parts-of w names (node f (arg a (arg b (arg c ts)))) e = absurd cc
 
 pub part-names : (w : Database) (names : List Text) (t : Term ℕ) (n : ℕ) → is_control_pair (named names t) ≡ true → HasNames n t
@@ -83,13 +150,23 @@ part-names w names (node f (arg a no_args)) n e h = absurd cc
 part-names w names (node f (arg a (arg b no_args))) n e h = (h.1.0, h.1.1.0)
 part-names w names (node f (arg a (arg b (arg c ts)))) n e h = absurd cc
 
-pub other-part : (w : Database) (names : List Text) (t : Term ℕ) → is_control_pair (named names t) ≡ false → is_goal w (indicator_of_term (named names t)) ≡ is_runnable w (named names t)
+pub other-part : (w : Database) (names : List Text) (t : Term ℕ) → is_control_pair (named names t) ≡ false
+    → is_goal w (indicator_of_term (named names t)) ≡ is_runnable w (named names t)
 other-part w names (var v) e = refl
 other-part w names (int i) e = refl
-other-part w names (node f no_args) e = refl
+other-part w names (node f no_args) e =
+    let g : Text = name_at names f in
+    atom-met (text_eq g (codes "true")) (text_eq g (codes "fail")) (text_eq g (codes "false")) (text_eq g (codes "!"))
+    (is_defined w (indicator_of_term (node g no_args)))
 other-part w names (node f (arg a no_args)) e = refl
-other-part w names (node f (arg a (arg b no_args))) e = rw e refl
-other-part w names (node f (arg a (arg b (arg c ts)))) e = refl
+other-part w names (node f (arg a (arg b no_args))) e =
+    let g : Text = name_at names f in
+    let c : Term Text = named names a in
+    let d : Term Text = named names b in
+    let p : Bool = is_defined w (indicator_of_term (node g (arg c (arg d no_args)))) in
+    sym (ap (λ (x : Bool). cond x p (list_all (λ (b : Bool). b) (is_runnable w c ∷ is_runnable w d ∷ []))) (pair-boxed g c d e))
+other-part w names (node f (arg a (arg b (arg c ts)))) e =
+    sym (no_control_atom w (name_at names f) (suc (suc (arity (args_of (named names (node f ts)))))))
 
 size-some : (t : Term ℕ) → 0 < size t
 size-some (var v) = omega arith
@@ -101,7 +178,8 @@ list_all-map p f [] = refl
 list_all-map p f (x ∷ xs) = ap (λ (b : Bool). p (f x) && b) (list_all-map p f xs)
 
 -- the names of the clauses' bodies are those of the store
-bodies-named : (n : ℕ) (k : Pi) (rs : List NumberedClause) → All (λ (r : NumberedClause). IsNumberedClause n k r) rs → All (λ (r : NumberedClause). HasNames n r.body) rs
+bodies-named : (n : ℕ) (k : Pi) (rs : List NumberedClause) → All (λ (r : NumberedClause). IsNumberedClause n k r) rs
+    → All (λ (r : NumberedClause). HasNames n r.body) rs
 bodies-named n k rs all i d h = (all i d h).body_names
 
 pub procedures-bodies : (n : ℕ) (ps : NumberedProcedures) → AreNumberedProcedures n ps
@@ -137,20 +215,26 @@ module _ {A : Type 0} (w : Database) (names : List Text) (term : A → Term ℕ)
       → all_runnable w (map shown (ps ++ p ∷ [])) ≡ all_runnable w (map shown rs)
   met-two ps qs rs p a b pair eq er ea eb =
       let parts = parts-of w names (term p) pair in
-      let first : is_runnable w (named names (nth_arg (args_of (term p)) 0)) ≡ is_runnable w (shown a) = ap (λ (t : Term ℕ). is_runnable w (named names t)) (sym ea) in
-      let second : is_runnable w (named names (nth_arg (args_of (term p)) 1)) ≡ is_runnable w (shown b) = ap (λ (t : Term ℕ). is_runnable w (named names t)) (sym eb) in
+      let first : is_runnable w (named names (nth_arg (args_of (term p)) 0)) ≡ is_runnable w (shown a) =
+      ap (λ (t : Term ℕ). is_runnable w (named names t)) (sym ea) in
+      let second : is_runnable w (named names (nth_arg (args_of (term p)) 1)) ≡ is_runnable w (shown b) =
+      ap (λ (t : Term ℕ). is_runnable w (named names t)) (sym eb) in
       let run : is_runnable w (shown p) ≡ (is_runnable w (shown a) && is_runnable w (shown b)) =
-      parts.run ∙ ap (λ (x : Bool). x && is_runnable w (named names (nth_arg (args_of (term p)) 1))) first ∙ ap (λ (x : Bool). is_runnable w (shown a) && x) second in
+      parts.run ∙ ap (λ (x : Bool). x && is_runnable w (named names (nth_arg (args_of (term p)) 1))) first
+      ∙ ap (λ (x : Bool). is_runnable w (shown a) && x) second in
       let before : all_runnable w (map shown (ps ++ p ∷ [])) ≡ (all_runnable w (map shown ps) && (is_runnable w (shown p) && true)) =
       ap (all_runnable w) (map-append shown ps (p ∷ [])) ∙ list_all-append (is_runnable w) (map shown ps) (shown p ∷ []) in
       let one : all_runnable w (map shown (ps ++ b ∷ [])) ≡ (all_runnable w (map shown ps) && (is_runnable w (shown b) && true)) =
       ap (all_runnable w) (map-append shown ps (b ∷ [])) ∙ list_all-append (is_runnable w) (map shown ps) (shown b ∷ []) in
-      let after : all_runnable w (map shown ((ps ++ b ∷ []) ++ a ∷ [])) ≡ (all_runnable w (map shown (ps ++ b ∷ [])) && (is_runnable w (shown a) && true)) =
-      ap (all_runnable w) (map-append shown (ps ++ b ∷ []) (a ∷ [])) ∙ list_all-append (is_runnable w) (map shown (ps ++ b ∷ [])) (shown a ∷ []) in
+      let after : all_runnable w (map shown ((ps ++ b ∷ []) ++ a ∷ []))
+      ≡ (all_runnable w (map shown (ps ++ b ∷ [])) && (is_runnable w (shown a) && true)) =
+      ap (all_runnable w) (map-append shown (ps ++ b ∷ []) (a ∷ []))
+      ∙ list_all-append (is_runnable w) (map shown (ps ++ b ∷ [])) (shown a ∷ []) in
       let all : rs ≡ (ps ++ b ∷ []) ++ a ∷ [] = er ∙ ap (λ (xs : List A). xs ++ a ∷ []) eq in
       before ∙ ap (λ (x : Bool). all_runnable w (map shown ps) && (x && true)) run
       ∙ turned (all_runnable w (map shown ps)) (is_runnable w (shown a)) (is_runnable w (shown b))
-      ∙ ap (λ (x : Bool). x && (is_runnable w (shown a) && true)) (sym one) ∙ sym after ∙ ap (λ (xs : List A). all_runnable w (map shown xs)) (sym all)
+      ∙ ap (λ (x : Bool). x && (is_runnable w (shown a) && true)) (sym one) ∙ sym after
+      ∙ ap (λ (xs : List A). all_runnable w (map shown xs)) (sym all)
     where
       turned : (x a b : Bool) → (x && ((a && b) && true)) ≡ ((x && (b && true)) && (a && true))
       turned true true true = refl

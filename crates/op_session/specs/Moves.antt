@@ -5,7 +5,7 @@ use Rattle.op_trace.specs.World.{Turn, Shown, Solved}
 use Rattle.op_trace.specs.Ending.{Ending, Stopped, Failed, Spent}
 use Rattle.op_trace.specs.Run.{Run, events_of}
 
--- where the user stands, and the furthest place that was looked at
+-- what goes on from one command to the next: where the user stands, and the furthest place that was looked at
 pub record Stand : Type 0 where
   pub place : ℕ
   pub furthest : ℕ
@@ -33,9 +33,9 @@ next_from run p = if nat_le (p + 1) (event_count run) then At (p + 1) else end_f
 
 -- a move that finds a place goes there; else the place stays, and the end was looked at
 abbrev pub moved : Run → Stand → Found → Stand
-moved run s (At j) = record { place = j; furthest = max s.furthest j }
-moved run s No_event = record { place = s.place; furthest = event_count run + 1 }
-moved run s Past_budget = record { place = s.place; furthest = event_count run + 1 }
+moved run s (At j) = record s { place = j; furthest = max s.furthest j }
+moved run s No_event = record s { furthest = event_count run + 1 }
+moved run s Past_budget = record s { furthest = event_count run + 1 }
 
 -- the most steps that a run has counted at one of its turns, or at its end
 abbrev pub most_at : List Turn → ℕ

@@ -1,5 +1,6 @@
--- A session: the texts of the commands, one after the other, and the answer to each over the run's events.
-use Rattle.std.specs.Prelude.{ℕ, zero, suc, ◌-◌, Bool, false, List, [], ◌∷◌, ◌++◌, length, codes, decimal, Result, Ok, Err, if◌then◌else◌}
+-- A session: a recursion over the bytes of the commands, which answers each command over the run's events.
+use Rattle.std.specs.Prelude.{ℕ, zero, suc, ◌-◌, nat_lt, Bool, true, false, List, [], ◌∷◌, ◌++◌, length, codes, decimal}
+use Rattle.std.specs.Prelude.{Result, Ok, Err, if◌then◌else◌}
 use Rattle.op_base.specs.Characters.{is_layout}
 use Rattle.op_logic.specs.Term.{Term, node, no_args}
 use Rattle.op_term.specs.Ops.{Table, iso_table}
@@ -7,8 +8,8 @@ use Rattle.op_trace.specs.Database.{Text, text_eq}
 use Rattle.op_trace.specs.World.{Event}
 use Rattle.op_trace.specs.Run.{events_of}
 use Rattle.op_token.specs.declared.piece.Piece.{Piece}
-use Rattle.op_token.specs.declared.piece.Piece.TheVariants.{NoEnd}
-use Rattle.op_token.specs.Cut.{cut_of, texts, behind_texts}
+use Rattle.op_token.specs.declared.piece.Piece.TheVariants as piece
+use Rattle.op_token.specs.Cut.{cut_of, text_in, rest_in}
 use Rattle.op_term.specs.declared.quotes.DoubleQuotes.TheVariants.{Codes}
 use Rattle.op_reader.specs.declared.fault.ReadFaultKind.{ReadFaultKind}
 use Rattle.op_store.specs.Load.{Query, Bad, unreadable, not_body, command_of}
@@ -41,17 +42,6 @@ meaning text = meaning_of (command_of iso_table Codes text)
 abbrev pub from_first : List ℕ → List ℕ
 from_first [] = []
 from_first (b ∷ s) = if is_layout b then from_first s else b ∷ s
-
--- a rest that is more than layout and comments is a command too
-abbrev pub last_text : Piece → List ℕ → List (List ℕ)
-last_text NoEnd rest = from_first rest ∷ []
-last_text p rest = []
-
--- the texts of all commands
-abbrev pub commands_in : List ℕ → List (List ℕ)
-commands_in bytes =
-    let rest : List ℕ = behind_texts (length bytes) bytes in
-    texts (length bytes) bytes ++ last_text (cut_of rest) rest
 
 -- the line of an event, where there is one
 abbrev pub line_at : Table → List Event → ℕ → List ℕ
@@ -86,27 +76,79 @@ answer_by traced s (Unreadable place kind) = record { text = unreadable_text pla
 abbrev pub answer_to : Traced → Stand → List ℕ → Answer
 answer_to traced s text = answer_by traced s (meaning text)
 
--- the answers to commands, in order
-abbrev pub answers_from : Traced → Stand → List (List ℕ) → List (List ℕ)
-answers_from traced s [] = []
-answers_from traced s (c ∷ cs) = (answer_to traced s c).text ∷ answers_from traced (answer_to traced s c).stand cs
+-- what was taken of the commands, and whether their end was met behind it
+pub record Taking : Type 0 where
+  pub bytes : List ℕ
+  pub over : Bool
 
-abbrev pub stand_after : Traced → Stand → List (List ℕ) → Stand
-stand_after traced s [] = s
-stand_after traced s (c ∷ cs) = stand_after traced (answer_to traced s c).stand cs
+-- commands that are these bytes and no more
+abbrev pub complete : List ℕ → Taking
+complete bytes = record { bytes = bytes; over = true }
+
+-- commands of which these bytes were taken, and more may come
+abbrev pub so_far : List ℕ → Taking
+so_far bytes = record { bytes = bytes; over = false }
+
+-- whether a command stands first in these n bytes. While more may come, it is a text that has a byte behind its full stop, since where
+-- it ends, or whether it goes on, only that byte can show; where the commands are over, it is any text, or a rest that is more than
+-- layout and comments
+abbrev pub is_due : Bool → Piece → ℕ → Bool
+is_due false (piece.Text from end) n = nat_lt end n
+is_due false piece.NoEnd n = false
+is_due false piece.Empty n = false
+is_due true (piece.Text from end) n = true
+is_due true piece.NoEnd n = true
+is_due true piece.Empty n = false
+
+-- the bytes of that command; of a rest, those from the first one that isn't layout
+abbrev pub command_text : Piece → List ℕ → List ℕ
+command_text (piece.Text from end) bytes = text_in (piece.Text from end) bytes
+command_text piece.NoEnd bytes = from_first bytes
+command_text piece.Empty bytes = []
+
+-- what stands behind it: nothing behind a rest
+abbrev pub behind_command : Piece → List ℕ → List ℕ
+behind_command (piece.Text from end) bytes = rest_in (piece.Text from end) bytes
+behind_command piece.NoEnd bytes = []
+behind_command piece.Empty bytes = []
+
+-- the course of a session: the answers in order, where the user stands behind them, and the bytes that are left unread
+pub record Course : Type 0 where
+  pub answers : List (List ℕ)
+  pub stand : Stand
+  pub left : List ℕ
+
+-- no command stands first: all bytes were read, and nothing more is answered
+abbrev pub no_more : Stand → Course
+no_more s = record { answers = []; stand = s; left = [] }
+
+-- an answer, and what is answered behind it
+abbrev pub answer_first : Answer → Course → Course
+answer_first a c = record { answers = a.text ∷ c.answers; stand = c.stand; left = c.left }
+
+-- a session over these bytes, from where the user stands, with n commands at most: the first is answered, and then those behind it
+abbrev pub session_from : Traced → Bool → ℕ → Stand → List ℕ → Course
+session_from traced over zero s bytes = no_more s
+session_from traced over (suc n) s bytes =
+    let x : Piece = cut_of bytes in
+    let a : Answer = answer_to traced s (command_text x bytes) in
+    if is_due over x (length bytes) then answer_first a (session_from traced over n a.stand (behind_command x bytes)) else no_more s
+
+-- a session from the start: n bytes have at most n commands
+abbrev pub session : Traced → Taking → Course
+session traced t = session_from traced t.over (length t.bytes) at_start t.bytes
 
 abbrev pub joined : List (List ℕ) → List ℕ
 joined [] = []
 joined (x ∷ xs) = x ++ joined xs
 
--- all that is answered to these commands, from the start
-abbrev pub said_to : Traced → List (List ℕ) → List ℕ
-said_to traced commands = joined (answers_from traced at_start commands)
+-- all that is said, one answer behind the other
+abbrev pub said_by : Course → List ℕ
+said_by c = joined c.answers
 
--- the furthest place that these commands look at, from the start
-abbrev pub furthest_of : Traced → List (List ℕ) → ℕ
-furthest_of traced commands = (stand_after traced at_start commands).furthest
+abbrev pub said_in : Traced → Taking → List ℕ
+said_in traced t = said_by (session traced t)
 
--- all that is answered to the commands in these bytes
-abbrev pub session_text : Traced → List ℕ → List ℕ
-session_text traced bytes = said_to traced (commands_in bytes)
+-- the furthest place that is looked at
+abbrev pub furthest_in : Traced → Taking → ℕ
+furthest_in traced t = (session traced t).stand.furthest

@@ -8,7 +8,8 @@ ghost use Rattle.op_store.specs.declared.names.locked.Locked.{Locked};
 ghost use Rattle.op_session.specs.Call.{Session, outcome_of, first_world, traced_of, with_loaded, with_goal};
 ghost use Rattle.op_session.specs.inner.Progress.{Leaves};
 ghost use Rattle.op_session.specs.inner.Refusing.{GoesOn, told_outcome};
-ghost use Rattle.op_session.specs.Promise.{WhenTold, DoneAs, CostsAs, LoadAs, TooLongAs, BrokenAs, WordsRefusedAs, IsBroken, IsRefused, CountsAs, IsFaultless, HasFile};
+ghost use Rattle.op_session.specs.Promise.{WhenTold, DoneAs, CostsAs, LoadAs, TooLongAs, BrokenAs, WordsRefusedAs};
+ghost use Rattle.op_session.specs.Promise.{IsBroken, IsRefused, CountsAs, IsFaultless, HasFile};
 ghost use Rattle.op_session.specs.Sight.{sight};
 
 use crate::runnable::{are_runnable, is_runnable_goal};
@@ -128,7 +129,8 @@ fn load_program<D: Desk>(
     text: &[u8],
     desk: &mut D,
 ) -> Result<(), Status>
-    ensures { (goal : List ℕ) → GoesOn result (Some (with_loaded name.now goal (load_text store.old.locked (database_of store.old) text.now)))
+    ensures { (goal : List ℕ) → GoesOn result
+        (Some (with_loaded name.now goal (load_text store.old.locked (database_of store.old) text.now)))
         (λ _. with_goal (database_of store.new) (goal_of store.new.table store.new.flags.quotes goal))
         (sight D.Desk desk.old) (sight D.Desk desk.new) }
 {

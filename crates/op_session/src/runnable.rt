@@ -6,7 +6,10 @@ ghost use Rattle.op_logic.specs.Names.{HasNames, named};
 ghost use Rattle.op_trace.specs.Database.{indicator_of_term};
 ghost use Rattle.op_store.specs.Stored.{database_of};
 ghost use Rattle.op_store.specs.Queries.{IsSoundGoal};
-ghost use Rattle.op_session.specs.Runnable.{is_control_atom_name as the_control_atom_name, is_goal as the_goal, is_control_pair_name as the_control_pair_name, is_control_pair as the_control_pair, is_runnable, all_runnable, are_runnable as the_runnable};
+ghost use Rattle.op_session.specs.Runnable.{is_runnable, are_runnable as the_runnable};
+ghost use Rattle.op_session.specs.inner.Parts.{is_control_atom_name as the_control_atom_name, is_goal as the_goal};
+ghost use Rattle.op_session.specs.inner.Parts.{is_control_pair_name as the_control_pair_name, is_control_pair as the_control_pair};
+ghost use Rattle.op_session.specs.inner.Parts.{all_runnable};
 
 use op_base::Memory;
 use op_store::{Goal, Pi, Snapshot, Store};
@@ -59,10 +62,12 @@ fn meet<T: Tree>(store: &Store, tree: &T, at: T::At, todo: &mut Vec<T::At>) -> R
     requires place { T.IsPlace tree.now at }
     requires names { HasNames (length store.now.names) (T.term tree.now at) }
     requires todo { All (λ p. T.IsPlace tree.now p × HasNames (length store.now.names) (T.term tree.now p)) todo.old.items }
-    ensures met { IfOk result (λ b. all_runnable (database_of store.now) (map (λ p. named store.now.names (T.term tree.now p)) (todo.old.items ++ at ∷ []))
+    ensures met { IfOk result (λ b.
+        all_runnable (database_of store.now) (map (λ p. named store.now.names (T.term tree.now p)) (todo.old.items ++ at ∷ []))
         ≡ (b && all_runnable (database_of store.now) (map (λ p. named store.now.names (T.term tree.now p)) todo.new.items))) }
     ensures todo { OnOk result (All (λ p. T.IsPlace tree.now p × HasNames (length store.now.names) (T.term tree.now p)) todo.new.items) }
-    ensures less { OnOk result (sum_by (λ p. size (T.term tree.now p)) todo.new.items < sum_by (λ p. size (T.term tree.now p)) (todo.old.items ++ at ∷ [])) }
+    ensures less { OnOk result (sum_by (λ p. size (T.term tree.now p)) todo.new.items
+        < sum_by (λ p. size (T.term tree.now p)) (todo.old.items ++ at ∷ [])) }
 {
     let pair = is_control_pair(store, tree, &at);
     if pair {
@@ -92,7 +97,8 @@ fn is_runnable_term(alloc: Global, store: &Store, term: &Term) -> Result<bool, M
 // Whether the bodies of these clauses can be run.
 fn are_runnable_clauses(alloc: Global, store: &Store, clauses: &Snapshot) -> Result<bool, Memory>
     requires { All (λ (r : NumberedClause). HasNames (length store.now.names) r.body) clauses.now }
-    ensures { IfOk result (λ b. b ≡ list_all (λ (r : NumberedClause). is_runnable (database_of store.now) (named store.now.names r.body)) clauses.now) }
+    ensures { IfOk result (λ b.
+        b ≡ list_all (λ (r : NumberedClause). is_runnable (database_of store.now) (named store.now.names r.body)) clauses.now) }
 {
     'clauses: for i in 0..clauses.len() {
         if !is_runnable_term(alloc, store, &clauses.clause(i).body)? {

@@ -1,7 +1,8 @@
 ghost use Rattle.std.specs.Prelude.{◌≡◌, ◌++◌, ◌<◌, length, IfOk, OnOk};
 ghost use Rattle.op_store.specs.NumberedProcedures.{indicator_named};
 ghost use Rattle.op_store.specs.Queries.{fault_named, IsKnownFault};
-ghost use Rattle.op_session.specs.Words.{kind_word as the_kind, indicator_text as the_indicator, fault_words as the_words, load_line as the_line};
+ghost use Rattle.op_session.specs.Words.{kind_word as the_kind, indicator_text as the_indicator};
+ghost use Rattle.op_session.specs.Words.{fault_words as the_words, load_line as the_line};
 
 use crate::line::add_decimal;
 use op_base::Memory;

@@ -1,15 +1,22 @@
--- The commands in bytes that are still to come, and those that are left at the end.
-use Rattle.std.specs.Prelude.{ℕ, List, [], ◌∷◌, ◌++◌}
-use Rattle.op_token.specs.declared.piece.Piece.{Piece}
-use Rattle.op_token.specs.declared.piece.Piece.TheVariants.{Text, NoEnd, Empty}
-use Rattle.op_token.specs.Cut.{cut_of, text_in, texts, behind_texts}
-use Rattle.op_session.specs.Session.{last_text, from_first}
+-- The course of a session, put together: what was answered, and what comes behind it.
+use Rattle.std.specs.Prelude.{◌≡◌, ℕ, Bool, true, List, [], ◌∷◌, ◌++◌, length}
+use Rattle.op_token.specs.Cut.{cut_of}
+use Rattle.op_session.specs.Traced.{Traced}
+use Rattle.op_session.specs.Session.{Answer, answer_to, is_due, command_text, Course, session_from}
 
-abbrev pub commands_from : ℕ → List ℕ → List (List ℕ)
-commands_from n bytes = texts n bytes ++ last_text (cut_of (behind_texts n bytes)) (behind_texts n bytes)
+-- one course behind another: what is left is what the second leaves
+abbrev pub behind : Course → Course → Course
+behind c d = record { answers = c.answers ++ d.answers; stand = d.stand; left = d.left }
 
--- the command that the last bytes are, if they are one
-abbrev pub rest_texts : Piece → List ℕ → List (List ℕ)
-rest_texts (Text from end) bytes = text_in (Text from end) bytes ∷ []
-rest_texts NoEnd bytes = from_first bytes ∷ []
-rest_texts Empty bytes = []
+-- a session that goes on behind this course, over these bytes
+abbrev pub resumed : Traced → Course → Bool → ℕ → List ℕ → Course
+resumed traced c over n bytes = behind c (session_from traced over n c.stand bytes)
+
+-- a course, and the answer to one command more
+abbrev pub with_answer : Traced → Course → List ℕ → Course
+with_answer traced c text =
+    let a : Answer = answer_to traced c.stand text in record { answers = c.answers ++ a.text ∷ []; stand = a.stand; left = [] }
+
+-- the last bytes are a command, and this is its text
+abbrev pub IsRest : List ℕ → List ℕ → Type 0
+IsRest p text = (is_due true (cut_of p) (length p) ≡ true) × (text ≡ command_text (cut_of p) p)

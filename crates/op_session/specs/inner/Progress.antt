@@ -1,39 +1,42 @@
 -- What holds of a session between two bytes of its commands, and what a call leaves behind.
-use Rattle.std.specs.Prelude.{◌≡◌, ℕ, ◌+◌, ◌≤◌, suc, List, ◌++◌, length, Option, Some, IsTrue, Result, Ok, Err, Bool, true, false}
+use Rattle.std.specs.Prelude.{◌≡◌, ℕ, ◌+◌, ◌≤◌, suc, List, [], ◌++◌, length, Option, Some, IsTrue, Result, Ok, Err, Bool, true, false}
 use Rattle.std.specs.Io.KnownBytes.{Appends, Consumes, IsAtEnd}
 use Rattle.op_desk.specs.declared.chan.Chan.TheVariants.{Commands, Talk}
 use Rattle.op_desk.specs.Frame.{SameBut}
 use Rattle.op_session.specs.Traced.{Traced}
-use Rattle.op_token.specs.Cut.{texts, behind_texts, IsOpen}
+use Rattle.op_token.specs.Cut.{IsOpen}
 use Rattle.op_session.specs.declared.feed.Feed.{Feed}
 use Rattle.op_session.specs.declared.status.Status.{Status}
 use Rattle.op_session.specs.declared.status.Status.TheVariants as status
 use Rattle.op_session.specs.Call.{Outcome, Session}
 use Rattle.op_session.specs.Moves.{at_start, most_steps}
-use Rattle.op_session.specs.Session.{stand_after, said_to}
-use Rattle.op_session.specs.Promise.{WhenTold, DoneAs, CostsAs, LoadAs, TooLongAs, BrokenOff, BrokenAs, CountsAs, IsBroken, IsRefused, IsFaultless, HasFile, followed_texts}
+use Rattle.op_session.specs.Session.{Course, session_from, said_by}
+use Rattle.op_session.specs.Promise.{WhenTold, DoneAs, CostsAs, LoadAs, TooLongAs, BrokenOff, BrokenAs, CountsAs}
+use Rattle.op_session.specs.Promise.{IsBroken, IsRefused, IsFaultless, HasFile}
 use Rattle.op_session.specs.Sight.{Sight}
+use Rattle.op_session.specs.inner.Behind.{resumed}
 use Rattle.op_session.specs.inner.Steps.{Calm, Fault}
 use Rattle.op_session.specs.inner.Feeding.{Feeds, most_of}
 
--- these texts were cut from the bytes that were taken, and p is what is left of them, whatever comes behind
-pub record Cuts (passed : List (List ℕ)) (taken p : List ℕ) : Type 0 where
-  pub texts : (n : ℕ) (r : List ℕ) → texts (length passed + n) (taken ++ r) ≡ passed ++ texts n (p ++ r)
-  pub behind : (n : ℕ) (r : List ℕ) → behind_texts (length passed + n) (taken ++ r) ≡ behind_texts n (p ++ r)
-  pub followed : (n : ℕ) (r : List ℕ) → followed_texts (length passed + n) (taken ++ r) ≡ passed ++ followed_texts n (p ++ r)
-  pub short : length passed + length p ≤ length taken
+-- so many commands in the bytes that were taken were answered, by this course, and p is what is left of the bytes, whatever comes behind
+pub record Cuts (traced : Traced) (c : Course) (taken p : List ℕ) : Type 0 where
+  pub count : ℕ
+  pub goes_on : (over : Bool) (n : ℕ) (r : List ℕ)
+      → session_from traced over (count + n) at_start (taken ++ r) ≡ resumed traced c over n (p ++ r)
+  pub unread : c.left ≡ []
+  pub short : count + length p ≤ length taken
 
--- n bytes were taken, and the texts among them were answered; since the start the desk has come from a to b, and the steps from
+-- n bytes were taken, and the commands among them were answered; since the start the desk has come from a to b, and the steps from
 -- before to after
 pub record Holds (traced : Traced) (a b : Sight) (n before after : ℕ) (p : List ℕ) (feed : Feed) : Type 0 where
   pub taken : List ℕ
-  pub passed : List (List ℕ)
+  pub course : Course
   pub count : length taken ≡ n
-  pub cuts : Cuts passed taken p
+  pub cuts : Cuts traced course taken p
   pub unended : IsOpen p
   pub commands : Consumes (a.left Commands) (b.left Commands) taken
-  pub talk : Appends (a.written Talk) (b.written Talk) (said_to traced passed)
-  pub feeds : Feeds traced (stand_after traced at_start passed) feed
+  pub talk : Appends (a.written Talk) (b.written Talk) (said_by course)
+  pub feeds : Feeds traced course.stand feed
   pub cost : after ≡ before + feed.machine.steps
   pub most : most_of feed.machine ≤ most_steps traced.run
   pub calm : Calm a b
@@ -61,7 +64,7 @@ IsOutcome o x = WhenTold o (λ y. y ≡ x)
 -- a session that was broken off by this status
 pub record BreaksOff (traced : Traced) (s : Status) (a b : Sight) (before after : ℕ) : Type 0 where
   pub fault : Fault s a b
-  pub left : WhenTold (a.left Commands) (λ bytes. BrokenOff traced s bytes (a.written Talk) (b.written Talk) (b.left Commands) before after)
+  pub left : WhenTold (a.left Commands) (λ bytes. BrokenOff traced s bytes a b before after)
 
 -- a byte was taken and answered, or no more is there, or the session was broken off
 abbrev pub Goes : Traced → Sight → ℕ → ℕ → Sight → ℕ → List ℕ → Feed → Result Bool Status → Type 0
