@@ -1,6 +1,7 @@
 ghost use Rattle.std.specs.Prelude.{◌≡◌, true, IfOk};
 ghost use Rattle.op_desk.specs.Frame.{Each};
 ghost use Rattle.op_desk.specs.Memory.{fresh_of};
+ghost use Rattle.op_desk.specs.System.{unused_of};
 
 use op_base::Memory;
 use op_case_lines::{bytes_of, escaped, failing};
@@ -122,7 +123,9 @@ fn use_files(alloc: Global, line: &mut String, desk: &mut FileDesk) -> Result<()
 }
 
 // Attaches two channels to files, and uses them.
-fn use_attached(alloc: Global, line: &mut String, desk: &mut FileDesk) -> Result<(), Memory> {
+fn use_attached(alloc: Global, line: &mut String, desk: &mut FileDesk) -> Result<(), Memory>
+    requires { Each (λ c. unused_of desk.old c ≡ true) }
+{
     let output = desk.attach(Chan::Output, "written");
     let input = desk.attach(Chan::Input, "given");
     line.push_str(word(output)?)?;
