@@ -1,13 +1,8 @@
-//! The cases of the layers that know a program: bodies, loading, goals, commands, procedures, runs and sessions.
+//! The cases of runs: the turns of a goal over a program, how many there are, and the choice points that are kept.
 #![tactic(auto)]
 
-mod bodies;
 mod case;
-mod faults;
-mod names;
 mod runs;
-mod sessions;
-mod stores;
 
 use case::RunCases;
 use op_case_lines::run_cases;

@@ -1,4 +1,4 @@
-ghost use Rattle.std.specs.Prelude.{◌≡◌, ◌<◌, ◌≤◌, length, IfOk, IfSome};
+ghost use Rattle.std.specs.Prelude.{◌≡◌, ◌<◌, ◌≤◌, length, IfOk};
 ghost use Rattle.op_logic.specs.Names.{HasNames};
 ghost use Rattle.op_bind.specs.State.{value_of};
 ghost use Rattle.op_store.specs.Queries.{IsSoundGoal};
@@ -229,35 +229,43 @@ fn goal_run(
     wanted: u64,
     shown: Shown,
 ) -> Result<(), Memory>
-    requires { IsSoundGoal (length store.names) goal.now }
+    requires goal { IsSoundGoal (length store.names) goal.now }
+    requires some { 1 ≤ budget }
+    requires bounded { budget ≤ 1000000000 }
 {
-    if budget < 1 || budget > 1_000_000_000 {
-        return Ok(line.push_str("no budget")?);
-    }
     let machine = Machine::start(alloc, store, goal, budget, wanted)?;
     machine_run(line, machine, shown)
 }
 
-// The goal that a text is, where it is one.
-fn goal_in(store: &mut Store, text: &[u8]) -> Option<Goal>
-    ensures { IfSome result (λ g. IsSoundGoal (length store.new.names) g) }
+// The goal that a text is behind a program, or which of them is none.
+fn goal_behind(store: &mut Store, program: &[u8], goal: &[u8]) -> Result<Goal, &'static str>
+    ensures { IfOk result (λ g. IsSoundGoal (length store.new.names) g) }
 {
-    store.goal(text).ok()
+    if store.load(program).is_err() {
+        return Err("no program");
+    }
+    match store.goal(goal) {
+        Ok(goal) => Ok(goal),
+        Err(_) => Err("no goal"),
+    }
 }
 
-// A run over a program that was loaded.
-fn loaded_run(
+fn store_run(
     alloc: Global,
     line: &mut String,
-    mut store: Store,
+    program: &[u8],
     goal: &[u8],
     budget: u64,
     wanted: u64,
     shown: Shown,
-) -> Result<(), Memory> {
-    match goal_in(&mut store, goal) {
-        Some(goal) => goal_run(alloc, line, store, &goal, budget, wanted, shown),
-        None => Ok(line.push_str("no goal")?),
+) -> Result<(), Memory>
+    requires some { 1 ≤ budget }
+    requires bounded { budget ≤ 1000000000 }
+{
+    let mut store = Store::new(alloc, Locked::Program)?;
+    match goal_behind(&mut store, program, goal) {
+        Ok(goal) => goal_run(alloc, line, store, &goal, budget, wanted, shown),
+        Err(word) => Ok(line.push_str(word)?),
     }
 }
 
@@ -271,9 +279,8 @@ pub fn run(
     wanted: u64,
     shown: Shown,
 ) -> Result<(), Memory> {
-    let mut store = Store::new(alloc, Locked::Program)?;
-    match store.load(program) {
-        Ok(()) => loaded_run(alloc, line, store, goal, budget, wanted, shown),
-        Err(_) => Ok(line.push_str("no program")?),
+    if budget < 1 || budget > 1_000_000_000 {
+        return Ok(line.push_str("no budget")?);
     }
+    store_run(alloc, line, program, goal, budget, wanted, shown)
 }

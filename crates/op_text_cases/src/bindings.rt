@@ -3,6 +3,7 @@ ghost use Rattle.op_bind.specs.Grown.{Grows};
 ghost use Rattle.op_bind.specs.State.{IsGoodMark};
 ghost use Rattle.op_reader.specs.Variables.{HasVariables};
 
+use crate::read_terms::{Shown, of_term};
 use crate::show::shown;
 use crate::table::Table;
 use op_base::Memory;
@@ -124,7 +125,8 @@ pub fn load_read(bindings: &mut Bindings, read: &Read) -> Result<Ref, Memory>
     bindings.load(&read.term, first)
 }
 
-fn unify_read(
+/// Unifies the two sides of an equation that was read, by so many steps.
+pub fn unify_read(
     alloc: Global,
     line: &mut String,
     symbols: &Symbols,
@@ -137,20 +139,6 @@ fn unify_read(
     let at = load_read(&mut bindings, read)?;
     let mut fuel = Fuel::new(steps);
     add_unified(alloc, line, symbols, &mut bindings, &at, &mut fuel)
-}
-
-fn unify_text(
-    alloc: Global,
-    line: &mut String,
-    table: &Table,
-    steps: u64,
-    text: &[u8],
-) -> Result<(), Memory> {
-    let mut symbols = Symbols::new(alloc);
-    match read_term(alloc, &table.ops, table.quotes, &mut symbols, text) {
-        Ok(Reading::Term(read)) => unify_read(alloc, line, &symbols, &read, steps),
-        _ => Ok(line.push_str("no term")?),
-    }
 }
 
 // The bytes that a field stands for, with a full stop behind them.
@@ -168,7 +156,13 @@ pub fn unify(
     steps: u64,
     text: &str,
 ) -> Result<(), Memory> {
-    unify_text(alloc, line, table, steps, &ended(alloc, text)?)
+    of_term(
+        alloc,
+        line,
+        table,
+        Shown::Unified(steps),
+        &ended(alloc, text)?,
+    )
 }
 
 // Makes a compound of two terms. Its value, and the second term's.

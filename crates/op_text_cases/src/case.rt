@@ -1,5 +1,6 @@
+use crate::read_terms::{Shown, of_term};
 use crate::table::Table;
-use crate::{bindings, desks, frames, names, reading, table, terms, tokens, writing};
+use crate::{bindings, desks, frames, names, reading, table, terms, tokens};
 use op_base::Memory;
 use op_case_lines::{Cases, decoded, numbered};
 use std::alloc::Global;
@@ -66,11 +67,11 @@ fn of_text(
         "text" => tokens::token_text(alloc, line, bytes),
         "cut" => tokens::piece(line, bytes),
         "pieces" => tokens::pieces(alloc, line, bytes),
-        "read" => reading::read(alloc, line, table, bytes),
-        "used" => reading::used(alloc, line, table, bytes),
-        "write" => writing::written(alloc, line, table, bytes),
-        "line" => writing::cut_line(alloc, line, table, false, bytes),
-        "operand" => writing::cut_line(alloc, line, table, true, bytes),
+        "read" => reading::read(alloc, line, table, reading::Shown::Whole, bytes),
+        "used" => reading::read(alloc, line, table, reading::Shown::Used, bytes),
+        "write" => of_term(alloc, line, table, Shown::Texts, bytes),
+        "line" => of_term(alloc, line, table, Shown::Line, bytes),
+        "operand" => of_term(alloc, line, table, Shown::Operand, bytes),
         _ => of_number(alloc, line, table, word, text),
     }
 }
@@ -87,8 +88,20 @@ fn of_number(
         return Ok(line.push_str("no case")?);
     };
     match word {
-        "within" => writing::within(alloc, line, table, number, &decoded(alloc, behind)?),
-        "again" => writing::again(alloc, line, table, number, &decoded(alloc, behind)?),
+        "within" => of_term(
+            alloc,
+            line,
+            table,
+            Shown::Within(number),
+            &decoded(alloc, behind)?,
+        ),
+        "again" => of_term(
+            alloc,
+            line,
+            table,
+            Shown::Again(number),
+            &decoded(alloc, behind)?,
+        ),
         "unify" => bindings::unify(alloc, line, table, number, behind),
         "compound" => bindings::compound(alloc, line, table, number, behind),
         "compare" => terms::order(alloc, line, table, number, behind),

@@ -1,6 +1,7 @@
 ghost use Rattle.std.specs.Prelude.{◌≡◌, true, IfOk};
 ghost use Rattle.op_desk.specs.Frame.{Each};
 ghost use Rattle.op_desk.specs.Memory.{fresh_of};
+ghost use Rattle.op_desk.specs.System.{unused_of};
 
 use op_base::Memory;
 use op_case_lines::{bytes_of, escaped, failing};
@@ -121,14 +122,21 @@ fn use_files(alloc: Global, line: &mut String, desk: &mut FileDesk) -> Result<()
     add_count(alloc, line, taken, &piece)
 }
 
-/// A desk over the system's files, whose Output is the file `written` and whose Input is the file `given`.
-pub fn file_desk(rt: HostRuntime, line: &mut String) -> Result<(), Memory> {
-    let mut desk = FileDesk::new(rt, rt.alloc());
+// Attaches two channels to files, and uses them.
+fn use_attached(alloc: Global, line: &mut String, desk: &mut FileDesk) -> Result<(), Memory>
+    requires { Each (λ c. unused_of desk.old c ≡ true) }
+{
     let output = desk.attach(Chan::Output, "written");
     let input = desk.attach(Chan::Input, "given");
     line.push_str(word(output)?)?;
     line.push_str(word(input)?)?;
-    use_files(rt.alloc(), line, &mut desk)?;
+    use_files(alloc, line, desk)
+}
+
+/// A desk over the system's files, whose Output is the file `written` and whose Input is the file `given`.
+pub fn file_desk(rt: HostRuntime, line: &mut String) -> Result<(), Memory> {
+    let mut desk = FileDesk::new(rt, rt.alloc());
+    use_attached(rt.alloc(), line, &mut desk)?;
     let _removed = fs::remove_file(&rt, "written");
     Ok(())
 }

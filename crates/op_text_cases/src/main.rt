@@ -6,6 +6,7 @@ mod case;
 mod desks;
 mod frames;
 mod names;
+mod read_terms;
 mod reading;
 mod show;
 mod table;

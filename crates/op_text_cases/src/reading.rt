@@ -22,10 +22,28 @@ fn add_read(
     symbols: &Symbols,
     read: &Read,
 ) -> Result<(), Memory> {
-    let term = shown(alloc, symbols, &read.term.copy()?)?;
+    line.push_str(shown(alloc, symbols, &read.term.copy()?)?.as_str())?;
     let used = read.used;
-    write!(line, "{term} {used}")?;
+    write!(line, " {used}")?;
     add_names(line, &read.names.copy()?)
+}
+
+// Adds a term, or how many bytes it takes alone.
+fn add_term(
+    alloc: Global,
+    line: &mut String,
+    symbols: &Symbols,
+    read: &Read,
+    shown: Shown,
+) -> Result<(), Memory> {
+    match shown {
+        Shown::Whole => add_read(alloc, line, symbols, read),
+        Shown::Used => {
+            let used = read.used;
+            write!(line, "{used}")?;
+            Ok(())
+        }
+    }
 }
 
 fn add_refused(line: &mut String, place: u64, kind: ReadFaultKind) -> Result<(), Memory> {
@@ -34,26 +52,26 @@ fn add_refused(line: &mut String, place: u64, kind: ReadFaultKind) -> Result<(),
     Ok(())
 }
 
-/// A term with the bytes used and its named variables, or a refusal with its place.
-pub fn read(alloc: Global, line: &mut String, table: &Table, text: &[u8]) -> Result<(), Memory> {
-    let mut symbols = Symbols::new(alloc);
-    match read_term(alloc, &table.ops, table.quotes, &mut symbols, text) {
-        Ok(Reading::Term(read)) => add_read(alloc, line, &symbols, &read),
-        Ok(Reading::End) => Ok(line.push_str("end")?),
-        Err(ReadFault::Bad { place, kind }) => add_refused(line, place, kind),
-        Err(_) => Err(Memory),
-    }
+/// What is shown of a term.
+#[derive(Clone, Copy)]
+pub enum Shown {
+    /// The term, the bytes used and its named variables.
+    Whole,
+    /// How many bytes it takes.
+    Used,
 }
 
-/// How many bytes a term takes, or a refusal with its place.
-pub fn used(alloc: Global, line: &mut String, table: &Table, text: &[u8]) -> Result<(), Memory> {
+/// A term, or a refusal with its place.
+pub fn read(
+    alloc: Global,
+    line: &mut String,
+    table: &Table,
+    shown: Shown,
+    text: &[u8],
+) -> Result<(), Memory> {
     let mut symbols = Symbols::new(alloc);
     match read_term(alloc, &table.ops, table.quotes, &mut symbols, text) {
-        Ok(Reading::Term(read)) => {
-            let used = read.used;
-            write!(line, "{used}")?;
-            Ok(())
-        }
+        Ok(Reading::Term(read)) => add_term(alloc, line, &symbols, &read, shown),
         Ok(Reading::End) => Ok(line.push_str("end")?),
         Err(ReadFault::Bad { place, kind }) => add_refused(line, place, kind),
         Err(_) => Err(Memory),

@@ -67,7 +67,10 @@ fn add_meaning(line: &mut String, meaning: Option<Meaning>) -> Result<(), Memory
 
 /// What a name means before, between and behind operands, in a copy of the table.
 pub fn meanings(line: &mut String, table: &Table, name: &str) -> Result<(), Memory> {
-    let ops = table.ops.copy()?;
+    add_meanings(line, &table.ops.copy()?, name)
+}
+
+fn add_meanings(line: &mut String, ops: &Ops, name: &str) -> Result<(), Memory> {
     add_meaning(line, ops.prefix(name))?;
     line.push_str("|")?;
     add_meaning(line, ops.infix(name))?;

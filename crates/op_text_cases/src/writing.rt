@@ -7,13 +7,13 @@ use op_base::Memory;
 use op_case_lines::escaped;
 use op_desk::Bytes;
 use op_readback::written_and_read;
-use op_reader::{Read, Reading, read_term};
+use op_reader::Read;
 use op_term::{Symbols, Term, Whole};
 use op_writer::{Style, TextFault, write_cut, write_text};
 use std::alloc::Global;
 
-// Adds a term's text in a style, of at most so many bytes.
-fn add_text(
+/// Adds a term's text in a style, of at most so many bytes.
+pub fn add_text(
     alloc: Global,
     line: &mut String,
     table: &Table,
@@ -44,8 +44,8 @@ fn add_text(
     Ok(())
 }
 
-// Adds the plain, the quoted and the canonical text.
-fn add_texts(
+/// Adds the plain, the quoted and the canonical text.
+pub fn add_texts(
     alloc: Global,
     line: &mut String,
     table: &Table,
@@ -61,40 +61,8 @@ fn add_texts(
     add_text(alloc, line, table, Style::Canonical, symbols, term, 100)
 }
 
-/// A term that is read, in each of the three styles.
-pub fn written(alloc: Global, line: &mut String, table: &Table, text: &[u8]) -> Result<(), Memory> {
-    let mut symbols = Symbols::new(alloc);
-    match read_term(alloc, &table.ops, table.quotes, &mut symbols, text) {
-        Ok(Reading::Term(read)) => add_texts(alloc, line, table, &symbols, &read.term),
-        _ => Ok(line.push_str("no term")?),
-    }
-}
-
-/// The quoted text of a term that is read, if it has at most so many bytes.
-pub fn within(
-    alloc: Global,
-    line: &mut String,
-    table: &Table,
-    limit: u64,
-    text: &[u8],
-) -> Result<(), Memory> {
-    let mut symbols = Symbols::new(alloc);
-    match read_term(alloc, &table.ops, table.quotes, &mut symbols, text) {
-        Ok(Reading::Term(read)) => add_text(
-            alloc,
-            line,
-            table,
-            Style::Quoted,
-            &symbols,
-            &read.term,
-            limit,
-        ),
-        _ => Ok(line.push_str("no term")?),
-    }
-}
-
-// Writes a term that was read in the canonical style and reads it again, and adds the canonical text of what was read.
-fn add_again(
+/// Writes a term that was read in the canonical style and reads it again, and adds the canonical text of what was read.
+pub fn add_again(
     alloc: Global,
     line: &mut String,
     table: &Table,
@@ -132,21 +100,6 @@ fn add_again(
     }
 }
 
-/// A term that is read, written within a limit and read again.
-pub fn again(
-    alloc: Global,
-    line: &mut String,
-    table: &Table,
-    limit: u64,
-    text: &[u8],
-) -> Result<(), Memory> {
-    let mut symbols = Symbols::new(alloc);
-    match read_term(alloc, &table.ops, table.quotes, &mut symbols, text) {
-        Ok(Reading::Term(read)) => add_again(alloc, line, table, &mut symbols, &read, limit),
-        _ => Ok(line.push_str("no term")?),
-    }
-}
-
 // Adds a text of at most 100 bytes; of a longer one how many bytes it has, and the last eight characters.
 fn add_short(alloc: Global, line: &mut String, text: &[u8]) -> Result<(), Memory> {
     let shown = escaped(alloc, text)?;
@@ -162,8 +115,8 @@ fn add_short(alloc: Global, line: &mut String, text: &[u8]) -> Result<(), Memory
     Ok(())
 }
 
-// Adds the cut text of a term behind some bytes.
-fn add_cut(
+/// Adds the cut text of a term behind some bytes.
+pub fn add_cut(
     alloc: Global,
     line: &mut String,
     table: &Table,
@@ -187,19 +140,4 @@ fn add_cut(
         &mut out,
     )?;
     add_short(alloc, line, out.as_slice())
-}
-
-/// The cut text of a term that is read, as an operand or not.
-pub fn cut_line(
-    alloc: Global,
-    line: &mut String,
-    table: &Table,
-    operand: bool,
-    text: &[u8],
-) -> Result<(), Memory> {
-    let mut symbols = Symbols::new(alloc);
-    match read_term(alloc, &table.ops, table.quotes, &mut symbols, text) {
-        Ok(Reading::Term(read)) => add_cut(alloc, line, table, &symbols, &read.term, operand),
-        _ => Ok(line.push_str("no term")?),
-    }
 }

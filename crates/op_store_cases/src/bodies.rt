@@ -2,7 +2,7 @@ ghost use Rattle.std.specs.Prelude.{length};
 ghost use Rattle.op_logic.specs.Names.{HasNames};
 
 use op_base::Memory;
-use op_case_lines::name_of;
+use op_case_lines::{decoded, name_of, numbered};
 use op_reader::{DoubleQuotes, Reading, read_term};
 use op_store::{BodyFault, BodyNode, body_of};
 use op_term::{Builder, Fuel, Node, Ops, Symbols, Term, Whole};
@@ -96,7 +96,9 @@ fn read_body(
 }
 
 /// The body of a term that is read with the standard's operators, by so many steps.
-pub fn body(alloc: Global, line: &mut String, steps: u64, text: &[u8]) -> Result<(), Memory> {
+pub fn body(alloc: Global, line: &mut String, text: &str) -> Result<(), Memory> {
+    let (steps, term) = numbered(text).unwrap_or((0, text));
+    let term = decoded(alloc, term)?;
     let ops = Ops::iso(alloc)?;
-    read_body(alloc, line, &ops, steps, text)
+    read_body(alloc, line, &ops, steps, &term)
 }

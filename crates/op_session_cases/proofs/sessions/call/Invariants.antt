@@ -1,4 +1,4 @@
-use Rattle.op_run_cases.proofs.sessions.call.Given as goal
+use Rattle.op_session_cases.proofs.sessions.call.Given as goal
 
 abbrev pub ghosts-call_by : goal.ghosts-call_by
 ghosts-call_by a = record { name = a.blank.name; parts = a.blank.parts }

@@ -68,14 +68,20 @@ fn status_word(status: Status) -> &'static str {
     }
 }
 
+// The desk of a case: which of its calls fails, the program and the commands.
+fn desk_in(alloc: Global, text: &str) -> Result<MemoryDesk, Memory>
+    ensures { IfOk result (λ desk. Each (λ c. fresh_of desk c ≡ true)) }
+{
+    let program = decoded(alloc, field(text, 2))?;
+    let commands = decoded(alloc, field(text, 3))?;
+    desk_of(alloc, &program, &commands, failing(alloc, field(text, 0))?)
+}
+
 /// A call over a desk in memory: the call of the desk that fails, the words, the program `p.pl` and the commands. The status, what was
 /// written to Talk, and what is left of the commands.
 pub fn session(alloc: Global, line: &mut String, text: &str) -> Result<(), Memory> {
-    let failing = failing(alloc, field(text, 0))?;
     let words = words_of(alloc, field(text, 1))?;
-    let program = decoded(alloc, field(text, 2))?;
-    let commands = decoded(alloc, field(text, 3))?;
-    let desk = desk_of(alloc, &program, &commands, failing)?;
+    let desk = desk_in(alloc, text)?;
     called(alloc, line, &words, desk)
 }
 
