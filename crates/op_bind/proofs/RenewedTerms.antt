@@ -8,7 +8,7 @@ use Rattle.std.proofs.lemmas.List.Sums.{prefix_len-le-length}
 use Rattle.std.specs.List.{list_any, position, position_or_len}
 use Rattle.op_logic.specs.Term.{Term, var, int, node, Args, no_args, arg, arity, IsWithin, ArgsWithin}
 use Rattle.op_logic.specs.Laws.{instance_of, instances_of}
-use Rattle.op_logic.proofs.Tests.{if_true, if_false, by_test, by_order}
+use Rattle.op_logic.proofs.BoolCases.{if_true, if_false, by_test, by_order}
 use Rattle.op_term.specs.Variables.{with_number, add_variables, add_args_variables, distinct_variables}
 use Rattle.op_term.specs.Head.{head, sym as name_of}
 use Rattle.op_term.specs.declared.node.Node.{Node}

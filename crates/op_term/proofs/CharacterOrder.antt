@@ -11,7 +11,7 @@ use Rattle.std.proofs.lemmas.Bool.{lt-ltb, le-ltb}
 use Rattle.std.proofs.lemmas.Bool.Decides.{nat_tests}
 use Rattle.std.proofs.lemmas.Cmp.{nat_list_cmp_total, ranked, by_ranked}
 use Rattle.std.proofs.lemmas.Str.{chars_from_encodes, length-encode, len_utf8_bounds}
-use Rattle.op_logic.proofs.Tests.{if_true, if_false, by_order}
+use Rattle.op_logic.proofs.BoolCases.{if_true, if_false, by_order}
 use Rattle.op_term.specs.Order.{name_order}
 
 first-less : (x y : ℕ) (xs ys : List ℕ) → x < y → name_order (x ∷ xs) (y ∷ ys) ≡ Less

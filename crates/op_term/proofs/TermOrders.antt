@@ -11,7 +11,7 @@ use Rattle.std.proofs.lemmas.Bool.{lt-ltb}
 use Rattle.op_logic.specs.Term.{Term, var, int, node, Args, no_args, arg, args_of, nth_arg, arity, rename, rename_args}
 use Rattle.op_logic.specs.Bind.{Pairs, zip_args}
 use Rattle.op_logic.specs.Names.{name_at, named, HasNames, ArgsHaveNames, PairsHaveNames}
-use Rattle.op_logic.proofs.Tests.{if_true, if_false}
+use Rattle.op_logic.proofs.BoolCases.{if_true, if_false}
 use Rattle.op_term.specs.Arguments.{argument_count}
 use Rattle.op_term.specs.Head.{head}
 use Rattle.op_term.specs.Order.{name_order, head_order, standard_order, args_order, pairs_compared, args_compared}
