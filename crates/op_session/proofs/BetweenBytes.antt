@@ -16,7 +16,8 @@ use Rattle.op_session.specs.declared.status.Status.{Status}
 use Rattle.op_session.specs.declared.status.Status.TheVariants as status
 use Rattle.op_session.specs.Call.{channel_limit}
 use Rattle.op_session.specs.Moves.{Stand, at_start, most_steps}
-use Rattle.op_session.specs.Session.{answer_to, Taking, so_far, complete, Course, no_more, session, said_by, said_in}
+use Rattle.op_trace.specs.Outside.{Taking}
+use Rattle.op_session.specs.Session.{answer_to, so_far, complete, Course, no_more, session, said_by, said_in}
 use Rattle.op_session.specs.Promise.{WhenTold, IsPrefix, CostsAtMost, all_but_last, Met, InTaking, InKeeping, InAnswering}
 use Rattle.op_session.specs.Promise.{IsMet, IsCount, IsTaken, Reached, Paid, PaidFor, line_met, BrokenOff, CountsAs}
 use Rattle.op_session.specs.Sight.{Sight}

@@ -4,7 +4,8 @@ use Rattle.std.proofs.Common.{refl, sym, ap, ◌∙◌, subst, arith, append_ass
 use Rattle.std.proofs.lemmas.List.{append-nil, take-append-drop, take_at}
 use Rattle.op_token.specs.Cut.{cut_of, text_in, rest_in, IsOpen, IsFollowed}
 use Rattle.op_session.specs.Traced.{Traced}
-use Rattle.op_session.specs.Session.{answer_to, Taking, so_far, complete, Course, session_from, session, joined, said_by, said_in}
+use Rattle.op_trace.specs.Outside.{Taking}
+use Rattle.op_session.specs.Session.{answer_to, so_far, complete, Course, session_from, session, joined, said_by, said_in}
 use Rattle.op_session.specs.Promise.{all_but_last, IsPrefix, IsBetween}
 use Rattle.op_session.specs.inner.Behind.{with_answer}
 use Rattle.op_session.specs.inner.Progress.{Cuts}

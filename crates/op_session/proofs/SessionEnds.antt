@@ -15,7 +15,8 @@ use Rattle.op_session.specs.declared.status.Status.{Status}
 use Rattle.op_session.specs.declared.status.Status.TheVariants as status
 use Rattle.op_session.specs.Call.{Session, channel_limit}
 use Rattle.op_session.specs.Moves.{Stand, at_start, event_count}
-use Rattle.op_session.specs.Session.{answer_to, from_first, Taking, so_far, complete, is_due, command_text}
+use Rattle.op_trace.specs.Outside.{Taking}
+use Rattle.op_session.specs.Session.{answer_to, from_first, so_far, complete, is_due, command_text}
 use Rattle.op_session.specs.Session.{Course, session, said_by, said_in}
 use Rattle.op_session.specs.Promise.{WhenTold, IsPrefix, too_long_line, InLast, AtLimit, Costs, Finished, PastLimit}
 use Rattle.op_session.specs.Sight.{Sight}

@@ -7,6 +7,7 @@ use Rattle.op_term.specs.Ops.{Table, iso_table}
 use Rattle.op_trace.specs.Database.{Text, text_eq}
 use Rattle.op_trace.specs.World.{Event}
 use Rattle.op_trace.specs.Run.{events_of}
+use Rattle.op_trace.specs.Outside.{Taking}
 use Rattle.op_token.specs.declared.piece.Piece.{Piece}
 use Rattle.op_token.specs.declared.piece.Piece.TheVariants as piece
 use Rattle.op_token.specs.Cut.{cut_of, text_in, rest_in}
@@ -75,11 +76,6 @@ answer_by traced s (Unreadable place kind) = record { text = unreadable_text pla
 
 abbrev pub answer_to : Traced → Stand → List ℕ → Answer
 answer_to traced s text = answer_by traced s (meaning text)
-
--- what was taken of the commands, and whether their end was met behind it
-pub record Taking : Type 0 where
-  pub bytes : List ℕ
-  pub over : Bool
 
 -- commands that are these bytes and no more
 abbrev pub complete : List ℕ → Taking
