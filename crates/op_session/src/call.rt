@@ -1,7 +1,7 @@
 ghost use Rattle.std.specs.Prelude.{◌≡◌, ◌≢◌, List, ℕ, Some, true, map, string_bytes, IsTrue, IfOk, length};
 ghost use Rattle.op_desk.specs.Frame.{Each, SameBut};
 ghost use Rattle.op_desk.specs.declared.chan.Chan.{Chan};
-ghost use Rattle.op_store.specs.Stored.{database_of};
+ghost use Rattle.op_store.specs.Stored.{database_of, new_store};
 ghost use Rattle.op_store.specs.Load.{load_text, goal_of};
 ghost use Rattle.op_store.specs.Queries.{query_named, IsSoundGoal};
 ghost use Rattle.op_store.specs.declared.names.locked.Locked.{Locked};
@@ -99,11 +99,29 @@ fn prepare<D: Desk>(
         (sight D.Desk desk.old) (sight D.Desk desk.new) }
     ensures sound { IfOk result (λ p. IsSoundGoal (length p.0.names) p.1) }
 {
-    let text = read_program(alloc, program, desk)?;
     let mut store = Store::new(alloc, Locked::Program)?;
-    load_program(alloc, &mut store, program, text.as_slice(), desk)?;
-    let goal = read_goal(alloc, &mut store, goal, desk)?;
+    let goal = read_both(alloc, &mut store, program, goal, desk)?;
     Ok((store, goal))
+}
+
+// Reads the program and the goal, which can be run, into a new store. A refusal of one writes its line.
+fn read_both<D: Desk>(
+    alloc: Global,
+    store: &mut Store,
+    program: &str,
+    goal: &str,
+    desk: &mut D,
+) -> Result<Goal, Status>
+    requires { store.old ≡ new_store Locked.Program }
+    ensures goes { GoesOn result (told_outcome (D.shelf desk.old) program.now goal.now)
+        (λ g. Session (traced_of 10000000 (database_of store.new) (query_named store.new.names g)))
+        (sight D.Desk desk.old) (sight D.Desk desk.new) }
+    ensures sound { IfOk result (IsSoundGoal (length store.new.names)) }
+{
+    let text = read_program(alloc, program, desk)?;
+    load_program(alloc, store, program, text.as_slice(), desk)?;
+    let goal = read_goal(alloc, store, goal, desk)?;
+    Ok(goal)
 }
 
 // The text of the program's file. A file that is too long is refused with its line.

@@ -136,18 +136,32 @@ fn from_first(bytes: &[u8]) -> &[u8]
     &[]
 }
 
-// A machine before the first turn of a goal's run, which may take `budget` steps, and a store that reads commands.
-fn begin(alloc: Global, store: Store, goal: Goal, budget: u64) -> Result<(Machine, Store), Memory>
+// A machine before the first turn of a goal's run, which may take `budget` steps.
+fn begin(alloc: Global, store: Store, goal: Goal, budget: u64) -> Result<Machine, Memory>
     requires goal { IsSoundGoal (length store.names) goal }
     requires some { 1 ≤ budget }
     requires limit { budget ≤ 1000000000 }
-    ensures traced { IfOk result (λ p. traced_by p.0 ≡ traced_of budget (database_of store) (query_named store.names goal)) }
-    ensures steps { IfOk result (λ p. p.0.steps ≡ 0) }
-    ensures reads { IfOk result (λ p. IsReader p.1) }
+    ensures traced { IfOk result (λ m. traced_by m ≡ traced_of budget (database_of store) (query_named store.names goal)) }
+    ensures steps { IfOk result (λ m. m.steps ≡ 0) }
 {
-    let commands = Store::new(alloc, Locked::Analysis)?;
-    let machine = Machine::start(alloc, store, &goal, budget, 1)?;
-    Ok((machine, commands))
+    Machine::start(alloc, store, &goal, budget, 1)
+}
+
+// Answers the commands over the events of a machine that has made no step, with a store that reads them.
+fn answer_run<D: Desk, L: Ledger>(
+    alloc: Global,
+    machine: Machine,
+    desk: &mut D,
+    steps: &mut Steps<L>,
+) -> Status
+    requires { machine.steps ≡ 0 }
+    ensures { Leaves (Some (Session (traced_by machine))) result
+        (sight D.Desk desk.old) (sight D.Desk desk.new) steps.old steps.new }
+{
+    match Store::new(alloc, Locked::Analysis) {
+        Ok(commands) => answer_all(alloc, machine, commands, desk, steps),
+        Err(Memory) => Status::Memory,
+    }
 }
 
 /// A session over the run of a goal, which may take `budget` steps.
@@ -166,7 +180,7 @@ pub fn session<D: Desk, L: Ledger>(
         (sight D.Desk desk.old) (sight D.Desk desk.new) steps.old steps.new }
 {
     match begin(alloc, store, goal, budget) {
-        Ok((machine, commands)) => answer_all(alloc, machine, commands, desk, steps),
+        Ok(machine) => answer_run(alloc, machine, desk, steps),
         Err(Memory) => Status::Memory,
     }
 }
