@@ -177,7 +177,7 @@ pub bytes-by-characters : (a b : List ℕ) → IsUtf8 a → IsUtf8 b → name_or
 bytes-by-characters a b u v =
     let cs = u.0 in
     let ds = v.0 in
-    let x : cs ≡ chars a = chars_from_encodes cs a u u.2 in
-    let y : ds ≡ chars b = chars_from_encodes ds b v v.2 in
-    ap (λ t. name_order t b) (sym u.2) ∙ (ap (name_order (encode_utf8_all cs)) (sym v.2) ∙ (characters-order cs ds
+    let x : cs ≡ chars a = chars_from_encodes cs a u u.1.1 in
+    let y : ds ≡ chars b = chars_from_encodes ds b v v.1.1 in
+    ap (λ t. name_order t b) (sym u.1.1) ∙ (ap (name_order (encode_utf8_all cs)) (sym v.1.1) ∙ (characters-order cs ds
     ∙ (ap (λ t. slice_cmp nat_cmp t ds) x ∙ ap (slice_cmp nat_cmp (chars a)) y)))

@@ -17,7 +17,7 @@ pairs-init g c =
     let t = term c.args.a.now in
     let u = term c.args.b.now in
     let names = c.args.symbols.now in
-    let pair = (c.args.a.now, c.args.b.now) in
+    let pair : g.row.T-At.Denot × g.row.T-At.Denot = (c.args.a.now, c.args.b.now) in
     let items : c.push.new.self.items ≡ pair ∷ [] = c.in_ok-push.ensures.items ∙ ap (λ xs. xs ++ pair ∷ []) c.new-todo.ensures.items in
     record {
       comparing = subst (λ (ps : List _). IsComparing names t u c.args.fuel.now c.args.fuel.now (pairs_from term ps [])) (sym items)
