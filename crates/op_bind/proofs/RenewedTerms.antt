@@ -1,7 +1,7 @@
 -- A term with new variables, made from its nodes.
 use Rattle.std.proofs.Common.{◌≡◌, ℕ, zero, suc, ◌+◌, ◌<◌, ◌≤◌, Bool, true, false, ◌||◌, List, [], ◌∷◌, ◌++◌, length, get_or, take, map, fold, sym, ◌∙◌}
 use Rattle.std.proofs.Common.{ap, subst, refl, arith, nat_eq, eqb, append_assoc, length-append, cond}
-use Rattle.std.proofs.Common.{Option, Some, None, not}
+use Rattle.std.proofs.Common.{Option, Some, None, not, Result, Ok, Err, IfOk}
 use Rattle.std.proofs.lemmas.Bool.{eq-eqb, lt-ltb, le-ltb}
 use Rattle.std.proofs.lemmas.List.{map-append, append-nil}
 use Rattle.std.proofs.lemmas.List.Sums.{prefix_len-le-length}
@@ -11,6 +11,7 @@ use Rattle.op_logic.specs.Laws.{instance_of, instances_of}
 use Rattle.op_logic.proofs.BoolCases.{if_true, if_false, by_test, by_order}
 use Rattle.op_term.specs.Variables.{with_number, add_variables, add_args_variables, distinct_variables}
 use Rattle.op_term.specs.Head.{head, sym as name_of}
+use Rattle.op_term.specs.Places.{term_at}
 use Rattle.op_term.specs.declared.node.Node.{Node}
 use Rattle.op_term.specs.declared.node.Node.TheVariants as nodes
 use Rattle.op_bind.specs.Copied.{copied}
@@ -173,8 +174,10 @@ place-below : (v : ℕ) (vs : List ℕ) → list_any (nat_eq v) vs ≡ true → 
 place-below v [] h = absurd cc
 place-below v (w ∷ ws) h =
     by_test (nat_eq v w)
-    (λ e. let z : position_or_len (nat_eq v) (w ∷ ws) ≡ 0 = cc in omega (arith, z))
-    (λ e. let z : position_or_len (nat_eq v) (w ∷ ws) ≡ suc (position_or_len (nat_eq v) ws) = cc in
+    (λ e. let z : position_or_len (nat_eq v) (w ∷ ws) ≡ 0 =
+    ap (λ b. cond (not b) (1 + position_or_len (nat_eq v) ws) 0) e in omega (arith, z))
+    (λ e. let z : position_or_len (nat_eq v) (w ∷ ws) ≡ 1 + position_or_len (nat_eq v) ws =
+    ap (λ b. cond (not b) (1 + position_or_len (nat_eq v) ws) 0) e in
     let t : list_any (nat_eq v) ws ≡ true = ap (λ b. b || list_any (nat_eq v) ws) (sym e) ∙ h in
     omega (arith, z, place-below v ws t))
 
@@ -211,3 +214,15 @@ place-absent v vs h =
 
 pub place-within : (v : ℕ) (vs : List ℕ) → position_or_len (nat_eq v) vs ≤ length vs
 place-within v vs = prefix_len-le-length (λ w. not (nat_eq v w)) vs
+
+pub copy-count : (first count : ℕ) (ns : List Node) (met : List ℕ) (t : Term ℕ) → met ≡ fold with_number [] (variables_back ns)
+    → ns ≡ visit t → count ≡ first + length met → count ≡ first + length (distinct_variables t)
+copy-count first count ns met t e h c = c ∙ ap (λ vs. first + length vs) (met-all ns met t e h)
+
+-- what holds of the nodes of a copy holds of the copy
+pub on-copy : {E : Type 0} (made : List (Term ℕ)) (first : ℕ) (ns renewed : List Node) (met : List ℕ)
+    → met ≡ fold with_number [] (variables_back ns) → renewed ≡ map (renewed_node first met) ns → (r : Result ℕ E)
+    → IfOk r (λ at. (t : Term ℕ) → renewed ≡ visit t → term_at made at ≡ t)
+    → IfOk r (λ at. (t : Term ℕ) → ns ≡ visit t → term_at made at ≡ copied first t)
+on-copy made first ns renewed met e f (Ok at) h = λ t q. h (copied first t) (f ∙ renewed-copy first ns met t e q)
+on-copy made first ns renewed met e f (Err x) h = tt

@@ -19,3 +19,8 @@ add-requires-clause-within c =
     let w = RenewedTerms.copy-within c.args.first c.args.nodes.now met c.requires.met in
     subst (λ (n : ℕ). NodesWithin n c.in_ok-renewed.renewed.items) (sym c.requires.count)
     (subst (λ (ns : List Node). NodesWithin (c.args.first + length met) ns) (sym c.in_ok-renewed.ensures) w)
+
+pub returns-clause-value : goal.returns-clause-value
+returns-clause-value c =
+    RenewedTerms.on-copy c.add.new.self.terms c.args.first c.args.nodes.now c.in_ok-renewed.renewed.items c.args.met.now.keys
+    c.requires.met c.in_ok-renewed.ensures c.add.result c.add.ensures.value
