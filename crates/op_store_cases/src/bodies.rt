@@ -85,12 +85,12 @@ fn read_body(
     alloc: Global,
     line: &mut String,
     ops: &Ops,
-    symbols: &mut Symbols,
     steps: u64,
     text: &[u8],
 ) -> Result<(), Memory> {
-    match read_term(alloc, ops, DoubleQuotes::Codes, symbols, text) {
-        Ok(Reading::Term(read)) => add_body(alloc, line, symbols, &read.term, steps),
+    let mut symbols = Symbols::new(alloc);
+    match read_term(alloc, ops, DoubleQuotes::Codes, &mut symbols, text) {
+        Ok(Reading::Term(read)) => add_body(alloc, line, &symbols, &read.term, steps),
         _ => Ok(line.push_str("no term")?),
     }
 }
@@ -100,6 +100,5 @@ pub fn body(alloc: Global, line: &mut String, text: &str) -> Result<(), Memory> 
     let (steps, term) = numbered(text).unwrap_or((0, text));
     let term = decoded(alloc, term)?;
     let ops = Ops::iso(alloc)?;
-    let mut symbols = Symbols::new(alloc);
-    read_body(alloc, line, &ops, &mut symbols, steps, &term)
+    read_body(alloc, line, &ops, steps, &term)
 }

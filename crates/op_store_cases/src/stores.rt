@@ -3,7 +3,7 @@ ghost use Rattle.std.specs.Prelude.{◌<◌, length, IfOk};
 use crate::faults::{add_flags, add_load_kind};
 use op_base::Memory;
 use op_case_lines::{add_read_kind, decoded, field, kind_of, set_word};
-use op_store::{CommandFault, LoadFault, Pi, Snapshot, Store};
+use op_store::{CommandFault, LoadFault, Locked, Pi, Snapshot, Store};
 use std::alloc::Global;
 
 fn add_fault(line: &mut String, store: &Store, fault: LoadFault) -> Result<(), Memory> {
@@ -17,16 +17,16 @@ fn add_fault(line: &mut String, store: &Store, fault: LoadFault) -> Result<(), M
     Ok(())
 }
 
-/// Loads a text, and adds what came of it.
-pub fn load(line: &mut String, store: &mut Store, text: &[u8]) -> Result<(), Memory> {
+// Loads a text, and adds what came of it.
+fn add_load(line: &mut String, store: &mut Store, text: &[u8]) -> Result<(), Memory> {
     match store.load(text) {
         Ok(()) => Ok(line.push_str("ok")?),
         Err(fault) => add_fault(line, store, fault),
     }
 }
 
-/// Reads a goal, and adds how many variables and named variables it has, or its fault.
-pub fn goal(line: &mut String, store: &mut Store, text: &[u8]) -> Result<(), Memory> {
+// Reads a goal, and adds how many variables and named variables it has, or its fault.
+fn add_goal(line: &mut String, store: &mut Store, text: &[u8]) -> Result<(), Memory> {
     match store.goal(text) {
         Ok(goal) => {
             let count = goal.vars;
@@ -38,8 +38,20 @@ pub fn goal(line: &mut String, store: &mut Store, text: &[u8]) -> Result<(), Mem
     }
 }
 
-/// Reads a command, and adds what came of it.
-pub fn command(line: &mut String, store: &mut Store, text: &[u8]) -> Result<(), Memory> {
+/// What loading a program comes to.
+pub fn load(alloc: Global, line: &mut String, text: &[u8]) -> Result<(), Memory> {
+    let mut store = Store::new(alloc, Locked::Program)?;
+    add_load(line, &mut store, text)
+}
+
+/// What reading a goal comes to.
+pub fn goal(alloc: Global, line: &mut String, text: &[u8]) -> Result<(), Memory> {
+    let mut store = Store::new(alloc, Locked::Program)?;
+    add_goal(line, &mut store, text)
+}
+
+// Reads a command, and adds what came of it.
+fn add_command(line: &mut String, store: &mut Store, text: &[u8]) -> Result<(), Memory> {
     match store.command(text) {
         Ok(_) => Ok(line.push_str("ok")?),
         Err(CommandFault::Memory) => Err(Memory),
@@ -52,29 +64,31 @@ pub fn command(line: &mut String, store: &mut Store, text: &[u8]) -> Result<(), 
     }
 }
 
+/// What reading a command comes to.
+pub fn command(alloc: Global, line: &mut String, text: &[u8]) -> Result<(), Memory> {
+    let mut store = Store::new(alloc, Locked::Analysis)?;
+    add_command(line, &mut store, text)
+}
+
 fn add_after(
     line: &mut String,
     store: &mut Store,
     program: &[u8],
-    query: &[u8],
+    goal: &[u8],
 ) -> Result<(), Memory> {
-    load(line, store, program)?;
+    add_load(line, store, program)?;
     line.push_str("|")?;
-    goal(line, store, query)?;
+    add_goal(line, store, goal)?;
     line.push_str("|")?;
     add_flags(line, store.flags())
 }
 
 /// What loading a program comes to, then what a goal does, and the flags.
-pub fn after(
-    alloc: Global,
-    line: &mut String,
-    store: &mut Store,
-    text: &str,
-) -> Result<(), Memory> {
+pub fn after(alloc: Global, line: &mut String, text: &str) -> Result<(), Memory> {
     let program = decoded(alloc, field(text, 0))?;
-    let query = decoded(alloc, field(text, 1))?;
-    add_after(line, store, &program, &query)
+    let goal = decoded(alloc, field(text, 1))?;
+    let mut store = Store::new(alloc, Locked::Program)?;
+    add_after(line, &mut store, &program, &goal)
 }
 
 // Sets an operator of a store: its priority, its kind and its name.
@@ -93,24 +107,20 @@ fn add_around(
     line: &mut String,
     store: &mut Store,
     operator: &str,
-    query: &[u8],
+    goal: &[u8],
 ) -> Result<(), Memory> {
-    goal(line, store, query)?;
+    add_goal(line, store, goal)?;
     line.push_str("|")?;
     add_set(line, store, operator)?;
     line.push_str("|")?;
-    goal(line, store, query)
+    add_goal(line, store, goal)
 }
 
 /// What a goal comes to before and after an operator is set.
-pub fn set_operator(
-    alloc: Global,
-    line: &mut String,
-    store: &mut Store,
-    text: &str,
-) -> Result<(), Memory> {
-    let query = decoded(alloc, field(text, 1))?;
-    add_around(line, store, field(text, 0), &query)
+pub fn set_operator(alloc: Global, line: &mut String, text: &str) -> Result<(), Memory> {
+    let goal = decoded(alloc, field(text, 1))?;
+    let mut store = Store::new(alloc, Locked::Program)?;
+    add_around(line, &mut store, field(text, 0), &goal)
 }
 
 // The name and the number of arguments of a procedure.
@@ -123,20 +133,16 @@ fn indicator(store: &mut Store, text: &str) -> Result<Pi, Memory>
     Ok(Pi { name, arity })
 }
 
-fn locks(store: &mut Store, text: &str) -> Result<bool, Memory> {
-    let pi = indicator(store, text)?;
+fn locks(alloc: Global, locked: Locked, text: &str) -> Result<bool, Memory> {
+    let mut store = Store::new(alloc, locked)?;
+    let pi = indicator(&mut store, text)?;
     Ok(store.is_locked(pi))
 }
 
 /// Whether a procedure is locked in a program, and whether it is in an analysis.
-pub fn locked(
-    line: &mut String,
-    program: &mut Store,
-    analysis: &mut Store,
-    text: &str,
-) -> Result<(), Memory> {
-    let program = locks(program, text)?;
-    let analysis = locks(analysis, text)?;
+pub fn locked(alloc: Global, line: &mut String, text: &str) -> Result<(), Memory> {
+    let program = locks(alloc, Locked::Program, text)?;
+    let analysis = locks(alloc, Locked::Analysis, text)?;
     write!(line, "{program} {analysis}")?;
     Ok(())
 }
@@ -177,21 +183,17 @@ fn add_loaded(
     program: &[u8],
     procedure: &str,
 ) -> Result<(), Memory> {
-    load(line, store, program)?;
+    add_load(line, store, program)?;
     line.push_str("|")?;
     let pi = indicator(store, procedure)?;
     add_procedure(line, store, pi)
 }
 
 /// What loading a program comes to, and a procedure then.
-pub fn procedure(
-    alloc: Global,
-    line: &mut String,
-    store: &mut Store,
-    text: &str,
-) -> Result<(), Memory> {
+pub fn procedure(alloc: Global, line: &mut String, text: &str) -> Result<(), Memory> {
     let program = decoded(alloc, field(text, 0))?;
-    add_loaded(line, store, &program, field(text, 1))
+    let mut store = Store::new(alloc, Locked::Program)?;
+    add_loaded(line, &mut store, &program, field(text, 1))
 }
 
 // Adds how many clauses a snapshot has, where it is one.
@@ -212,7 +214,7 @@ fn add_further(
 ) -> Result<(), Memory> {
     let pi = indicator(store, procedure)?;
     let before = store.snapshot(pi)?;
-    load(line, store, further)?;
+    add_load(line, store, further)?;
     line.push_str("|")?;
     add_procedure(line, store, pi)?;
     add_length(line, before)
@@ -231,13 +233,9 @@ fn add_both(
 }
 
 /// A procedure before and after a further text is loaded, and how many clauses the snapshot from before has then.
-pub fn snapshots(
-    alloc: Global,
-    line: &mut String,
-    store: &mut Store,
-    text: &str,
-) -> Result<(), Memory> {
+pub fn snapshots(alloc: Global, line: &mut String, text: &str) -> Result<(), Memory> {
     let program = decoded(alloc, field(text, 0))?;
     let further = decoded(alloc, field(text, 1))?;
-    add_both(line, store, &program, &further, field(text, 2))
+    let mut store = Store::new(alloc, Locked::Analysis)?;
+    add_both(line, &mut store, &program, &further, field(text, 2))
 }
