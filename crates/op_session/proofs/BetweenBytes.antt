@@ -22,7 +22,7 @@ use Rattle.op_session.specs.Promise.{WhenTold, IsPrefix, CostsAtMost, all_but_la
 use Rattle.op_session.specs.Promise.{IsMet, IsCount, IsTaken, Reached, Paid, PaidFor, line_met, BrokenOff, CountsAs}
 use Rattle.op_session.specs.Sight.{Sight}
 use Rattle.op_session.specs.inner.Steps.{Quiet, Calm, Fault, TakesByte, TakesNothing}
-use Rattle.op_session.specs.inner.Feeding.{Feeds, most_of}
+use Rattle.op_session.specs.inner.Feeding.{to_show, Feeds, most_of}
 use Rattle.op_session.specs.inner.Giving.{Pays, GivesAll, GivesFront}
 use Rattle.op_session.specs.inner.Behind.{with_answer}
 use Rattle.op_session.specs.inner.Progress.{Cuts, Holds, BreaksOff}
