@@ -1,1 +1,3 @@
-pub mod PendingFunctions
+mod IntegerValues
+mod MetNodes
+mod PendingFunctions

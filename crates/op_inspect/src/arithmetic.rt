@@ -2,10 +2,11 @@ ghost use Rattle.std.specs.Prelude.{◌≡◌, ◌+◌, ◌<◌, ◌≤◌, leng
 ghost use Rattle.op_logic.specs.Names.{named, HasNames};
 ghost use Rattle.op_term.specs.Head.{head};
 ghost use Rattle.op_bind.specs.State.{State, value_of};
+ghost use Rattle.op_inspect.specs.Arithmetic.{answered};
 ghost use Rattle.op_inspect.specs.Told.{evaluated_within, cause_of, HasKnownName};
 ghost use Rattle.op_inspect.specs.inner.Pending.{meaning_at, all_resumed, resumed, IsReady, IsReadyPending, AreReady, Goes, moves_left, moves_of};
 
-use crate::fault::EvalFault;
+use crate::fault::{EvalFault, EvaluationError};
 use crate::function::{binary_of, unary_of};
 use crate::pending::{Next, Pending};
 use crate::value::{binary_value, unary_value};
@@ -80,6 +81,17 @@ fn meet(
     }
 }
 
+// What comes next behind a function's value.
+fn finished(answer: Result<i64, EvaluationError>, pending: &[Pending]) -> Result<Next, EvalFault>
+    ensures { (names : List (List ℕ)) (s : State) → AreReady (length names) s pending.now
+        → Goes names s (all_resumed names s pending.now (answered answer)) 0 result pending.now }
+{
+    match answer {
+        Ok(x) => Ok(Next::Value(x)),
+        Err(error) => Err(error.as_fault()),
+    }
+}
+
 // A function goes on with the value of the argument that it waited for.
 fn resume(function: Pending, x: i64, pending: &mut Vec<Pending>) -> Result<Next, EvalFault>
     ensures goes { (names : List (List ℕ)) (s : State) → IsReadyPending (length names) s function
@@ -88,8 +100,8 @@ fn resume(function: Pending, x: i64, pending: &mut Vec<Pending>) -> Result<Next,
     ensures moves { OnOk result (moves_left pending.new.items < moves_left pending.old.items + moves_of function) }
 {
     match function {
-        Pending::Single(f) => Ok(Next::Value(unary_value(f, x)?)),
-        Pending::Second(f, first) => Ok(Next::Value(binary_value(f, first, x)?)),
+        Pending::Single(f) => finished(unary_value(f, x), pending),
+        Pending::Second(f, first) => finished(binary_value(f, first, x), pending),
         Pending::First(f, second) => {
             pending.push(Pending::Second(f, x))?;
             Ok(Next::Expression(second))

@@ -18,6 +18,19 @@ pub enum EvaluationError {
     Undefined,
 }
 
+impl EvaluationError {
+    /// The fault of an expression whose evaluation meets this error.
+    pub fn as_fault(self) -> EvalFault
+        ensures { result ≡ of_error self }
+    {
+        match self {
+            EvaluationError::Overflow => EvalFault::Overflow,
+            EvaluationError::ZeroDivisor => EvalFault::ZeroDivisor,
+            EvaluationError::Undefined => EvalFault::Undefined,
+        }
+    }
+}
+
 /// Why an expression was not evaluated.
 #[derive(Clone, Copy, Debug, PartialEq, Eq)]
 pub enum EvalFault {
@@ -78,17 +91,5 @@ impl From<Spent> for EvalFault {
 
     fn from(_e: Spent) -> EvalFault {
         EvalFault::Spent
-    }
-}
-
-impl From<EvaluationError> for EvalFault {
-    ghost from_gives = { λ error e. e ≡ of_error error };
-
-    fn from(error: EvaluationError) -> EvalFault {
-        match error {
-            EvaluationError::Overflow => EvalFault::Overflow,
-            EvaluationError::ZeroDivisor => EvalFault::ZeroDivisor,
-            EvaluationError::Undefined => EvalFault::Undefined,
-        }
     }
 }
