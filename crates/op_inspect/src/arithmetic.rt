@@ -54,8 +54,10 @@ fn enter_binary(
     let Some(f) = binary_of(symbols.name_of(name)) else {
         return Err(EvalFault::Evaluable(name, 2));
     };
-    pending.push(Pending::First(f, bindings.part(at, 1)))?;
-    Ok(Next::Expression(bindings.part(at, 0)))
+    let second = bindings.part(at, 1);
+    pending.push(Pending::First(f, second))?;
+    let first = bindings.part(at, 0);
+    Ok(Next::Expression(first))
 }
 
 // A node is met, its step taken.

@@ -153,8 +153,8 @@ fn unify_text(
     }
 }
 
-// The bytes that a field stands for, with a full stop behind them.
-fn ended(alloc: Global, field: &str) -> Result<Vec<u8>, Memory> {
+/// The bytes that a field stands for, with a full stop behind them.
+pub fn ended(alloc: Global, field: &str) -> Result<Vec<u8>, Memory> {
     let mut bytes = decoded(alloc, field)?;
     bytes.extend_from_slice(b" .")?;
     Ok(bytes)

@@ -1,5 +1,5 @@
 use crate::table::Table;
-use crate::{bindings, desks, frames, names, reading, table, tokens, writing};
+use crate::{arithmetic, bindings, desks, frames, names, reading, table, tokens, writing};
 use op_base::Memory;
 use op_case_lines::{Cases, decoded, numbered};
 use std::alloc::Global;
@@ -89,6 +89,7 @@ fn of_number(
     match word {
         "within" => writing::within(alloc, line, table, number, &decoded(alloc, behind)?),
         "again" => writing::again(alloc, line, table, number, &decoded(alloc, behind)?),
+        "value" => arithmetic::value(alloc, line, table, number, behind),
         "unify" => bindings::unify(alloc, line, table, number, behind),
         "compound" => bindings::compound(alloc, line, table, number, behind),
         "choices" => frames::choices(alloc, line, number),
