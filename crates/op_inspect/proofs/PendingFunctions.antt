@@ -204,7 +204,7 @@ pub passed-on : (r : Result ℤ EvalFault) (fault : EvalFault) → IsErr r × Is
 passed-on (Ok x) fault h P told = tt
 passed-on (Err e) fault h P told = subst P (sym h.1) told
 
-pub not-passed-on : (r : Result ℤ EvalFault) (fault spent : EvalFault) → IsErr r × IsErrAnd r (λ e. e ≡ fault) → (fault ≡ spent → ⊥)
-    → r ≡ Err spent → ⊥
-not-passed-on (Ok x) fault spent h other e = let no : ⊥ = cc in no
-not-passed-on (Err f) fault spent h other e = let same : f ≡ spent = cc in other (sym h.1 ∙ same)
+pub not-passed-on : (r : Result ℤ EvalFault) (fault other : EvalFault) → IsErr r × IsErrAnd r (λ e. e ≡ fault) → (fault ≡ other → ⊥)
+    → r ≡ Err other → ⊥
+not-passed-on (Ok x) fault other h differs e = let no : ⊥ = cc in no
+not-passed-on (Err f) fault other h differs e = let same : f ≡ other = cc in differs (sym h.1 ∙ same)

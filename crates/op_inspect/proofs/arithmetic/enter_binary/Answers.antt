@@ -32,17 +32,17 @@ returns-clause-goes c =
     let v = nth_arg (args_of t) 1 in
     let is = two-arguments t c.args.name c.requires.node in
     let has = subst (HasNames (length names)) is c.requires.ready.1 in (
-      (c.part-2.ensures.place, subst (HasNames (length names)) (sym c.part-2.ensures.value) has.1.0),
+      (c.part-first.ensures.place, subst (HasNames (length names)) (sym c.part-first.ensures.value) has.1.0),
       subst (λ (qs : List Pending). AreReady (length names) s qs) (sym c.in_ok-push.ensures.items)
-          (All-push (IsReadyPending (length names) s) ps (First c.in-Some.f c.part.result) c.requires.pending
-          (c.part.ensures.place, subst (HasNames (length names)) (sym c.part.ensures.value) has.1.1.0)),
-      binary-goes names s ps t u v c.args.name.0 c.part.result c.in-Some.f is c.part.ensures.value
+          (All-push (IsReadyPending (length names) s) ps (First c.in-Some.f c.part-second.result) c.requires.pending
+          (c.part-second.ensures.place, subst (HasNames (length names)) (sym c.part-second.ensures.value) has.1.1.0)),
+      binary-goes names s ps t u v c.args.name.0 c.part-second.result c.in-Some.f is c.part-second.ensures.value
           (ap binary_of (sym c.name_of.ensures) ∙ (sym c.binary_of.ensures ∙ c.in-Some.is))
           ∙ ap₂ (λ (qs : List Pending) (w : Term ℕ). add_nodes 1 (all_resumed names s qs (evaluated (named names w))))
-          (sym c.in_ok-push.ensures.items) (sym c.part-2.ensures.value),
+          (sym c.in_ok-push.ensures.items) (sym c.part-first.ensures.value),
     )
 
 pub returns-clause-moves : goal.returns-clause-moves
 returns-clause-moves c =
-    let more = ap moves_left c.in_ok-push.ensures.items ∙ moves-push c.args.pending.now.items (First c.in-Some.f c.part.result) in
+    let more = ap moves_left c.in_ok-push.ensures.items ∙ moves-push c.args.pending.now.items (First c.in-Some.f c.part-second.result) in
     omega (arith, more)
