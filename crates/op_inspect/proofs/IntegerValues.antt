@@ -1,7 +1,7 @@
 -- What the operations of the code give, as integers without a bound.
-use Rattle.std.proofs.Common.{◌≡◌, ◌≢◌, ℕ, zero, suc, ◌+◌, ◌*◌, ◌^◌, ◌/◌, ◌%◌, ◌<◌, ◌≤◌, true, sym, ◌∙◌, ap, subst, refl, arith}
+use Rattle.std.proofs.Common.{◌≡◌, ℕ, zero, suc, ◌+◌, ◌*◌, ◌^◌, ◌/◌, ◌%◌, ◌<◌, ◌≤◌, true, sym, ◌∙◌, ap, refl, arith}
 use Rattle.std.proofs.Math.Nat.{div-add-mod, mod-lt, mul-zero, zero-mul, mul_comm}
-use Rattle.std.proofs.Math.Pow.{pow-lt, pow_mono}
+use Rattle.std.proofs.Math.Pow.{pow_mono}
 use Rattle.std.proofs.lemmas.Int.{ints, quot-rem, to_z-of_z, to_z_pos, fits_signed_mul}
 use Rattle.std.specs.Prelude.{ℤ, pos, negsuc, neg_ℤ, ◌+ℤ◌, ◌-ℤ◌, ◌*ℤ◌, int_div, int_rem, int_le, unsigned_abs, Option, Some, None, SomeIff, FitsSigned}
 use Rattle.std.specs.Int.{w64, w128, cast_signed, cast_unsigned}

@@ -1,13 +1,13 @@
 -- What a node is evaluated to, by what it is.
 use Rattle.std.proofs.Math.Path.{ap₂}
-use Rattle.std.proofs.Common.{◌≡◌, ℕ, zero, suc, ◌+◌, ◌<◌, List, ap, sym, ◌∙◌, subst, refl, arith}
+use Rattle.std.proofs.Common.{◌≡◌, ℕ, suc, ◌<◌, List, ap, sym, subst, refl, arith}
 use Rattle.std.specs.Prelude.{ℤ, Ok, Err}
-use Rattle.op_logic.specs.Term.{Term, var, int, node, Args, no_args, arg, args_of, nth_arg, arity, rename_args}
-use Rattle.op_logic.specs.Names.{name_at, named, HasNames, ArgsHaveNames}
+use Rattle.op_logic.specs.Term.{Term, var, int, node, Args, no_args, arg, arity, rename_args}
+use Rattle.op_logic.specs.Names.{name_at, named, HasNames}
 use Rattle.op_term.specs.Head.{head, sym as sym_of}
 use Rattle.op_term.specs.declared.node.Node.TheVariants.{Struct, Atom, Var, Int}
 use Rattle.op_term.specs.declared.symbols.Sym.{Sym}
-use Rattle.op_inspect.specs.Arithmetic.{Evaluated, instantiation, evaluable, evaluated}
+use Rattle.op_inspect.specs.Arithmetic.{instantiation, evaluable, evaluated}
 use Rattle.op_inspect.specs.Told.{of_error}
 use Rattle.op_inspect.specs.declared.fault.EvaluationError.{EvaluationError}
 use Rattle.op_inspect.specs.declared.fault.EvaluationError.TheVariants as errors

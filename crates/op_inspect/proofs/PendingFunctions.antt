@@ -1,16 +1,16 @@
 -- What pending functions owe, as functions are added to them and go on.
-use Rattle.std.proofs.Common.{◌≡◌, ℕ, zero, suc, ◌+◌, ◌≤◌, ◌<◌, List, [], ◌∷◌, ◌++◌, sym, ◌∙◌, ap, subst, refl, arith}
-use Rattle.std.proofs.lemmas.List.Elements.{All-push, All-pop}
+use Rattle.std.proofs.Common.{◌≡◌, ℕ, suc, ◌+◌, ◌≤◌, ◌<◌, List, [], ◌∷◌, ◌++◌, sym, ◌∙◌, ap, subst, refl, arith}
+use Rattle.std.proofs.lemmas.List.Elements.{All-push}
 use Rattle.std.proofs.Math.Path.{ap₂}
 use Rattle.std.specs.Prelude.{length, ◌-◌, nat_le, Bool, true, false, if◌then◌else◌, ℤ, Option, Some, None, Result, Ok, Err, IfSome, IfErr, IsErr, IsErrAnd}
 use Rattle.op_logic.specs.Bind.{within}
 use Rattle.op_inspect.specs.declared.fault.EvalFault.{EvalFault}
 use Rattle.op_inspect.specs.declared.pending.Next.{Next}
 use Rattle.op_inspect.specs.declared.pending.Next.TheVariants.{Expression, Value}
-use Rattle.op_logic.specs.Term.{Term, var, int, node, Args, no_args, arg, args_of, nth_arg, arity}
-use Rattle.op_logic.specs.Names.{name_at, named, HasNames, ArgsHaveNames}
+use Rattle.op_logic.specs.Term.{Term, var, int, node, no_args, arg, args_of, nth_arg, arity}
+use Rattle.op_logic.specs.Names.{name_at, named}
 use Rattle.op_term.specs.Head.{head, sym as sym_of}
-use Rattle.op_term.specs.declared.node.Node.TheVariants.{Struct, Atom, Var, Int}
+use Rattle.op_term.specs.declared.node.Node.TheVariants.{Struct}
 use Rattle.op_term.specs.declared.symbols.Sym.{Sym}
 use Rattle.op_bind.specs.State.{State, value_of}
 use Rattle.op_inspect.specs.Arithmetic.{Cause, evaluable, Evaluated, add_nodes, and_then, answered, if_function, evaluated, unary_of, binary_of}

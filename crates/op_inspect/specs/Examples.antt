@@ -1,5 +1,5 @@
 -- Small expressions, each function, and each error at its border.
-use Rattle.std.specs.Prelude.{◌≡◌, ℕ, ◌-◌, ◌^◌, List, ℤ, pos, negsuc, codes, Ok, Err, Some, None, refl}
+use Rattle.std.specs.Prelude.{◌≡◌, ℕ, ◌-◌, List, ℤ, pos, negsuc, codes, Ok, Err, Some, None, refl}
 use Rattle.op_logic.specs.Term.{Term, var, int, node, no_args, arg, atom}
 use Rattle.op_inspect.specs.Arithmetic.{Evaluated, instantiation, evaluable, evaluation, evaluated}
 use Rattle.op_inspect.specs.Told.{evaluated_within}

@@ -1,4 +1,4 @@
-use Rattle.std.proofs.Common.{◌≡◌, ◌<◌, ◌+◌, ◌-◌, ◌*◌, ℕ, List, length, sym, ap, ◌∙◌, subst, refl, rules, arith}
+use Rattle.std.proofs.Common.{◌≡◌, ◌<◌, ◌+◌, ◌-◌, ◌*◌, length, sym, ap, ◌∙◌, refl, rules, arith}
 use Rattle.std.proofs.lemmas.List.Elements.{All-pop}
 use Rattle.std.proofs.lemmas.Int.{to_z-of_z}
 use Rattle.std.specs.Prelude.{ℤ, Some, Err, IfSome, FitsSigned}
@@ -7,8 +7,7 @@ use Rattle.op_logic.specs.Names.{named}
 use Rattle.op_bind.specs.State.{value_of}
 use Rattle.op_inspect.specs.Arithmetic.{add_nodes}
 use Rattle.op_inspect.specs.Told.{evaluated_within, cause_of, HasKnownName}
-use Rattle.op_inspect.specs.inner.Pending.{meaning_at, resumed, all_resumed, next_meaning, IsReadyPending, AreReady, moves_left}
-use Rattle.op_inspect.specs.declared.fault.EvalFault.{EvalFault}
+use Rattle.op_inspect.specs.inner.Pending.{meaning_at, resumed, all_resumed, IsReadyPending, moves_left}
 use Rattle.op_inspect.specs.declared.fault.EvalFault.TheVariants.{Spent}
 use Rattle.op_inspect.proofs.PendingFunctions.{add-none, value-goes, ends-within, spent-within, moves-popped, passed-on, not-passed-on}
 use Rattle.op_inspect.proofs.arithmetic.evaluate.Goals as goal

@@ -1,5 +1,4 @@
-use Rattle.std.proofs.Common.{◌≡◌, ◌+◌, ◌-◌, ◌*◌, ◌≤◌, ℕ, length}
-use Rattle.op_bind.specs.State.{value_of}
+use Rattle.std.proofs.Common.{◌≡◌, ◌+◌, ◌-◌, ◌*◌, ◌≤◌, length}
 use Rattle.op_inspect.specs.Arithmetic.{add_nodes}
 use Rattle.op_inspect.specs.inner.Pending.{meaning_at, all_resumed, next_meaning, IsReadyNext, AreReady, moves_left}
 use Rattle.op_inspect.proofs.arithmetic.evaluate.Given as goal

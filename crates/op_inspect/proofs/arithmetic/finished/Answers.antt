@@ -1,5 +1,4 @@
-use Rattle.std.proofs.Common.{◌≡◌, ℕ, sym, ap, ◌∙◌, subst}
-use Rattle.std.specs.Prelude.{ℤ, Result, Err}
+use Rattle.std.proofs.Common.{sym, subst}
 use Rattle.op_inspect.specs.Arithmetic.{Answer, answered}
 use Rattle.op_inspect.specs.inner.Pending.{all_resumed, Ends}
 use Rattle.op_inspect.specs.declared.fault.EvalFault.{EvalFault}

@@ -1,4 +1,4 @@
-use Rattle.std.proofs.Common.{◌∙◌, ◌≡◌, true, sym, ap, subst}
+use Rattle.std.proofs.Common.{◌∙◌, ◌≡◌, true, ap, subst}
 use Rattle.std.proofs.lemmas.Int.{to_z-of_z}
 use Rattle.std.specs.Prelude.{ℤ, pos, int_le, unsigned_abs}
 use Rattle.std.specs.Int.{w64}

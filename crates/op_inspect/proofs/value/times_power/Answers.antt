@@ -1,8 +1,8 @@
-use Rattle.std.proofs.Common.{◌≡◌, ◌∙◌, ◌^◌, sym, ap, subst}
+use Rattle.std.proofs.Common.{◌∙◌, ◌^◌, sym, ap, subst}
 use Rattle.std.proofs.Math.Path.{ap₂}
 use Rattle.std.proofs.lemmas.Int.{to_z-of_z}
 use Rattle.std.specs.Prelude.{ℤ, pos, ◌*ℤ◌, FitsSigned}
-use Rattle.std.specs.Int.{w64, w128, cast_signed, cast_unsigned}
+use Rattle.std.specs.Int.{w128, cast_signed, cast_unsigned}
 use Rattle.op_inspect.specs.Arithmetic.{within as the_within}
 use Rattle.op_inspect.proofs.IntegerValues.{widened, power-widened, shift-fits}
 use Rattle.op_inspect.proofs.value.times_power.Goals as goal
