@@ -141,7 +141,7 @@ pub fn unify_read(
     add_unified(alloc, line, symbols, &mut bindings, &at, &mut fuel)
 }
 
-// The bytes that a field stands for, with a full stop behind them.
+/// The bytes that a field stands for, with a full stop behind them.
 pub fn ended(alloc: Global, field: &str) -> Result<Vec<u8>, Memory> {
     let mut bytes = decoded(alloc, field)?;
     bytes.extend_from_slice(b" .")?;

@@ -1,6 +1,6 @@
 use crate::read_terms::{Shown, of_term};
 use crate::table::Table;
-use crate::{bindings, desks, frames, names, reading, table, terms, tokens};
+use crate::{arithmetic, bindings, desks, frames, names, reading, table, terms, tokens};
 use op_base::Memory;
 use op_case_lines::{Cases, decoded, numbered};
 use std::alloc::Global;
@@ -102,6 +102,7 @@ fn of_number(
             Shown::Again(number),
             &decoded(alloc, behind)?,
         ),
+        "value" => arithmetic::value(alloc, line, table, number, behind),
         "unify" => bindings::unify(alloc, line, table, number, behind),
         "compound" => bindings::compound(alloc, line, table, number, behind),
         "compare" => terms::order(alloc, line, table, number, behind),

@@ -1,6 +1,7 @@
-//! The cases of the layers that know no program: tokens, names, terms read and written, operators, bindings, boxes and desks.
+//! The cases of the layers that know no program: tokens, names, terms read and written, operators, bindings, arithmetic, boxes and desks.
 #![tactic(auto)]
 
+mod arithmetic;
 mod bindings;
 mod case;
 mod desks;

@@ -1,0 +1,3 @@
+mod IntegerValues
+mod MetNodes
+mod PendingFunctions
