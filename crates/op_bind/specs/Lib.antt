@@ -1,4 +1,5 @@
 pub mod Copied
+pub mod Examples
 pub mod Grown
 pub mod State
 pub mod Unified

@@ -4,7 +4,8 @@ ghost use Rattle.op_term.specs.Head.{head};
 ghost use Rattle.op_bind.specs.State.{State, value_of};
 ghost use Rattle.op_inspect.specs.Arithmetic.{answered};
 ghost use Rattle.op_inspect.specs.Told.{evaluated_within, cause_of, HasKnownName};
-ghost use Rattle.op_inspect.specs.inner.Pending.{meaning_at, all_resumed, resumed, IsReady, IsReadyPending, AreReady, Goes, moves_left, moves_of};
+ghost use Rattle.op_inspect.specs.inner.Pending.{meaning_at, all_resumed, resumed, IsReady, IsReadyPending, AreReady, Goes};
+ghost use Rattle.op_inspect.specs.inner.Pending.{moves_left, moves_of};
 
 use crate::fault::{EvalFault, EvaluationError};
 use crate::function::{binary_of, unary_of};

@@ -1,4 +1,4 @@
--- What each act of a table keeps, whatever acts join the table.
+-- What a table of acts is to keep, whatever acts join it.
 use Rattle.std.specs.Prelude.{◌≡◌, ℕ, ◌≤◌, ◌++◌}
 use Rattle.op_logic.specs.Term.{Term}
 use Rattle.op_logic.specs.Bind.{Bindings}
@@ -11,7 +11,7 @@ pub record Extends (old new : Bindings Text) : Type 0 where
   pub newer : Bindings Text
   pub is : new ≡ newer ++ old
 
--- a solution binds further variables, and unbinds none
+-- a solution adds bindings, and drops none
 abbrev pub OnlyBinds : Bindings Text → Yield → Type 0
 OnlyBinds σ Fails = Unit {0}
 OnlyBinds σ (Gives τ) = Extends σ τ

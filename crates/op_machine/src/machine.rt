@@ -86,7 +86,7 @@ impl Machine {
 
     /// The next turn, or the ending, again each time. The ledger rises by the run's steps, but not by those of a call that
     /// answers a fault. After `Memory` the machine has ended, and answers so from then on; its steps and the number of
-    /// turns answered are those before the call. A machine that has ended by a fault asks nothing of the host. Of the program a run
+    /// turns answered are those before the call. A machine that has ended by a fault takes nothing and writes nothing. Of the program a run
     /// changes its names alone, and these only grow.
     pub fn next<H: Host, L: Ledger>(
         &mut self,

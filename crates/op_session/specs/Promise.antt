@@ -122,7 +122,7 @@ Reached InLast part taken come = IsBetween (part (so_far taken)) come (part (com
 Reached AtLimit part taken come = come ≡ part (so_far taken)
 
 -- the steps where a command was being answered, the last of these: no more than theirs, where its answer could not be written; where it
--- lacked memory, no more than the run has at any turn
+-- lacked memory, no more than the run has at any turn or at its end
 abbrev pub PaidFor : Status → Traced → Taking → ℕ → ℕ → Type 0
 PaidFor s traced t before after = (s ≡ status.Write → CostsAtMost traced t before after) × (after ≤ before + most_steps traced.run)
 

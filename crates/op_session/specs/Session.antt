@@ -114,7 +114,7 @@ pub record Course : Type 0 where
   pub stand : Stand
   pub left : List ℕ
 
--- no command stands first: all bytes were read, and nothing more is answered
+-- no command stands first: nothing more is answered, and where the commands are over all their bytes were read
 abbrev pub no_more : Stand → Course
 no_more s = record { answers = []; stand = s; left = [] }
 

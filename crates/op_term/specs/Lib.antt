@@ -1,4 +1,5 @@
 pub mod Arguments
+pub mod Examples
 pub mod Head
 pub mod Integers
 pub mod Ops

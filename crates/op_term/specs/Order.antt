@@ -8,7 +8,7 @@ use Rattle.std.specs.Ordering.{is_eq, ordering_then, nat_cmp, int_cmp}
 use Rattle.std.specs.Cmp.Lexicographic.{slice_cmp}
 use Rattle.op_logic.specs.Term.{Term, var, int, node, Args, no_args, arg, args_of, arity}
 
--- two names, by their first bytes that differ
+-- two names, by their first bytes that differ; where one begins the other, the shorter is less
 abbrev pub name_order : List ℕ → List ℕ → Ordering
 name_order f g = slice_cmp nat_cmp f g
 

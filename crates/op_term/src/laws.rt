@@ -8,7 +8,8 @@ ghost use Rattle.std.specs.Cmp.Lexicographic.{slice_cmp};
 ghost use Rattle.op_logic.specs.Term.{Term};
 ghost use Rattle.op_term.specs.Order.{name_order, standard_order};
 
-/// The standard order is total: two terms the other way round compare the other way round, and it is transitive.
+/// The standard order is total: two terms the other way round compare the other way round, and it is transitive. Equal terms alone
+/// compare equal (`equal_is_same`).
 pub fn order_is_total()
     ensures { IsTotalOrder standard_order }
 {}

@@ -1,6 +1,7 @@
 -- The body that a term stands for under bindings (ISO/IEC 13211-1, 7.6.2): its control constructs and their parts, each followed to an
--- unbound variable or another node, where a variable X is call(X). Nothing below a part is touched. A conversion costs a step for each
--- control construct and for each other part, from the left, up to and with the first part that is a number, which is refused.
+-- unbound variable, a number or a name with its arguments, where a variable X is call(X). Nothing below a part is touched. A conversion
+-- costs a step for each control construct and for each other part, from the left, up to and with the first part that is a number, which
+-- is refused.
 use Rattle.std.specs.Prelude.{ℕ, suc, ◌+◌, Bool, ◌||◌, List, [], ◌∷◌, Option, Some, None, option_map, if◌then◌else◌, bytes_eq, codes}
 use Rattle.op_logic.specs.Term.{Term, var, int, node, Args, no_args, arg, args_of}
 use Rattle.op_logic.specs.Bind.{Bindings, apply, follow}

@@ -39,6 +39,7 @@ then_by false t u = record { bytes = t.bytes ++ u.bytes; over = u.over }
 abbrev pub and_then : Taking → Taking → Taking
 and_then t u = then_by t.over t u
 
--- a world with what lies outside, where these bytes were written
+-- a world with what lies outside: what is still to be got stands behind the bytes that it has got and not read, its trace part is that
+-- of the analysis, and these bytes are all that was written
 abbrev pub at : Outside → List ℕ → World → World
 at h o w = record w { input = w.input ++ h.left; output = o; trace = h.trace }

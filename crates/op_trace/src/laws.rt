@@ -22,8 +22,8 @@ pub fn visit_cuts()
     ensures { (s : Setup) (I : List Item) (σ : Bindings Text) (w : World) (m : Barrier) → (visit s I σ w).verdict ≡ CutTo m → Has m I }
 {}
 
-/// The body of a term under bindings, with the bindings applied to its parts, is the body of the term with the bindings applied, and
-/// takes as many steps: following changes no body.
+/// The body of a term under bindings without cycles, with the bindings applied to its parts, is the body of the term with the bindings
+/// applied, and takes as many steps: following changes no body.
 pub fn followed_bodies()
     ensures { (σ : Bindings Text) (t : Term Text) → Acyclic σ → divided [] (apply σ t) ≡ division_under σ (divided σ t) }
 {}
