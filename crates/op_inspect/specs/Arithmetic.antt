@@ -87,7 +87,7 @@ unary_value Magnitude x = within (pos (unsigned_abs x))
 unary_value Sign x = Ok (int_signum x)
 unary_value Complement x = Ok (int_bit_not w64 x)
 
--- `//` cuts toward zero and `div` rounds down; `rem` and `mod` are what is left behind them, so that `mod` has the divisor's sign;
+-- `//` cuts toward zero and `div` rounds down; `rem` and `mod` are what is left behind them, so that `mod` is 0 or has the divisor's sign;
 -- `/\` and `\/` go by the 64 bits of two's complement; a shift multiplies, or divides and rounds down
 abbrev pub binary_value : Binary → ℤ → ℤ → Answer
 binary_value Sum x y = within (x +ℤ y)

@@ -1,4 +1,4 @@
-//! Division of 64 bits (ISO/IEC 13211-1, 9.1.3 and 9.1.4). No divisor is 0 here.
+//! Division of 64 bits (ISO/IEC 13211-1, 9.1.3). No divisor is 0 here.
 
 ghost use Rattle.std.specs.Prelude.{◌≡◌, ◌<◌, ◌≤◌, ◌^◌, ◌≢◌, neg_ℤ, ◌-ℤ◌, ◌*ℤ◌, pos, negsuc, Ok, SomeIff, FitsSigned, ℤ};
 ghost use Rattle.std.specs.Int.{w64};
@@ -63,7 +63,7 @@ fn modulus_by_negative(x: i64, d: u64) -> i64
     -(r as i64)
 }
 
-/// What is left behind the quotient that is rounded down. It has the divisor's sign.
+/// What is left behind the quotient that is rounded down. It is 0 or has the divisor's sign.
 pub fn modulus(x: i64, y: i64) -> i64
     requires { y ≢ pos 0 }
     ensures { result ≡ x -ℤ the_floor x y *ℤ y }
