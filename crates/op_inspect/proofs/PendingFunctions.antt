@@ -2,7 +2,8 @@
 use Rattle.std.proofs.Common.{◌≡◌, ℕ, suc, ◌+◌, ◌≤◌, ◌<◌, List, [], ◌∷◌, ◌++◌, sym, ◌∙◌, ap, subst, refl, arith}
 use Rattle.std.proofs.lemmas.List.Elements.{All-push}
 use Rattle.std.proofs.Math.Path.{ap₂}
-use Rattle.std.specs.Prelude.{length, ◌-◌, nat_le, Bool, true, false, if◌then◌else◌, ℤ, Option, Some, None, Result, Ok, Err, IfSome, IfErr, IsErr, IsErrAnd}
+use Rattle.std.specs.Prelude.{length, ◌-◌, nat_le, Bool, true, false, if◌then◌else◌, ℤ, Option, Some, None, Result, Ok, Err, IfSome}
+use Rattle.std.specs.Prelude.{IfErr, IsErr, IsErrAnd}
 use Rattle.op_logic.specs.Bind.{within}
 use Rattle.op_inspect.specs.declared.fault.EvalFault.{EvalFault}
 use Rattle.op_inspect.specs.declared.pending.Next.{Next}
@@ -13,13 +14,15 @@ use Rattle.op_term.specs.Head.{head, sym as sym_of}
 use Rattle.op_term.specs.declared.node.Node.TheVariants.{Struct}
 use Rattle.op_term.specs.declared.symbols.Sym.{Sym}
 use Rattle.op_bind.specs.State.{State, value_of}
-use Rattle.op_inspect.specs.Arithmetic.{Cause, evaluable, Evaluated, add_nodes, and_then, answered, if_function, evaluated, unary_of, binary_of}
+use Rattle.op_inspect.specs.Arithmetic.{Cause, evaluable, Evaluated, add_nodes, and_then, answered, if_function, evaluated, unary_of}
+use Rattle.op_inspect.specs.Arithmetic.{binary_of}
 use Rattle.op_inspect.specs.Arithmetic.{unary_value, binary_value}
 use Rattle.op_inspect.specs.declared.pending.Pending.{Pending}
 use Rattle.op_inspect.specs.declared.pending.Pending.TheVariants.{Single, First, Second}
 use Rattle.op_inspect.specs.declared.function.Unary.{Unary}
 use Rattle.op_inspect.specs.declared.function.Binary.{Binary}
-use Rattle.op_inspect.specs.inner.Pending.{meaning_at, next_meaning, resumed, all_resumed, moves_of, moves_left, IsReady, IsReadyPending, AreReady, Ends}
+use Rattle.op_inspect.specs.inner.Pending.{meaning_at, next_meaning, resumed, all_resumed, moves_of, moves_left, IsReady, IsReadyPending}
+use Rattle.op_inspect.specs.inner.Pending.{AreReady, Ends}
 use Rattle.op_inspect.specs.Told.{of_error}
 use Rattle.op_inspect.specs.declared.fault.EvaluationError.{EvaluationError}
 use Rattle.op_inspect.specs.declared.fault.EvaluationError.TheVariants as errors

@@ -106,7 +106,8 @@ unfolding owed
 paid-equation true s n w h m K e = e
 paid-equation false s n w h m K e = resume-Spent s K _
 
-pub matched-equation : (s : Setup) (c : Clause) (k : ℕ) (g : Term Text) (J : List Item) (w : World) (o : Option (Result Text)) (K : List Choice)
+pub matched-equation : (s : Setup) (c : Clause) (k : ℕ) (g : Term Text) (J : List Item) (w : World) (o : Option (Result Text))
+    (K : List Choice)
     → and_then (matched (visit s) s c k g J w o) (resume s K) ≡ comes s (head_unified s c k g J K w o)
 unfolding owed
 matched-equation s c k g J w None K = resume-Spent s K _
@@ -140,7 +141,8 @@ unfolding resume
 resume-with_more s [] k g σ J K r w = refl
 resume-with_more s (c ∷ cs) k g σ J K r w = refl
 
-pub entered_box-equation : (i : Inside) (s : Setup) (k : ℕ) (g : Term Text) (J : List Item) (σ : Bindings Text) (w : World) (K : List Choice)
+pub entered_box-equation : (i : Inside) (s : Setup) (k : ℕ) (g : Term Text) (J : List Item) (σ : Bindings Text) (w : World)
+    (K : List Choice)
     → and_then (entered_box (visit s) s i k g σ J w) (resume s K) ≡ owed s (entered_state i k g J K σ w)
 unfolding owed resume
 entered_box-equation (Clauses cs) s k g J σ w K = sym (resume-with_more s cs k g σ J K Failed w)
@@ -156,7 +158,8 @@ boxed-equation s g J σ w K =
     (and_then-assoc (entered_box (visit s) s (inside w.database g) k g σ J (with_event u)) (after (visit s) s (Fail k g σ J)) (resume s K)
     ∙ entered_box-equation (inside w.database g) s k g J σ (with_event u) (Fail k g σ J ∷ K))
 
-pub acted-equation : (t : Bool) (s : Setup) (a : Act) (w : World) (h : Yield → World → Visited) (m : Yield → World → Moved) (K : List Choice)
+pub acted-equation : (t : Bool) (s : Setup) (a : Act) (w : World) (h : Yield → World → Visited)
+    (m : Yield → World → Moved) (K : List Choice)
     → nat_le (w.steps + a.cost) s.budget ≡ t
     → ((u : World) → u.steps ≤ s.budget → and_then (h a.yield u) (resume s K) ≡ comes s (m a.yield u))
     → and_then (acts t s a w h) (resume s K) ≡ comes s (acted t s a w m)
@@ -201,7 +204,8 @@ selected-equation s (Conjunction x y) t m J σ w K b = refl
 selected-equation s (Disjunction x y) t m J σ w K b = push-equation s (visit s (Goal x m ∷ J) σ w) (Branch y m σ J) K
 selected-equation s (IfThenElse c x y) t m J σ w K b =
     let n : ℕ = w.conditions + 1 in
-    push-equation s (visit s (Goal c (InCondition n) ∷ Cut (AtSuccess n) ∷ Goal x m ∷ J) σ (record w { conditions = n })) (Condition n y m σ J)
+    push-equation s (visit s (Goal c (InCondition n) ∷ Cut (AtSuccess n) ∷ Goal x m ∷ J) σ (record w { conditions = n }))
+    (Condition n y m σ J)
     K
 selected-equation s BoxedGoal t m J σ w K b = boxed-equation s t J σ w K
 
@@ -224,7 +228,8 @@ solved-equation s σ w K = go (w.solutions + 1 == s.wanted)
         (resume-Stopped s K (record w { solutions = w.solutions + 1 }))
     go false = refl
 
-pub exit-equation : (s : Setup) (k : ℕ) (g : Term Text) (J : List Item) (σ : Bindings Text) (w : World) (K : List Choice) → w.steps ≤ s.budget
+pub exit-equation : (s : Setup) (k : ℕ) (g : Term Text) (J : List Item) (σ : Bindings Text) (w : World) (K : List Choice)
+    → w.steps ≤ s.budget
     → and_then (visit_with (visit s) s (Exit k g ∷ J) σ w) (resume s K) ≡ comes s (move s (Forward (Exit k g ∷ J) K σ w))
 unfolding owed visit_with resume
 exit-equation s k g J σ w K below =
@@ -235,16 +240,19 @@ exit-equation s k g J σ w K below =
 -- what is owed before a move is the turn that it shows and what is owed after it
 pub move-equation : (s : Setup) (t : State) → (world_of t).steps ≤ s.budget → InStep t → owed s t ≡ comes s (move s t)
 unfolding owed resume visit_with
-move-equation s (Forward [] K σ w) below h = ap (λ (v : Visited). and_then v (resume s K)) (visit_equations s [] σ w below) ∙ solved-equation s σ w K
+move-equation s (Forward [] K σ w) below h = ap (λ (v : Visited). and_then v (resume s K)) (visit_equations s [] σ w below)
+    ∙ solved-equation s σ w K
 move-equation s (Forward (Exit k g ∷ J) K σ w) below h =
     ap (λ (v : Visited). and_then v (resume s K)) (visit_equations s (Exit k g ∷ J) σ w below) ∙ exit-equation s k g J σ w K below
 move-equation s (Forward (Cut m ∷ J) K σ w) below h =
     ap (λ (v : Visited). and_then v (resume s K)) (visit_equations s (Cut m ∷ J) σ w below)
-    ∙ (ap (λ (v : Visited). and_then (and_then v (cut m)) (resume s K)) (sym (visit_equations s J σ w below)) ∙ cuts-equation s m J K σ w h.0.0)
+    ∙ (ap (λ (v : Visited). and_then (and_then v (cut m)) (resume s K)) (sym (visit_equations s J σ w below))
+    ∙ cuts-equation s m J K σ w h.0.0)
 move-equation s (Forward (Try t k g ∷ J) K σ w) below h =
     let a : Act = s.act (s.budget - w.steps) t g σ w in
     ap (λ (v : Visited). and_then v (resume s K)) (visit_equations s (Try t k g ∷ J) σ w below)
-    ∙ acted-equation (nat_le (w.steps + a.cost) s.budget) s a w (yields (visit s) s (visit_with (visit s) s J) k g J σ) (yielded k g J K σ) K
+    ∙ acted-equation (nat_le (w.steps + a.cost) s.budget) s a w (yields (visit s) s (visit_with (visit s) s J) k g J σ)
+    (yielded k g J K σ) K
     refl
     (λ u fits. yields-equation s k g J σ a.yield u K fits)
 move-equation s (Forward (Goal t m ∷ J) K σ w) below h =

@@ -1,12 +1,14 @@
 -- The outcome of a call, step by step.
-use Rattle.std.proofs.Common.{◌≡◌, ℕ, ◌<◌, ◌≤◌, true, false, Bool, cond, drop, List, [], ◌∷◌, length, Option, Some, None, Result, Ok, Err, refl, sym, ap, ◌∙◌, subst, arith, IsSomeAnd}
+use Rattle.std.proofs.Common.{◌≡◌, ℕ, ◌<◌, ◌≤◌, true, false, Bool, cond, drop, List, [], ◌∷◌, length, Option, Some, None, Result, Ok, Err}
+use Rattle.std.proofs.Common.{refl, sym, ap, ◌∙◌, subst, arith, IsSomeAnd}
 use Rattle.std.specs.Prelude.{nat_lt}
 use Rattle.std.proofs.lemmas.Bool.Decides.{nat_tests}
 use Rattle.op_desk.specs.Contents.{Known, Files, bytes_of, IsFile, IsLonger, IsMissing}
 use Rattle.op_store.specs.declared.names.locked.Locked.TheVariants.{Program}
 use Rattle.op_trace.specs.Database.{Database}
 use Rattle.op_store.specs.Fault.{Fault}
-use Rattle.op_store.specs.Load.{Query, Found, Loaded, loaded, stopped, load_text, goal_of, goal_in, goal_bytes, goal_outcome, goal_converted, line_at, fault_line, first_token, is_rest}
+use Rattle.op_store.specs.Load.{Query, Found, Loaded, loaded, stopped, load_text, goal_of, goal_in, goal_bytes, goal_outcome}
+use Rattle.op_store.specs.Load.{goal_converted, line_at, fault_line, first_token, is_rest}
 use Rattle.op_store.specs.Fault as fault
 use Rattle.op_store.specs.Fault.{locked}
 use Rattle.op_trace.specs.Body.{converted}
@@ -27,7 +29,8 @@ use Rattle.op_reader.specs.Reading.{reading_of}
 use Rattle.op_session.specs.declared.status.Status.{Status}
 use Rattle.op_session.specs.declared.status.Status.TheVariants as status
 use Rattle.op_session.specs.Words.{fault_words, load_line}
-use Rattle.op_session.specs.Call.{Outcome, Line, file_limit, first_world, goal_name, with_bytes, with_loaded, with_world, with_goal, with_query, outcome_of, long_line, usage_line}
+use Rattle.op_session.specs.Call.{Outcome, Line, file_limit, first_world, goal_name, with_bytes, with_loaded, with_world, with_goal}
+use Rattle.op_session.specs.Call.{with_query, outcome_of, long_line, usage_line}
 use Rattle.op_session.specs.Promise.{WhenTold, IsBroken, HasFile, CostsAs, BrokenAs, WordsRefusedAs}
 use Rattle.op_session.proofs.CallEnds.{leaves_memory, leaves_load}
 use Rattle.op_session.specs.inner.Progress.{Leaves, IsOutcome}

@@ -12,8 +12,10 @@ behind l p r more all e a = a ∙ (ap (λ (x : List ℕ). x ++ r) e ∙ append_a
 behind-two : (l p q r more all : List ℕ) → more ≡ l ++ p → all ≡ more ++ (q ++ r) → all ≡ l ++ ((p ++ q) ++ r)
 behind-two l p q r more all e a = behind l p (q ++ r) more all e a ∙ ap (λ (x : List ℕ). l ++ x) (sym (append_assoc p q r))
 
-pub line-of : (ops : Table) (l0 l1 l2 l3 l4 l5 word text : List ℕ) (n m k : ℕ) (e : Event) → n ≡ e.chrono → m ≡ e.call → k ≡ e.depth → word ≡ port_word e.port → text ≡ short ops e.goal 1200 false
-    → l1 ≡ l0 ++ (decimal n ++ space) → l2 ≡ l1 ++ (decimal m ++ space) → l3 ≡ l2 ++ (decimal k ++ space) → l4 ≡ l3 ++ word → l5 ≡ l4 ++ space → l5 ++ text ≡ l0 ++ event_line ops e
+pub line-of : (ops : Table) (l0 l1 l2 l3 l4 l5 word text : List ℕ) (n m k : ℕ) (e : Event) → n ≡ e.chrono → m ≡ e.call → k ≡ e.depth
+    → word ≡ port_word e.port → text ≡ short ops e.goal 1200 false
+    → l1 ≡ l0 ++ (decimal n ++ space) → l2 ≡ l1 ++ (decimal m ++ space) → l3 ≡ l2 ++ (decimal k ++ space) → l4 ≡ l3 ++ word
+    → l5 ≡ l4 ++ space → l5 ++ text ≡ l0 ++ event_line ops e
 line-of ops l0 l1 l2 l3 l4 l5 word text n m k e en em ek ew et e1 e2 e3 e4 e5 =
     let a1 : List ℕ = decimal e.chrono ++ space in
     let a2 : List ℕ = (a1 ++ decimal e.call) ++ space in

@@ -1,5 +1,6 @@
 -- The feed's moves.
-use Rattle.std.proofs.Common.{◌≡◌, ℕ, zero, suc, ◌+◌, ◌-◌, ◌<◌, ◌≤◌, max, Bool, true, false, List, [], ◌∷◌, length, drop, get_or, Option, Some, None, is_some, nat_le, cond, refl, sym, ap, ◌∙◌, subst, arith, add-one}
+use Rattle.std.proofs.Common.{◌≡◌, ℕ, zero, suc, ◌+◌, ◌-◌, ◌<◌, ◌≤◌, max, Bool, true, false, List, [], ◌∷◌, length, drop, get_or, Option}
+use Rattle.std.proofs.Common.{Some, None, is_some, nat_le, cond, refl, sym, ap, ◌∙◌, subst, arith, add-one}
 use Rattle.std.specs.Prelude.{slice_index_or}
 use Rattle.std.proofs.lemmas.Bool.Decides.{nat_tests}
 use Rattle.op_term.specs.Ops.{Table}
@@ -41,7 +42,8 @@ past_end [] p d h = refl
 past_end (y ∷ xs) zero d h = absurd (omega arith)
 past_end (y ∷ xs) (suc p) d h = past_end xs p d (omega arith)
 
-pub line_here : (ops : Table) (es : List Event) (p : ℕ) (e : Event) (rest : List Event) → drop p es ≡ e ∷ rest → line_at ops es p ≡ event_line ops e
+pub line_here : (ops : Table) (es : List Event) (p : ℕ) (e : Event) (rest : List Event) → drop p es ≡ e ∷ rest
+    → line_at ops es p ≡ event_line ops e
 line_here ops [] zero e rest h = absurd cc
 line_here ops [] (suc p) e rest h = absurd cc
 line_here ops (x ∷ es) zero e rest h = let i : x ≡ e = cc in ap (event_line ops) i
@@ -62,15 +64,22 @@ pub steps_here : (run : Run) (p : ℕ) (w : World) (ws : List World) → drop p 
 steps_here run p w ws h =
     let g = goes_on (worlds_of run.turns) p w ws h in
     let i : p ≡ p + 1 - 1 = omega arith in
-    steps_by (nat_le (p + 1) 0) w (slice_index_or (worlds_of run.turns) (p + 1 - 1) run.world) (le_false (p + 1) 0 (omega arith)) (subst (λ i. get_or (worlds_of run.turns) i run.world ≡ w) i (g.here run.world))
+    steps_by (nat_le (p + 1) 0) w (slice_index_or (worlds_of run.turns) (p + 1 - 1) run.world) (le_false (p + 1) 0 (omega arith))
+    (subst (λ i. get_or (worlds_of run.turns) i run.world ≡ w) i (g.here run.world))
 
 -- the steps at the end
 pub steps_past : (run : Run) (p : ℕ) → length (worlds_of run.turns) ≤ p → steps_at run (p + 1) ≡ run.world.steps
 steps_past run p h =
     let i : p ≡ p + 1 - 1 = omega arith in
-    steps_by (nat_le (p + 1) 0) run.world (slice_index_or (worlds_of run.turns) (p + 1 - 1) run.world) (le_false (p + 1) 0 (omega arith)) (subst (λ i. get_or (worlds_of run.turns) i run.world ≡ run.world) i (past_end (worlds_of run.turns) p run.world h))
+    steps_by (nat_le (p + 1) 0) run.world (slice_index_or (worlds_of run.turns) (p + 1 - 1) run.world) (le_false (p + 1) 0
+    (omega arith)) (subst (λ i. get_or (worlds_of run.turns) i run.world ≡ run.world) i (past_end
+    (worlds_of run.turns) p run.world h))
 
-pub moved_end : (run : Run) (s : Stand) (x : ending.Ending) → moved run s (end_found x) ≡ record { place = s.place; furthest = event_count run + 1 }
+pub moved_end : (run : Run) (s : Stand) (x : ending.Ending) → moved run s (end_found x) ≡ record {
+  place = s.place;
+  furthest =
+      event_count run + 1;
+}
 moved_end run s ending.Stopped = refl
 moved_end run s ending.Failed = refl
 moved_end run s ending.Spent = refl
@@ -81,7 +90,12 @@ next_here run p h = rw (le_true (p + 1) (event_count run) (omega arith)) refl
 pub next_past : (run : Run) (p : ℕ) → event_count run ≤ p → next_from run p ≡ end_found run.ending
 next_past run p h = rw (le_false (p + 1) (event_count run) (omega arith)) refl
 
-pub finds_event : (traced : Traced) (s : Stand) (t : Stored) (k n : Kept) → Feeds traced s (record { machine = k; ended = None; commands = t }) → ShowsEvent k n → k.steps ≤ n.steps → n.tables.table ≡ k.tables.table → ArrivesAt traced s (record { machine = n; ended = None; commands = t })
+pub finds_event : (traced : Traced) (s : Stand) (t : Stored) (k n : Kept) → Feeds traced s (record {
+  machine = k;
+  ended = None;
+  commands = t;
+}) → ShowsEvent k n → k.steps ≤ n.steps → n.tables.table ≡ k.tables.table → ArrivesAt traced s
+    (record { machine = n; ended = None; commands = t })
 finds_event traced s t k n f e later same =
     let here = f.events ∙ e.events in
     let worlds = f.worlds ∙ e.worlds in
@@ -112,7 +126,9 @@ finds_event traced s t k n f e later same =
     }
 
 -- the end is found, where nothing stands behind the place
-pub finds_end : (traced : Traced) (s : Stand) (t : Stored) (k n : Kept) (e : Ending) → Feeds traced s (record { machine = k; ended = None; commands = t }) → ShowsEnd k n e → k.steps ≤ n.steps → n.tables.table ≡ k.tables.table → Arrives traced s (record { machine = n; ended = Some e; commands = t }) (end_found traced.run.ending)
+pub finds_end : (traced : Traced) (s : Stand) (t : Stored) (k n : Kept) (e : Ending) → Feeds traced s
+    (record { machine = k; ended = None; commands = t }) → ShowsEnd k n e → k.steps ≤ n.steps → n.tables.table ≡ k.tables.table
+    → Arrives traced s (record { machine = n; ended = Some e; commands = t }) (end_found traced.run.ending)
 finds_end traced s t k n e f h later same =
     let none : drop s.place (events_of traced.run.turns) ≡ [] = f.events ∙ h.none in
     let no_worlds : drop s.place (worlds_of traced.run.turns) ≡ [] = f.worlds ∙ h.no_worlds in
@@ -140,7 +156,9 @@ finds_end traced s t k n e f h later same =
     }
 
 -- and again
-pub finds_end_again : (traced : Traced) (s : Stand) (t : Stored) (k : Kept) (e : Ending) → Feeds traced s (record { machine = k; ended = Some e; commands = t }) → Arrives traced s (record { machine = k; ended = Some e; commands = t }) (end_found traced.run.ending)
+pub finds_end_again : (traced : Traced) (s : Stand) (t : Stored) (k : Kept) (e : Ending) → Feeds traced s
+    (record { machine = k; ended = Some e; commands = t }) → Arrives traced s (record { machine = k; ended = Some e; commands = t })
+    (end_found traced.run.ending)
 finds_end_again traced s t k e f =
     let looked : AtEnd traced.run s e = f.looked in
     let place = looked.place in
@@ -160,21 +178,31 @@ finds_end_again traced s t k e f =
       });
     }
 
-pub finds_by : (traced : Traced) (s : Stand) (feed : Feed) (e : Ending) → traced.run.ending ≡ ending_for e → Arrives traced s feed (end_found traced.run.ending) → Finds traced s feed (next_of (Some e))
+pub finds_by : (traced : Traced) (s : Stand) (feed : Feed) (e : Ending) → traced.run.ending ≡ ending_for e
+    → Arrives traced s feed (end_found traced.run.ending) → Finds traced s feed (next_of (Some e))
 finds_by traced s feed outcome.Stopped h a = subst (λ x. Arrives traced s feed (end_found x)) h a
 finds_by traced s feed outcome.Failed h a = subst (λ x. Arrives traced s feed (end_found x)) h a
 finds_by traced s feed outcome.Spent h a = subst (λ x. Arrives traced s feed (end_found x)) h a
 
 -- after the machine was asked
-pub finds_asked : (traced : Traced) (s : Stand) (t : Stored) (k n : Kept) (was o : Option Ending) → is_some was ≡ false → Feeds traced s (record { machine = k; ended = was; commands = t }) → Shows k n o → k.steps ≤ n.steps → n.tables.table ≡ k.tables.table → Finds traced s (record { machine = n; ended = o; commands = t }) (next_of o)
+pub finds_asked : (traced : Traced) (s : Stand) (t : Stored) (k n : Kept) (was o : Option Ending) → is_some was ≡ false
+    → Feeds traced s (record { machine = k; ended = was; commands = t }) → Shows k n o → k.steps ≤ n.steps
+    → n.tables.table ≡ k.tables.table → Finds traced s (record { machine = n; ended = o; commands = t }) (next_of o)
 finds_asked traced s t k n (Some e) o none f h later same = absurd cc
 finds_asked traced s t k n None None none f h later same = finds_event traced s t k n f h later same
-finds_asked traced s t k n None (Some e) none f h later same = finds_by traced s _ e (f.ending ∙ h.ending) (finds_end traced s t k n e f h later same)
+finds_asked traced s t k n None (Some e) none f h later same = finds_by traced s _ e (f.ending
+    ∙ h.ending) (finds_end traced s t k n e f h later same)
 
 -- after it was not
-pub finds_known : (traced : Traced) (s : Stand) (t : Stored) (k : Kept) (o : Option Ending) → is_some o ≡ true → Feeds traced s (record { machine = k; ended = o; commands = t }) → Finds traced s (record { machine = k; ended = o; commands = t }) (next_of o)
+pub finds_known : (traced : Traced) (s : Stand) (t : Stored) (k : Kept) (o : Option Ending) → is_some o ≡ true
+    → Feeds traced s (record { machine = k; ended = o; commands = t }) → Finds traced s (record {
+      machine = k;
+      ended = o;
+      commands = t;
+    }) (next_of o)
 finds_known traced s t k None some f = absurd cc
-finds_known traced s t k (Some e) some f = let l : AtEnd traced.run s e = f.looked in finds_by traced s _ e l.ending (finds_end_again traced s t k e f)
+finds_known traced s t k (Some e) some f = let l : AtEnd traced.run s e = f.looked in finds_by traced s _ e l.ending
+    (finds_end_again traced s t k e f)
 
 pub here_asked : (k n : Kept) (o : Option Ending) → Shows k n o → IsHere (next_of o) n
 here_asked k n None h = h.here
@@ -189,7 +217,8 @@ here_known k (Some outcome.Failed) some = tt
 here_known k (Some outcome.Spent) some = tt
 
 -- commands that were read leave the feed where it stands
-pub feeds_reader : (traced : Traced) (s : Stand) (t u : Stored) (k : Kept) (o : Option Ending) → IsReader u → Feeds traced s (record { machine = k; ended = o; commands = t }) → Feeds traced s (record { machine = k; ended = o; commands = u })
+pub feeds_reader : (traced : Traced) (s : Stand) (t u : Stored) (k : Kept) (o : Option Ending) → IsReader u
+    → Feeds traced s (record { machine = k; ended = o; commands = t }) → Feeds traced s (record { machine = k; ended = o; commands = u })
 feeds_reader traced s t u k o reads f = record {
   events = f.events;
   worlds = f.worlds;

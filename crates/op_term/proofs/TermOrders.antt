@@ -1,5 +1,6 @@
 -- Two terms are compared with a list of the pairs that are still to be compared.
-use Rattle.std.proofs.Common.{◌≡◌, ℕ, zero, suc, ◌+◌, ◌-◌, ◌<◌, ◌≤◌, Bool, true, false, List, [], ◌∷◌, ◌++◌, length, sym, ◌∙◌, ap, subst, refl, arith, cond, eqb}
+use Rattle.std.proofs.Common.{◌≡◌, ℕ, zero, suc, ◌+◌, ◌-◌, ◌<◌, ◌≤◌, Bool, true, false, List, [], ◌∷◌, ◌++◌, length, sym, ◌∙◌, ap, subst}
+use Rattle.std.proofs.Common.{refl, arith, cond, eqb}
 use Rattle.std.proofs.Common.{All, get_or, length-append}
 use Rattle.std.proofs.lemmas.List.{get_or_append_left}
 use Rattle.std.proofs.Math.Seq.{get_or-append_seam}
@@ -128,7 +129,8 @@ module _ (names : List (List ℕ)) where
   node-order-is (node f no_args) (node g (arg u us)) =
       ap (λ o. ordering_then o (name_order (name_at names f) (name_at names g))) (sym (cmp-less 0 (suc (arity (texts us))) (omega arith)))
   node-order-is (node f (arg t ts)) (node g no_args) =
-      ap (λ o. ordering_then o (name_order (name_at names f) (name_at names g))) (sym (cmp-greater (suc (arity (texts ts))) 0 (omega arith)))
+      ap (λ o. ordering_then o (name_order (name_at names f) (name_at names g))) (sym (cmp-greater (suc (arity (texts ts))) 0
+      (omega arith)))
   node-order-is (node f (arg t ts)) (node g (arg u us)) =
       let a = arity-texts ts in
       let b = arity-texts us in
@@ -308,7 +310,8 @@ module _ {P : Type 0} (term : P → Term ℕ) where
         ∙ zipped (args_of t) (args_of u) i (term p.0) (term p.1) (pairs_from term old []) h k e f));
   }
 
-  pub comparing-last : (names : List (List ℕ)) (t u : Term ℕ) (start left : ℕ) (todo rest : List (P × P)) (p : P × P) → todo ≡ rest ++ p ∷ []
+  pub comparing-last : (names : List (List ℕ)) (t u : Term ℕ) (start left : ℕ) (todo rest : List (P × P)) (p : P × P)
+      → todo ≡ rest ++ p ∷ []
       → IsComparing names t u start left (pairs_from term todo [])
       → IsComparing names t u start left ((term p.0, term p.1) ∷ pairs_from term rest [])
   comparing-last names t u start left todo rest p e c =

@@ -19,7 +19,8 @@ returns-in_default-clause-goes c =
       evaluable-not-spent c.args.name 2,
       known-struct t c.args.name 2 (length names) (sym c.requires.node) c.requires.ready.1,
       binary-ends names c.args.bindings.now c.args.pending.now.items t (nth_arg (args_of t) 0) (nth_arg (args_of t) 1) c.args.name.0
-          (two-arguments t c.args.name c.requires.node) (ap binary_of (sym c.name_of.ensures) ∙ (sym c.binary_of.ensures ∙ c.in_default.is)),
+          (two-arguments t c.args.name c.requires.node) (ap binary_of (sym c.name_of.ensures) ∙ (sym c.binary_of.ensures
+          ∙ c.in_default.is)),
     )
 
 pub returns-clause-goes : goal.returns-clause-goes

@@ -18,7 +18,8 @@ returns-in_default-clause-goes c =
     let names = c.args.symbols.now in (
       evaluable-not-spent c.args.name 1,
       known-struct t c.args.name 1 (length names) (sym c.requires.node) c.requires.ready.1,
-      unary-ends names c.args.bindings.now c.args.pending.now.items t (nth_arg (args_of t) 0) c.args.name.0 (one-argument t c.args.name c.requires.node)
+      unary-ends names c.args.bindings.now c.args.pending.now.items t (nth_arg (args_of t) 0) c.args.name.0
+          (one-argument t c.args.name c.requires.node)
           (ap unary_of (sym c.name_of.ensures) ∙ (sym c.unary_of.ensures ∙ c.in_default.is)),
     )
 

@@ -23,7 +23,8 @@ returns-in_err-next-in-Value-clause-err c =
     let names = c.args.symbols.now in
     let s = c.args.bindings.now in
     let ps = c.pop.new.self.items in
-    let all = All-pop (IsReadyPending (length names) s) c.walk.pending.items ps (Some c.in-Some.function) c.in-Some.ensures.items c.walk.invariant.ready in
+    let all = All-pop (IsReadyPending (length names) s) c.walk.pending.items ps (Some c.in-Some.function) c.in-Some.ensures.items
+    c.walk.invariant.ready in
     let ends = c.in_err-next-in-Value.ensures.goes names s all.1 all.0 in
     let fits : FitsSigned w64 c.in-Value.x = search rules in
     let goes = value-goes names s ps (meaning_at names s c.args.term.now) (c.args.fuel.now - c.walk.fuel) c.walk.pending.items
@@ -31,7 +32,8 @@ returns-in_err-next-in-Value-clause-err c =
     ∙ ap (λ (x : ℤ). add_nodes (c.args.fuel.now - c.walk.fuel) (all_resumed names s ps (resumed names s c.in-Some.function x)))
     (sym (to_z-of_z w64 c.in-Value.x fits)) in
     passed-on c.from_residual-in_err-next-in-Value.result c.in_err-next-in-Value.field-0.0 c.from_residual-in_err-next-in-Value.ensures
-    (λ e. IfSome (cause_of names e) (λ r. evaluated_within c.args.fuel.now (named names (value_of s c.args.term.now)) ≡ Some (Err r, c.walk.fuel)))
+    (λ e. IfSome (cause_of names e) (λ r. evaluated_within c.args.fuel.now (named names (value_of s c.args.term.now))
+    ≡ Some (Err r, c.walk.fuel)))
     (ends-within (cause_of names c.in_err-next-in-Value.field-0.0) c.args.fuel.now c.walk.fuel (meaning_at names s c.args.term.now) _
     c.walk.invariant.paid goes ends.2)
 
@@ -79,7 +81,8 @@ walk-preserved c =
     let s = c.args.bindings.now in
     let ps = c.pop.new.self.items in
     let k = c.args.fuel.now - c.walk.fuel in
-    let all = All-pop (IsReadyPending (length names) s) c.walk.pending.items ps (Some c.in-Some.function) c.in-Some.ensures.items c.walk.invariant.ready in
+    let all = All-pop (IsReadyPending (length names) s) c.walk.pending.items ps (Some c.in-Some.function) c.in-Some.ensures.items
+    c.walk.invariant.ready in
     let goes = c.in_ok-next-in-Value.ensures.goes names s all.1 all.0 in
     let fits : FitsSigned w64 c.in-Value.x = search rules in
     let before = value-goes names s ps (meaning_at names s c.args.term.now) k c.walk.pending.items

@@ -5,7 +5,8 @@ use Rattle.std.specs.Int.{w64}
 use Rattle.op_bind.specs.State.{value_of}
 use Rattle.op_inspect.specs.Arithmetic.{instantiation, add_nodes}
 use Rattle.op_inspect.specs.inner.Pending.{all_resumed}
-use Rattle.op_inspect.proofs.MetNodes.{unbound-not-spent, evaluable-not-spent, met-variable, met-integer, met-atom, met-many, known-atom, known-struct}
+use Rattle.op_inspect.proofs.MetNodes.{unbound-not-spent, evaluable-not-spent, met-variable, met-integer, met-atom, met-many, known-atom}
+use Rattle.op_inspect.proofs.MetNodes.{known-struct}
 use Rattle.op_inspect.proofs.PendingFunctions.{resumed-add, resumed-ends}
 use Rattle.op_inspect.proofs.arithmetic.meet.Goals as goal
 
@@ -52,5 +53,6 @@ returns-in-Struct-clause-goes c =
     let t = value_of s c.args.at.now in (
       evaluable-not-spent c.in-Struct.name c.in-Struct.n,
       known-struct t c.in-Struct.name c.in-Struct.n (length names) c.in-Struct.ensures c.requires.ready.1,
-      ap (all_resumed names s ps) (met-many names t c.in-Struct.name c.in-Struct.n c.in-Struct.ensures c.in-Struct.n-test.0.1 c.in-Struct.n-test.1) ∙ resumed-ends names s ps _ 1,
+      ap (all_resumed names s ps) (met-many names t c.in-Struct.name c.in-Struct.n c.in-Struct.ensures c.in-Struct.n-test.0.1
+          c.in-Struct.n-test.1) ∙ resumed-ends names s ps _ 1,
     )

@@ -18,7 +18,8 @@ are_runnable_clauses-requires c =
 pub returns : goal.returns
 returns c =
     let s = c.args.store.now in
-    let e : list_all (λ (r : NumberedClause). is_runnable (database_of s) (named s.names r.body)) c.in_ok-clauses.clauses ≡ are_runnable (database_of s) =
+    let e : list_all (λ (r : NumberedClause). is_runnable (database_of s) (named s.names r.body)) c.in_ok-clauses.clauses
+    ≡ are_runnable (database_of s) =
     sym (list_all-map (λ (k : Clause). is_runnable (database_of s) k.body) (clause_named s.names) c.in_ok-clauses.clauses)
     ∙ ap (list_all (λ (k : Clause). is_runnable (database_of s) k.body)) c.in_ok-clauses.ensures.world in
     subst (λ (x : Bool). IfOk c.are_runnable_clauses.result (λ b. b ≡ x)) e c.are_runnable_clauses.ensures

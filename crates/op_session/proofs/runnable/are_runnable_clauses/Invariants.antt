@@ -7,4 +7,5 @@ use Rattle.op_session.specs.Runnable.{is_runnable}
 use Rattle.op_session.proofs.runnable.are_runnable_clauses.Given as goal
 
 abbrev pub invariant-clauses : goal.invariant-clauses
-invariant-clauses l = list_all (λ (r : NumberedClause). is_runnable (database_of l.store) (named l.store.names r.body)) (take l.i l.clauses) ≡ true
+invariant-clauses l = list_all (λ (r : NumberedClause). is_runnable (database_of l.store) (named l.store.names r.body))
+    (take l.i l.clauses) ≡ true

@@ -9,4 +9,8 @@ argument-left-requires-clause-within c =
 
 pub argument-right-requires-clause-within : goal.argument-right-requires-clause-within
 argument-right-requires-clause-within c =
-    omega (arith, (head-struct (term_at c.args.bindings.now.terms c.args.equation.now) _ _ (sym c.outline.ensures ∙ c.in-Struct-default-eq2.is)).1)
+    omega (
+      arith,
+      (head-struct (term_at c.args.bindings.now.terms c.args.equation.now) _ _ (sym c.outline.ensures
+          ∙ c.in-Struct-default-eq2.is)).1,
+    )
