@@ -79,55 +79,55 @@ with_op table priority kind name = with_meanings table name (changed kind (meani
 abbrev pub with_ops : Table → ℕ → OpKind → List (List ℕ) → Table
 with_ops table priority kind names = fold (λ t name. with_op t priority kind name) table names
 
--- the operators at first, a row of names for each priority and kind
-pub record Row : Type 0 where
+-- the operators at first, a group of names for each priority and kind
+pub record OperatorGroup : Type 0 where
   pub priority : ℕ
   pub kind : OpKind
   pub names : List (List ℕ)
 
-abbrev row : ℕ → OpKind → List (List ℕ) → Row
-row p k names = record { priority = p; kind = k; names = names }
+abbrev group : ℕ → OpKind → List (List ℕ) → OperatorGroup
+group p k names = record { priority = p; kind = k; names = names }
 
-abbrev pub with_rows : Table → List Row → Table
-with_rows table rows = fold (λ t r. with_ops t r.priority r.kind r.names) table rows
+abbrev pub with_groups : Table → List OperatorGroup → Table
+with_groups table groups = fold (λ t g. with_ops t g.priority g.kind g.names) table groups
 
 -- those of the standard's table 7, and `div` and the directives' names (this project's own), by what they are for
-abbrev pub clause_rows : List Row
-clause_rows =
-    row 1200 Xfx (codes ":-" ∷ codes "-->" ∷ []) ∷
-    row 1200 Fx (codes ":-" ∷ codes "?-" ∷ []) ∷
-    row 1150 Fx (codes "dynamic" ∷ codes "discontiguous" ∷ codes "multifile" ∷ codes "initialization" ∷ []) ∷
+abbrev pub clause_operators : List OperatorGroup
+clause_operators =
+    group 1200 Xfx (codes ":-" ∷ codes "-->" ∷ []) ∷
+    group 1200 Fx (codes ":-" ∷ codes "?-" ∷ []) ∷
+    group 1150 Fx (codes "dynamic" ∷ codes "discontiguous" ∷ codes "multifile" ∷ codes "initialization" ∷ []) ∷
     []
 
-abbrev pub control_rows : List Row
-control_rows =
-    row 1100 Xfy (codes ";" ∷ []) ∷
-    row 1050 Xfy (codes "->" ∷ []) ∷
-    row 1000 Xfy (codes "," ∷ []) ∷
-    row 900 Fy (codes "\\+" ∷ []) ∷
+abbrev pub control_operators : List OperatorGroup
+control_operators =
+    group 1100 Xfy (codes ";" ∷ []) ∷
+    group 1050 Xfy (codes "->" ∷ []) ∷
+    group 1000 Xfy (codes "," ∷ []) ∷
+    group 900 Fy (codes "\\+" ∷ []) ∷
     []
 
-abbrev pub comparison_rows : List Row
-comparison_rows =
-    row 700 Xfx (codes "=" ∷ codes "\\=" ∷ codes "==" ∷ codes "\\==" ∷ codes "@<" ∷ codes "@=<" ∷ codes "@>" ∷ codes "@>=" ∷ []) ∷
-    row 700 Xfx (codes "=.." ∷ codes "is" ∷ codes "=:=" ∷ codes "=\\=" ∷ codes "<" ∷ codes "=<" ∷ codes ">" ∷ codes ">=" ∷ []) ∷
+abbrev pub comparison_operators : List OperatorGroup
+comparison_operators =
+    group 700 Xfx (codes "=" ∷ codes "\\=" ∷ codes "==" ∷ codes "\\==" ∷ codes "@<" ∷ codes "@=<" ∷ codes "@>" ∷ codes "@>=" ∷ []) ∷
+    group 700 Xfx (codes "=.." ∷ codes "is" ∷ codes "=:=" ∷ codes "=\\=" ∷ codes "<" ∷ codes "=<" ∷ codes ">" ∷ codes ">=" ∷ []) ∷
     []
 
-abbrev pub arithmetic_rows : List Row
-arithmetic_rows =
-    row 500 Yfx (codes "+" ∷ codes "-" ∷ codes "/\\" ∷ codes "\\/" ∷ []) ∷
-    row 400 Yfx (codes "*" ∷ codes "/" ∷ codes "//" ∷ codes "rem" ∷ codes "mod" ∷ codes "div" ∷ codes "<<" ∷ codes ">>" ∷ []) ∷
-    row 200 Xfx (codes "**" ∷ []) ∷
-    row 200 Xfy (codes "^" ∷ []) ∷
-    row 200 Fy (codes "-" ∷ codes "+" ∷ codes "\\" ∷ []) ∷
+abbrev pub arithmetic_operators : List OperatorGroup
+arithmetic_operators =
+    group 500 Yfx (codes "+" ∷ codes "-" ∷ codes "/\\" ∷ codes "\\/" ∷ []) ∷
+    group 400 Yfx (codes "*" ∷ codes "/" ∷ codes "//" ∷ codes "rem" ∷ codes "mod" ∷ codes "div" ∷ codes "<<" ∷ codes ">>" ∷ []) ∷
+    group 200 Xfx (codes "**" ∷ []) ∷
+    group 200 Xfy (codes "^" ∷ []) ∷
+    group 200 Fy (codes "-" ∷ codes "+" ∷ codes "\\" ∷ []) ∷
     []
 
-unfoldable pub iso_rows : List Row
-iso_rows = clause_rows ++ control_rows ++ comparison_rows ++ arithmetic_rows
+unfoldable pub iso_operators : List OperatorGroup
+iso_operators = clause_operators ++ control_operators ++ comparison_operators ++ arithmetic_operators
 
 unfoldable pub iso_table : Table
-unfolding iso_rows
-iso_table = with_rows [] iso_rows
+unfolding iso_operators
+iso_table = with_groups [] iso_operators
 
 -- names that are never operators
 abbrev pub is_reserved : List ℕ → Bool

@@ -2,7 +2,7 @@ ghost use Rattle.std.specs.Prelude.{◌≡◌, ◌≢◌, IfOk, IfErr, OnOk, OnE
 ghost use Rattle.op_term.specs.Ops.{prefix_in, infix_in, postfix_in, is_prefix as prefix_kind, is_postfix as postfix_kind};
 ghost use Rattle.op_term.specs.Ops.{is_infix as infix_kind, is_y_left as y_left, is_y_right as y_right, changed as the_changed};
 ghost use Rattle.op_term.specs.Ops.{is_reserved as the_reserved, clashes as the_clash, with_op, iso_table, set_in, IsTable};
-ghost use Rattle.op_term.specs.Ops.{with_rows, clause_rows, control_rows, comparison_rows, arithmetic_rows};
+ghost use Rattle.op_term.specs.Ops.{with_groups, clause_operators, control_operators, comparison_operators, arithmetic_operators};
 ghost use Rattle.op_term.specs.declared.ops.OpFault.TheVariants.{Memory as want_of_memory};
 
 use crate::meanings::MeaningMap;
@@ -169,7 +169,7 @@ impl Model for Ops {
     ghost invariant = { λ o. IsTable o.table };
 }
 
-fn add_row(
+fn add_group(
     table: &mut MeaningMap,
     priority: u32,
     kind: OpKind,
@@ -184,12 +184,12 @@ fn add_row(
 }
 
 // The operators of clauses and directives.
-fn add_clause_rows(t: &mut MeaningMap) -> Result<(), Memory>
-    ensures { OnOk result (t.new ≡ with_rows t.old clause_rows) }
+fn add_clause_operators(t: &mut MeaningMap) -> Result<(), Memory>
+    ensures { OnOk result (t.new ≡ with_groups t.old clause_operators) }
 {
-    add_row(t, 1200, OpKind::Xfx, &[":-", "-->"])?;
-    add_row(t, 1200, OpKind::Fx, &[":-", "?-"])?;
-    add_row(
+    add_group(t, 1200, OpKind::Xfx, &[":-", "-->"])?;
+    add_group(t, 1200, OpKind::Fx, &[":-", "?-"])?;
+    add_group(
         t,
         1150,
         OpKind::Fx,
@@ -199,26 +199,26 @@ fn add_clause_rows(t: &mut MeaningMap) -> Result<(), Memory>
 }
 
 // The operators of bodies.
-fn add_control_rows(t: &mut MeaningMap) -> Result<(), Memory>
-    ensures { OnOk result (t.new ≡ with_rows t.old control_rows) }
+fn add_control_operators(t: &mut MeaningMap) -> Result<(), Memory>
+    ensures { OnOk result (t.new ≡ with_groups t.old control_operators) }
 {
-    add_row(t, 1100, OpKind::Xfy, &[";"])?;
-    add_row(t, 1050, OpKind::Xfy, &["->"])?;
-    add_row(t, 1000, OpKind::Xfy, &[","])?;
-    add_row(t, 900, OpKind::Fy, &["\\+"])
+    add_group(t, 1100, OpKind::Xfy, &[";"])?;
+    add_group(t, 1050, OpKind::Xfy, &["->"])?;
+    add_group(t, 1000, OpKind::Xfy, &[","])?;
+    add_group(t, 900, OpKind::Fy, &["\\+"])
 }
 
 // The operators that compare.
-fn add_comparison_rows(t: &mut MeaningMap) -> Result<(), Memory>
-    ensures { OnOk result (t.new ≡ with_rows t.old comparison_rows) }
+fn add_comparison_operators(t: &mut MeaningMap) -> Result<(), Memory>
+    ensures { OnOk result (t.new ≡ with_groups t.old comparison_operators) }
 {
-    add_row(
+    add_group(
         t,
         700,
         OpKind::Xfx,
         &["=", "\\=", "==", "\\==", "@<", "@=<", "@>", "@>="],
     )?;
-    add_row(
+    add_group(
         t,
         700,
         OpKind::Xfx,
@@ -227,19 +227,19 @@ fn add_comparison_rows(t: &mut MeaningMap) -> Result<(), Memory>
 }
 
 // The operators of arithmetic.
-fn add_arithmetic_rows(t: &mut MeaningMap) -> Result<(), Memory>
-    ensures { OnOk result (t.new ≡ with_rows t.old arithmetic_rows) }
+fn add_arithmetic_operators(t: &mut MeaningMap) -> Result<(), Memory>
+    ensures { OnOk result (t.new ≡ with_groups t.old arithmetic_operators) }
 {
-    add_row(t, 500, OpKind::Yfx, &["+", "-", "/\\", "\\/"])?;
-    add_row(
+    add_group(t, 500, OpKind::Yfx, &["+", "-", "/\\", "\\/"])?;
+    add_group(
         t,
         400,
         OpKind::Yfx,
         &["*", "/", "//", "rem", "mod", "div", "<<", ">>"],
     )?;
-    add_row(t, 200, OpKind::Xfx, &["**"])?;
-    add_row(t, 200, OpKind::Xfy, &["^"])?;
-    add_row(t, 200, OpKind::Fy, &["-", "+", "\\"])
+    add_group(t, 200, OpKind::Xfx, &["**"])?;
+    add_group(t, 200, OpKind::Xfy, &["^"])?;
+    add_group(t, 200, OpKind::Fy, &["-", "+", "\\"])
 }
 
 impl Ops {
@@ -250,10 +250,10 @@ impl Ops {
         ensures table { IfOk result (λ o. IsTable o) }
     {
         let mut table = MeaningMap::new(alloc);
-        add_clause_rows(&mut table)?;
-        add_control_rows(&mut table)?;
-        add_comparison_rows(&mut table)?;
-        add_arithmetic_rows(&mut table)?;
+        add_clause_operators(&mut table)?;
+        add_control_operators(&mut table)?;
+        add_comparison_operators(&mut table)?;
+        add_arithmetic_operators(&mut table)?;
         Ok(Ops { table })
     }
 
