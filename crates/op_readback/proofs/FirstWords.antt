@@ -21,9 +21,9 @@ use Rattle.op_writer.specs.declared.edge.Edge.{Edge}
 use Rattle.op_writer.specs.declared.edge.Edge.TheVariants.{Minus}
 use Rattle.op_base.specs.Characters.{is_symbol, is_word}
 use Rattle.op_writer.specs.Spelling.{is_unquoted, quoted}
-use Rattle.op_writer.specs.Pieces.{edge_of, edge_at, edge_behind, is_apart}
+use Rattle.op_writer.specs.Fragments.{edge_of, edge_at, edge_behind, is_apart}
 use Rattle.op_writer.specs.Text.{is_operand}
-use Rattle.op_readback.proofs.Lexemes.{Lexeme, sign, name, prefix_name, lexeme_piece}
+use Rattle.op_readback.proofs.Lexemes.{Lexeme, sign, name, prefix_name, lexeme_fragment}
 use Rattle.op_readback.proofs.LexemeTexts.{lexeme_text, begun}
 use Rattle.op_readback.proofs.LexemeTokens.{Known, tok, sign_kind, lexeme_tokens, is_space, gap, tokens, last-of}
 use Rattle.op_readback.proofs.KnownWords.{firsts, is_name, minus_name, k_negative, k_alone, k_bare, k_operand, k_word, k_words}
@@ -31,7 +31,7 @@ use Rattle.op_readback.proofs.KnownWords.{firsts, is_name, minus_name, k_negativ
 pub step : (P : List Known → Type 0) (m : Lexeme) (ns : List Lexeme) → is_space m ≡ false → (at : ℕ) (e : Edge) (l : Bool)
     → ((at1 : ℕ) (l1 : Bool) → (l ≡ true → l1 ≡ true) → (gap e (lexeme_text m) ≡ true → l1 ≡ true) →
     (gap e (lexeme_text m) ≡ false → l1 ≡ l)
-    → P (lexeme_tokens m at1 l1 ++ tokens (at1 + length (lexeme_text m)) (edge_behind e (lexeme_piece m)) false ns))
+    → P (lexeme_tokens m at1 l1 ++ tokens (at1 + length (lexeme_text m)) (edge_behind e (lexeme_fragment m)) false ns))
     → P (tokens at e l (m ∷ ns))
 step P m ns s at e l k = subst P (sym (if_false (is_space m) _ _ s)) (by_test (gap e (lexeme_text m))
     (λ g. subst P (sym (if_true (gap e (lexeme_text m)) _ _ g)) (k (at + 1) true (λ h. refl) (λ h. refl)
@@ -79,14 +79,14 @@ none-either false = refl
 -- the tokens of a name: those of [] and of {}, or one
 pub named : (P : List Known → Type 0) (f : List ℕ) (ns : List Lexeme) (at : ℕ) (e : Edge) (l : Bool)
     → (f ≡ codes "[]" → (a b c d n : ℕ) (l1 : Bool) → (l ≡ true → l1 ≡ true)
-    → P ((tok OpenSquare a b l1, []) ∷ (tok CloseSquare c d false, []) ∷ tokens n (edge_behind e (lexeme_piece (name f))) false ns))
+    → P ((tok OpenSquare a b l1, []) ∷ (tok CloseSquare c d false, []) ∷ tokens n (edge_behind e (lexeme_fragment (name f))) false ns))
     → (f ≡ codes "{}" → (a b c d n : ℕ) (l1 : Bool) → (l ≡ true → l1 ≡ true)
-    → P ((tok OpenCurly a b l1, []) ∷ (tok CloseCurly c d false, []) ∷ tokens n (edge_behind e (lexeme_piece (name f))) false ns))
+    → P ((tok OpenCurly a b l1, []) ∷ (tok CloseCurly c d false, []) ∷ tokens n (edge_behind e (lexeme_fragment (name f))) false ns))
     → ((kind : TokenKind) → is_name kind ≡ true → (a b n : ℕ) (l1 : Bool) → (l ≡ true → l1 ≡ true)
-    → P ((tok kind a b l1, f) ∷ tokens n (edge_behind e (lexeme_piece (name f))) false ns))
+    → P ((tok kind a b l1, f) ∷ tokens n (edge_behind e (lexeme_fragment (name f))) false ns))
     → P (tokens at e l (name f ∷ ns))
 named P f ns at e l k1 k2 k3 = step P (name f) ns refl at e l (λ at1 l1 h g i.
-    let more = tokens (at1 + length (lexeme_text (name f))) (edge_behind e (lexeme_piece (name f))) false ns in
+    let more = tokens (at1 + length (lexeme_text (name f))) (edge_behind e (lexeme_fragment (name f))) false ns in
     by_test (bytes_eq f (codes "[]"))
     (λ c. subst (λ (ks : List Known). P (ks ++ more)) (sym (if_true (bytes_eq f (codes "[]")) _ _ c))
     (k1 ((bytes_eq-Decides f (codes "[]")).0 c) at1 (at1 + 1) (at1 + 1) (at1 + 2) _ l1 h))
@@ -110,7 +110,7 @@ round-apart b = by_test (is_symbol b)
     (λ w. ap (λ (x : Edge). is_apart x 40) (if_true (is_word b) _ _ w))
     (λ w. ap (λ (x : Edge). is_apart x 40) (if_false (is_word b) _ _ w)))
 
-pub name-round : (f : List ℕ) → IsUtf8 f → (e : Edge) → gap (edge_behind e (lexeme_piece (name f))) (40 ∷ []) ≡ false
+pub name-round : (f : List ℕ) → IsUtf8 f → (e : Edge) → gap (edge_behind e (lexeme_fragment (name f))) (40 ∷ []) ≡ false
 name-round f u e =
     let b = begun (name f) u in
     let k = last-of (λ b. true) b.first b.more (all-true b.more) in
@@ -209,8 +209,8 @@ module _ (ops : Table) where
   reserved-no f g e r h = absurd (let z : true ≡ false = sym r ∙ (sym (ap is_reserved e) ∙ h) in cc)
 
   pub name-word : (f : List ℕ) (ns : List Lexeme) (at : ℕ) (e : Edge) (l : Bool)
-      → NameWord f ns (edge_behind e (lexeme_piece (name f))) (tokens at e l (name f ∷ ns))
-  name-word f ns at e l = let e2 = edge_behind e (lexeme_piece (name f)) in named (NameWord f ns e2) f ns at e l
+      → NameWord f ns (edge_behind e (lexeme_fragment (name f))) (tokens at e l (name f ∷ ns))
+  name-word f ns at e l = let e2 = edge_behind e (lexeme_fragment (name f)) in named (NameWord f ns e2) f ns at e l
       (λ q a b c d n l1 h. let js = tokens n e2 false ns in record {
         after = n;
         place = a;
@@ -238,8 +238,8 @@ module _ (ops : Table) where
       (λ kind k a b n l1 h. one-token f ns e2 kind k a b n l1)
 
   pub prefix-word : (f : List ℕ) (ns : List Lexeme) (at : ℕ) (e : Edge) (l : Bool)
-      → NameWord f ns (edge_behind e (lexeme_piece (prefix_name f))) (tokens at e l (prefix_name f ∷ ns))
-  prefix-word f ns at e l = let e2 = edge_behind e (lexeme_piece (prefix_name f)) in
+      → NameWord f ns (edge_behind e (lexeme_fragment (prefix_name f))) (tokens at e l (prefix_name f ∷ ns))
+  prefix-word f ns at e l = let e2 = edge_behind e (lexeme_fragment (prefix_name f)) in
       step (NameWord f ns e2) (prefix_name f) ns refl at e l (λ at1 l1 h g i. one-token f ns e2 Name refl at1 (at1 + length f)
       (at1 + length (lexeme_text (prefix_name f))) l1)
 
@@ -254,7 +254,8 @@ module _ (ops : Table) where
   pub follow-sign : (b : ℕ) → (b == 32) ≡ false → ends_operand (sign_kind b) ≡ true
       → (ns : List Lexeme) (bound : Bound) (at : ℕ) (e : Edge) (l : Bool) → Follows bound (tokens at e l (sign b ∷ ns))
   follow-sign b s h ns bound at e l = step (Follows bound) (sign b) ns s at e l (λ at1 l1 _ _ _.
-      by-ender (λ kind. Follows bound ((tok kind at1 (at1 + 1) l1, []) ∷ tokens (at1 + 1) (edge_behind e (lexeme_piece (sign b))) false ns))
+      by-ender (λ kind. Follows bound ((tok kind at1 (at1 + 1) l1, []) ∷ tokens (at1 + 1) (edge_behind e (lexeme_fragment
+      (sign b))) false ns))
       (refl, none-either l1, (λ o. refl)) (refl, none-either l1, (λ o. refl)) (refl, none-either l1, (λ o. refl))
       (refl, none-either l1, (λ o. refl)) (refl, none-either l1, (λ o. refl))
       (sign_kind b) h)
@@ -266,7 +267,7 @@ module _ (ops : Table) where
       named (Follows bound) f ns at e l
       (λ q a b c d n l1 h. (refl, none-either l1, no _)) (λ q a b c d n l1 h. (refl, none-either l1, no _))
       (λ kind k a b n l1 h. by-name-kind (λ kind. Follows bound ((tok kind a b l1, f) ∷ tokens n
-      (edge_behind e (lexeme_piece (name f))) false ns)) (refl, none-either l1, no _) (refl, none-either l1, no _) kind k)
+      (edge_behind e (lexeme_fragment (name f))) false ns)) (refl, none-either l1, no _) (refl, none-either l1, no _) kind k)
 
   -- how an operand begins, behind a text that ends so
   pub record Begins (bound : Bound) (e : Edge) (l : Bool) (ks : List Known) : Type 0 where
@@ -376,7 +377,8 @@ module _ (ops : Table) where
         set_digit = λ x. none-either l1;
         alone = λ o. refl;
       })
-      (λ kind k a b n l1 h. let js = tokens n (edge_behind e (lexeme_piece (name f))) false ns in begins-token kind a b l1 f js bound e l k
+      (λ kind k a b n l1 h. let js = tokens n (edge_behind e (lexeme_fragment (name f))) false ns
+      in begins-token kind a b l1 f js bound e l k
       (λ o. only-no kind a b l1 f js k (i o)))
 
   pub opens-round : (ns : List Lexeme) (n : ℕ) (e : Edge) → gap e (40 ∷ []) ≡ false → opens (firsts (tokens n e false (sign 40 ∷ ns)))
@@ -404,11 +406,11 @@ module _ (ops : Table) where
         set_digit = λ x. none-either l1;
         alone = λ o. refl;
       })
-      (λ kind k a b n l1 h. let e2 = edge_behind e (lexeme_piece (name f)) in let js = tokens n e2 false (sign 40 ∷ ns) in
+      (λ kind k a b n l1 h. let e2 = edge_behind e (lexeme_fragment (name f)) in let js = tokens n e2 false (sign 40 ∷ ns) in
       begins-token kind a b l1 f js bound e l k (λ o. only-open kind a b l1 f js k (opens-round ns n e2 (name-round f u e))))
 
   pub begins-prefix : (f : List ℕ) (ns : List Lexeme) (bound : Bound) → is_infix_alone ops f ≡ false → (at : ℕ) (e : Edge) (l : Bool)
       → Begins bound e l (tokens at e l (prefix_name f ∷ ns))
   begins-prefix f ns bound i at e l = step (Begins bound e l) (prefix_name f) ns refl at e l (λ at1 l1 h g j.
-      let js = tokens (at1 + length (lexeme_text (prefix_name f))) (edge_behind e (lexeme_piece (prefix_name f))) false ns in
+      let js = tokens (at1 + length (lexeme_text (prefix_name f))) (edge_behind e (lexeme_fragment (prefix_name f))) false ns in
       begins-token Name at1 (at1 + length f) l1 f js bound e l refl (λ o. only-no Name at1 (at1 + length f) l1 f js refl i))

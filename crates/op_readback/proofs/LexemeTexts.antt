@@ -13,9 +13,9 @@ use Rattle.op_token.specs.Spelling.{is_fraction}
 use Rattle.op_writer.specs.declared.style.Style.TheVariants.{Quoted}
 use Rattle.op_base.specs.Characters.{is_symbol, is_word, is_small}
 use Rattle.op_writer.specs.Spelling.{is_symbolic, is_word_name, is_other_token, is_unquoted, name_text, quoted, escaped}
-use Rattle.op_writer.specs.Pieces.{text_of}
+use Rattle.op_writer.specs.Fragments.{text_of}
 use Rattle.op_readback.specs.ReadBack.{IsSmall}
-use Rattle.op_readback.proofs.Lexemes.{Lexeme, sign, name, prefix_name, number, lexeme_piece}
+use Rattle.op_readback.proofs.Lexemes.{Lexeme, sign, name, prefix_name, number, lexeme_fragment}
 use Rattle.op_readback.proofs.QuotedNames.{and-parts}
 use Rattle.op_readback.proofs.NameSpellings.{or-either, by-symbol}
 use Rattle.op_readback.proofs.IntegerSpellings.{IsDigits, decimal-digits, not-is, and-left, and-right}
@@ -38,7 +38,7 @@ by-name f p1 p2 p3 p4 p5 p6 h =
     not-true false h = refl
 
 abbrev pub lexeme_text : Lexeme → List ℕ
-lexeme_text m = text_of (lexeme_piece m)
+lexeme_text m = text_of (lexeme_fragment m)
 
 abbrev pub is_sign : ℕ → Bool
 is_sign b = b == 32 || b == 40 || b == 41 || b == 91 || b == 93 || b == 123 || b == 125 || b == 44 || b == 124

@@ -24,9 +24,9 @@ use Rattle.op_writer.specs.declared.edge.Edge.{Edge}
 use Rattle.op_writer.specs.declared.edge.Edge.TheVariants.{Other, Word, Symbol, Prefix, Minus}
 use Rattle.op_base.specs.Characters.{is_symbol, is_word, is_small}
 use Rattle.op_writer.specs.Spelling.{is_symbolic, is_word_name, is_other_token, is_unquoted, name_text, quoted, escaped}
-use Rattle.op_writer.specs.Pieces.{edge_at, edge_of, prefix_edge, edge_behind, is_apart, set_apart, spaced}
+use Rattle.op_writer.specs.Fragments.{edge_at, edge_of, prefix_edge, edge_behind, is_apart, set_apart, spaced}
 use Rattle.op_readback.specs.ReadBack.{IsSmall}
-use Rattle.op_readback.proofs.Lexemes.{Lexeme, sign, name, prefix_name, number, lexeme_piece}
+use Rattle.op_readback.proofs.Lexemes.{Lexeme, sign, name, prefix_name, number, lexeme_fragment}
 use Rattle.op_readback.proofs.QuotedNames.{and-parts}
 use Rattle.op_readback.proofs.NameSpellings.{Stops, or-neither, by-symbol, word-spelled, symbol-spelled, quoted-spelled}
 use Rattle.op_readback.proofs.IntegerSpellings.{IsDigits, EndsNumber, decimal-digits, number-spelled}
@@ -198,7 +198,7 @@ lex-space rest at l minus r g =
 
 -- each lexeme gives its tokens
 abbrev Lexes : Lexeme → Edge → Type 0
-Lexes m e = (rest : List ℕ) (at : ℕ) (l minus : Bool) (r : Lexed) → After (edge_behind e (lexeme_piece m)) (is_risky m) rest
+Lexes m e = (rest : List ℕ) (at : ℕ) (l minus : Bool) (r : Lexed) → After (edge_behind e (lexeme_fragment m)) (is_risky m) rest
     → ((k : Bool) → lex (at + length (lexeme_text m)) 0 false k rest ≡ r)
     → lex at 0 l minus (lexeme_text m ++ rest) ≡ pushes (lexeme_tokens m at l) r
 
@@ -376,8 +376,8 @@ tokens at e l [] = []
 tokens at e l (m ∷ ms) =
     cond (is_space m) (tokens (at + 1) Other true ms)
     (cond (gap e (lexeme_text m))
-    (lexeme_tokens m (at + 1) true ++ tokens (at + 1 + length (lexeme_text m)) (edge_behind e (lexeme_piece m)) false ms)
-    (lexeme_tokens m at l ++ tokens (at + length (lexeme_text m)) (edge_behind e (lexeme_piece m)) false ms))
+    (lexeme_tokens m (at + 1) true ++ tokens (at + 1 + length (lexeme_text m)) (edge_behind e (lexeme_fragment m)) false ms)
+    (lexeme_tokens m at l ++ tokens (at + length (lexeme_text m)) (edge_behind e (lexeme_fragment m)) false ms))
 
 abbrev pub AreLexemes : List Lexeme → Type 0
 AreLexemes [] = Unit {0}
@@ -385,7 +385,7 @@ AreLexemes (m ∷ ms) = IsLexeme m × AreLexemes ms
 
 -- the text of lexemes, with the space and the full stop behind it
 abbrev pub ended : Edge → List Lexeme → List ℕ
-ended e ms = spaced e (map lexeme_piece ms) ++ 32 ∷ 46 ∷ []
+ended e ms = spaced e (map lexeme_fragment ms) ++ 32 ∷ 46 ∷ []
 
 pub space-apart : (e : Edge) → is_apart e 32 ≡ false
 space-apart Other = refl
@@ -399,7 +399,7 @@ pub behind : (e : Edge) (q : Bool) (ms : List Lexeme) → AreLexemes ms → IsCl
 behind e q [] h c = record { apart = space-apart e; quote = λ _. refl; fraction = refl }
 behind e q (m ∷ ms) h c =
     let b = begun m h.0 in
-    let more = spaced (edge_behind e (lexeme_piece m)) (map lexeme_piece ms) in
+    let more = spaced (edge_behind e (lexeme_fragment m)) (map lexeme_fragment ms) in
     let tail : List ℕ = 32 ∷ 46 ∷ [] in
     by_test (is_apart e b.first)
     (λ k. subst (After e q) (sym (ap (λ (x : List ℕ). (set_apart e x ++ more) ++ tail) b.bytes
@@ -419,7 +419,7 @@ end_token n = tok End (n + 1) (n + 2) true
 
 abbrev pub whole : ℕ → Edge → Bool → List Lexeme → Lexed
 whole at e l ms =
-    pushes (tokens at e l ms) (push (end_token (at + length (spaced e (map lexeme_piece ms)))) (record { tokens = []; fault = None }))
+    pushes (tokens at e l ms) (push (end_token (at + length (spaced e (map lexeme_fragment ms)))) (record { tokens = []; fault = None }))
 
 pushes-append : (ks js : List Known) (r : Lexed) → pushes (ks ++ js) r ≡ pushes ks (pushes js r)
 pushes-append [] js r = refl
@@ -434,56 +434,57 @@ ending n = push (end_token n) (record { tokens = []; fault = None })
 
 -- a lexeme that is no space, with or without a space before it
 step : (m : Lexeme) (ms : List Lexeme) → IsLexeme m → is_space m ≡ false → (e : Edge)
-    → After (edge_behind e (lexeme_piece m)) (is_risky m) (ended (edge_behind e (lexeme_piece m)) ms)
-    → ((at : ℕ) (l minus : Bool) → lex at 0 l minus (ended (edge_behind e (lexeme_piece m)) ms) ≡ whole at
-    (edge_behind e (lexeme_piece m)) l ms)
+    → After (edge_behind e (lexeme_fragment m)) (is_risky m) (ended (edge_behind e (lexeme_fragment m)) ms)
+    → ((at : ℕ) (l minus : Bool) → lex at 0 l minus (ended (edge_behind e (lexeme_fragment m)) ms) ≡ whole at
+    (edge_behind e (lexeme_fragment m)) l ms)
     → (at : ℕ) (l minus : Bool) → lex at 0 l minus (ended e (m ∷ ms)) ≡ whole at e l (m ∷ ms)
 step m ms h n e after rest at l minus =
     let t = lexeme_text m in
-    let e2 = edge_behind e (lexeme_piece m) in
-    let more = spaced e2 (map lexeme_piece ms) in
+    let e2 = edge_behind e (lexeme_fragment m) in
+    let more = spaced e2 (map lexeme_fragment ms) in
     let tail : List ℕ = 32 ∷ 46 ∷ [] in
     let split : (x : List ℕ) → set_apart e t ≡ x → ended e (m ∷ ms) ≡ x ++ (more ++ tail) =
     (λ x q. ap (λ (y : List ℕ). (y ++ more) ++ tail) q ∙ append_assoc x more tail) in
-    let size : (x : List ℕ) → set_apart e t ≡ x → length (spaced e (map lexeme_piece (m ∷ ms))) ≡ length x + length more =
+    let size : (x : List ℕ) → set_apart e t ≡ x → length (spaced e (map lexeme_fragment (m ∷ ms))) ≡ length x + length more =
     (λ x q. ap (λ (y : List ℕ). length (y ++ more)) q ∙ length-append x more) in
     by_test (gap e t)
     (λ k.
     let q = set-apart-is e t ∙ if_true (gap e t) (32 ∷ t) t k in
     let toks : tokens at e l (m ∷ ms) ≡ lexeme_tokens m (at + 1) true ++ tokens (at + 1 + length t) e2 false ms =
     if_false (is_space m) _ _ n ∙ if_true (gap e t) _ _ k in
-    let place : at + 1 + length t + length more ≡ at + length (spaced e (map lexeme_piece (m ∷ ms))) =
+    let place : at + 1 + length t + length more ≡ at + length (spaced e (map lexeme_fragment (m ∷ ms))) =
     (let z = size (32 ∷ t) q in let y : length (32 ∷ t) ≡ suc (length t) = refl in omega (arith, z, y)) in
     ap (lex at 0 l minus) (split (32 ∷ t) q)
     ∙ (lex-space (t ++ (more ++ tail)) at l minus _ (lexeme-lexes m h n e (more ++ tail) (at + 1) true false _ after
     (λ j. rest (at + 1 + length t) false j))
     ∙ (ap (λ (x : ℕ). pushes (lexeme_tokens m (at + 1) true) (pushes (tokens (at + 1 + length t) e2 false ms) (ending x))) place
     ∙ (sym (pushes-append (lexeme_tokens m (at + 1) true) (tokens (at + 1 + length t) e2 false ms)
-    (ending (at + length (spaced e (map lexeme_piece (m ∷ ms))))))
-    ∙ ap (λ (ks : List Known). pushes ks (ending (at + length (spaced e (map lexeme_piece (m ∷ ms)))))) (sym toks)))))
+    (ending (at + length (spaced e (map lexeme_fragment (m ∷ ms))))))
+    ∙ ap (λ (ks : List Known). pushes ks (ending (at + length (spaced e (map lexeme_fragment (m ∷ ms)))))) (sym toks)))))
     (λ k.
     let q = set-apart-is e t ∙ if_false (gap e t) (32 ∷ t) t k in
     let toks : tokens at e l (m ∷ ms) ≡ lexeme_tokens m at l ++ tokens (at + length t) e2 false ms =
     if_false (is_space m) _ _ n ∙ if_false (gap e t) _ _ k in
-    let place : at + length t + length more ≡ at + length (spaced e (map lexeme_piece (m ∷ ms))) = (let z = size t q in omega (arith, z)) in
+    let place : at + length t + length more ≡ at + length (spaced e (map lexeme_fragment (m ∷ ms))) = (let z = size t q in omega
+    (arith, z)) in
     ap (lex at 0 l minus) (split t q)
     ∙ (lexeme-lexes m h n e (more ++ tail) at l minus _ after (λ j. rest (at + length t) false j)
     ∙ (ap (λ (x : ℕ). pushes (lexeme_tokens m at l) (pushes (tokens (at + length t) e2 false ms) (ending x))) place
     ∙ (sym (pushes-append (lexeme_tokens m at l) (tokens (at + length t) e2 false ms)
-    (ending (at + length (spaced e (map lexeme_piece (m ∷ ms))))))
-    ∙ ap (λ (ks : List Known). pushes ks (ending (at + length (spaced e (map lexeme_piece (m ∷ ms)))))) (sym toks)))))
+    (ending (at + length (spaced e (map lexeme_fragment (m ∷ ms))))))
+    ∙ ap (λ (ks : List Known). pushes ks (ending (at + length (spaced e (map lexeme_fragment (m ∷ ms)))))) (sym toks)))))
 
 space-step : (ms : List Lexeme) (e : Edge) → ((at : ℕ) (l minus : Bool) → lex at 0 l minus (ended Other ms) ≡ whole at Other l ms)
     → (at : ℕ) (l minus : Bool) → lex at 0 l minus (ended e (sign 32 ∷ ms)) ≡ whole at e l (sign 32 ∷ ms)
 space-step ms e rest at l minus =
-    let more = spaced Other (map lexeme_piece ms) in
-    let q : spaced e (map lexeme_piece (sign 32 ∷ ms)) ≡ 32 ∷ more =
+    let more = spaced Other (map lexeme_fragment ms) in
+    let q : spaced e (map lexeme_fragment (sign 32 ∷ ms)) ≡ 32 ∷ more =
     ap (λ (x : List ℕ). x ++ more) (if_false (is_apart e 32) (32 ∷ 32 ∷ []) (32 ∷ []) (space-apart e)) in
     ap (λ (x : List ℕ). lex at 0 l minus (x ++ 32 ∷ 46 ∷ [])) q
     ∙ (lex-space (more ++ 32 ∷ 46 ∷ []) at l minus _ (rest (at + 1) true false)
-    ∙ ap (λ (n : ℕ). pushes (tokens (at + 1) Other true ms) (ending n)) (let z : length (spaced e (map lexeme_piece (sign 32 ∷ ms)))
+    ∙ ap (λ (n : ℕ). pushes (tokens (at + 1) Other true ms) (ending n)) (let z : length (spaced e (map lexeme_fragment (sign 32 ∷ ms)))
     ≡ suc (length more) = ap length q in
-    let p : at + 1 + length more ≡ at + length (spaced e (map lexeme_piece (sign 32 ∷ ms))) = omega (arith, z) in p))
+    let p : at + 1 + length more ≡ at + length (spaced e (map lexeme_fragment (sign 32 ∷ ms))) = omega (arith, z) in p))
 
 spaced-out : (m : Lexeme) (ms : List Lexeme) → is_space m ≡ true → (e : Edge)
     → ((at : ℕ) (l minus : Bool) → lex at 0 l minus (ended Other ms) ≡ whole at Other l ms)
@@ -504,5 +505,5 @@ lexed [] h q c e at l minus =
     (let p : at + 0 + 1 + 1 ≡ at + 0 + 2 = omega arith in p)
 lexed (m ∷ ms) h q c e at l minus = by_test (is_space m)
     (λ k. spaced-out m ms k e (λ a b d. lexed ms h.1 (is_risky m) c.1 Other a b d) at l minus)
-    (λ k. step m ms h.0 k e (behind (edge_behind e (lexeme_piece m)) (is_risky m) ms h.1 c.1) (λ a b d. lexed ms h.1 (is_risky m) c.1
-    (edge_behind e (lexeme_piece m)) a b d) at l minus)
+    (λ k. step m ms h.0 k e (behind (edge_behind e (lexeme_fragment m)) (is_risky m) ms h.1 c.1) (λ a b d. lexed ms h.1 (is_risky m) c.1
+    (edge_behind e (lexeme_fragment m)) a b d) at l minus)

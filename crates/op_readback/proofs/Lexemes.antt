@@ -12,7 +12,7 @@ use Rattle.op_writer.specs.declared.bound.Bound.TheVariants.{Whole}
 use Rattle.op_writer.specs.declared.notation.Notation.{Notation}
 use Rattle.op_writer.specs.declared.notation.Notation.TheVariants.{List as Listed, Braces, Infix, Prefix, Postfix}
 use Rattle.op_writer.specs.Spelling.{is_symbolic, name_text}
-use Rattle.op_writer.specs.Pieces.{Piece, plain, prefix_operator}
+use Rattle.op_writer.specs.Fragments.{Fragment, plain, prefix_operator}
 use Rattle.op_writer.specs.Text.{Place, within, rest, fits, left_of, right_of, is_operand, argument, is_operator, notation_of, letter_of}
 
 -- a bracket, a comma, a bar or a space; a name; a prefix operator of symbol characters; an integer with its sign
@@ -22,11 +22,11 @@ pub data Lexeme : Type 0 where
   prefix_name : List ℕ → Lexeme
   number : ℤ → Lexeme
 
-abbrev pub lexeme_piece : Lexeme → Piece
-lexeme_piece (sign b) = plain (b ∷ [])
-lexeme_piece (name f) = plain (name_text Quoted f)
-lexeme_piece (prefix_name f) = prefix_operator (name_text Quoted f)
-lexeme_piece (number i) = plain (signed_decimal i)
+abbrev pub lexeme_fragment : Lexeme → Fragment
+lexeme_fragment (sign b) = plain (b ∷ [])
+lexeme_fragment (name f) = plain (name_text Quoted f)
+lexeme_fragment (prefix_name f) = prefix_operator (name_text Quoted f)
+lexeme_fragment (number i) = plain (signed_decimal i)
 
 abbrev pub LexemeForm : Type 0
 LexemeForm = Place → List Lexeme

@@ -5,7 +5,7 @@ mod FirstWords
 mod IntegerSpellings
 mod KnownWords
 mod LetterTerms
-mod LexemePieces
+mod LexemeFragments
 mod LexemeQuotes
 mod LexemeTexts
 mod LexemeTokens

@@ -6,7 +6,7 @@ use Rattle.op_logic.proofs.BoolCases.{by_test, if_true, if_false}
 use Rattle.op_logic.specs.Term.{Term, var, int, node, arity}
 use Rattle.op_term.specs.Ops.{Table, IsTable}
 use Rattle.op_term.specs.declared.ops.Meaning.{Meaning}
-use Rattle.op_reader.specs.Row.{Piece, tree}
+use Rattle.op_reader.specs.Row.{Member, tree}
 use Rattle.op_reader.proofs.Spines.{tree_single}
 use Rattle.op_writer.specs.declared.style.Style.{Style}
 use Rattle.op_writer.specs.declared.bound.Bound.TheVariants.{Whole}
@@ -19,14 +19,14 @@ use Rattle.op_readback.proofs.RowTrees.{rows-are-terms}
 abbrev Text : Type 0
 Text = List ℕ
 
-abbrev IsTree : Term Text → List (Piece Text) → Type 0
+abbrev IsTree : Term Text → List (Member Text) → Type 0
 IsTree t row = tree 1200 row ≡ Some t
 
 alone-tree : (t : Term Text) → IsTree t (alone t)
 alone-tree t = tree_single 0 1200 t
 
 module _ (t : Term Text) (p : ℕ) (l : p ≤ 1200) where
-  fitting : (m : Meaning) (row : List (Piece Text)) → IsTree t (cond (nat_le m.priority 1200) row (alone t))
+  fitting : (m : Meaning) (row : List (Member Text)) → IsTree t (cond (nat_le m.priority 1200) row (alone t))
       → IsTree t (cond (nat_le m.priority p) row (alone t))
   fitting m row h = by_test (nat_le m.priority p)
       (λ e. let q : nat_le m.priority 1200 ≡ true = le-leb m.priority 1200 (omega (arith, l, leb-true m.priority p e)) in

@@ -19,9 +19,9 @@ use Rattle.op_writer.specs.declared.notation.Notation.TheVariants.{List as Liste
 use Rattle.op_writer.specs.declared.edge.Edge.{Edge}
 use Rattle.op_writer.specs.declared.edge.Edge.TheVariants.{Other}
 use Rattle.op_writer.specs.Spelling.{is_symbolic, name_text}
-use Rattle.op_writer.specs.Pieces.{edge_behind}
+use Rattle.op_writer.specs.Fragments.{edge_behind}
 use Rattle.op_writer.specs.Text.{within, rest, fits, left_of, right_of, is_operand, argument, is_operator, notation_of}
-use Rattle.op_readback.proofs.Lexemes.{Lexeme, sign, name, prefix_name, number, lexeme_piece, LexemeForm, in_brackets, infix_lexemes}
+use Rattle.op_readback.proofs.Lexemes.{Lexeme, sign, name, prefix_name, number, lexeme_fragment, LexemeForm, in_brackets, infix_lexemes}
 use Rattle.op_readback.proofs.Lexemes.{prefix_lexemes, further_lexemes, functional_lexemes, compound_lexemes, atom_lexemes}
 use Rattle.op_readback.proofs.Lexemes.{atom_form_lexemes, compound_form_lexemes, lexemes_of, all_lexemes, IsWritten, AreWritten}
 use Rattle.op_readback.proofs.LexemeTokens.{Known, tokens}
@@ -60,64 +60,64 @@ space os ns h at e l = h (at + 1) Other true
 comma : Even (sign 44 ∷ [])
 comma os ns h at e l =
     step (λ ks. unmatched os (firsts ks) ≡ None) (sign 44) ns refl at e l (λ at1 l1 _ _ _. h (at1 + 1)
-    (edge_behind e (lexeme_piece (sign 44))) false)
+    (edge_behind e (lexeme_fragment (sign 44))) false)
 
 bar : Even (sign 124 ∷ [])
 bar os ns h at e l =
     step (λ ks. unmatched os (firsts ks) ≡ None) (sign 124) ns refl at e l (λ at1 l1 _ _ _. h (at1 + 1)
-    (edge_behind e (lexeme_piece (sign 124))) false)
+    (edge_behind e (lexeme_fragment (sign 124))) false)
 
 names : (f : List ℕ) → Even (name f ∷ [])
 names f os ns h at e l = named (λ ks. unmatched os (firsts ks) ≡ None) f ns at e l
-    (λ q a b c d n l1 k. h n (edge_behind e (lexeme_piece (name f))) false)
-    (λ q a b c d n l1 k. h n (edge_behind e (lexeme_piece (name f))) false)
+    (λ q a b c d n l1 k. h n (edge_behind e (lexeme_fragment (name f))) false)
+    (λ q a b c d n l1 k. h n (edge_behind e (lexeme_fragment (name f))) false)
     (λ kind k a b n l1 x. by-name-kind (λ kind. unmatched os (record { kind = kind; from = a; to = b; layout_before = l1 } ∷ firsts (T n
-    (edge_behind e (lexeme_piece (name f))) false ns)) ≡ None)
-    (h n (edge_behind e (lexeme_piece (name f))) false) (h n (edge_behind e (lexeme_piece (name f))) false) kind k)
+    (edge_behind e (lexeme_fragment (name f))) false ns)) ≡ None)
+    (h n (edge_behind e (lexeme_fragment (name f))) false) (h n (edge_behind e (lexeme_fragment (name f))) false) kind k)
 
 prefix-names : (f : List ℕ) → Even (prefix_name f ∷ [])
 prefix-names f os ns h at e l =
     step (λ ks. unmatched os (firsts ks) ≡ None) (prefix_name f) ns refl at e l
-    (λ at1 l1 _ _ _. h _ (edge_behind e (lexeme_piece (prefix_name f))) false)
+    (λ at1 l1 _ _ _. h _ (edge_behind e (lexeme_fragment (prefix_name f))) false)
 
 numbers : (i : ℤ) → Even (number i ∷ [])
 numbers (pos k) os ns h at e l =
     step (λ ks. unmatched os (firsts ks) ≡ None) (number (pos k)) ns refl at e l
-    (λ at1 l1 _ _ _. h _ (edge_behind e (lexeme_piece (number (pos k)))) false)
+    (λ at1 l1 _ _ _. h _ (edge_behind e (lexeme_fragment (number (pos k)))) false)
 numbers (negsuc k) os ns h at e l =
     step (λ ks. unmatched os (firsts ks) ≡ None) (number (negsuc k)) ns refl at e l
-    (λ at1 l1 _ _ _. h _ (edge_behind e (lexeme_piece (number (negsuc k)))) false)
+    (λ at1 l1 _ _ _. h _ (edge_behind e (lexeme_fragment (number (negsuc k)))) false)
 
 -- brackets
 close-round : Closes Round (sign 41 ∷ [])
 close-round place os ns h at e l =
     step (λ ks. unmatched (record { bracket = Round; place = place } ∷ os) (firsts ks) ≡ None) (sign 41) ns refl at e l
-    (λ at1 l1 _ _ _. h (at1 + 1) (edge_behind e (lexeme_piece (sign 41))) false)
+    (λ at1 l1 _ _ _. h (at1 + 1) (edge_behind e (lexeme_fragment (sign 41))) false)
 
 close-square : Closes Square (sign 93 ∷ [])
 close-square place os ns h at e l =
     step (λ ks. unmatched (record { bracket = Square; place = place } ∷ os) (firsts ks) ≡ None) (sign 93) ns refl at e l
-    (λ at1 l1 _ _ _. h (at1 + 1) (edge_behind e (lexeme_piece (sign 93))) false)
+    (λ at1 l1 _ _ _. h (at1 + 1) (edge_behind e (lexeme_fragment (sign 93))) false)
 
 close-curly : Closes Curly (sign 125 ∷ [])
 close-curly place os ns h at e l =
     step (λ ks. unmatched (record { bracket = Curly; place = place } ∷ os) (firsts ks) ≡ None) (sign 125) ns refl at e l
-    (λ at1 l1 _ _ _. h (at1 + 1) (edge_behind e (lexeme_piece (sign 125))) false)
+    (λ at1 l1 _ _ _. h (at1 + 1) (edge_behind e (lexeme_fragment (sign 125))) false)
 
 in-round : (ms : List Lexeme) → Closes Round ms → Even (sign 40 ∷ ms)
 in-round ms f os ns h at e l =
     step (λ ks. unmatched os (firsts ks) ≡ None) (sign 40) (ms ++ ns) refl at e l (λ at1 l1 _ _ _. f at1 os ns h (at1 + 1)
-    (edge_behind e (lexeme_piece (sign 40))) false)
+    (edge_behind e (lexeme_fragment (sign 40))) false)
 
 in-square : (ms : List Lexeme) → Closes Square ms → Even (sign 91 ∷ ms)
 in-square ms f os ns h at e l =
     step (λ ks. unmatched os (firsts ks) ≡ None) (sign 91) (ms ++ ns) refl at e l (λ at1 l1 _ _ _. f at1 os ns h (at1 + 1)
-    (edge_behind e (lexeme_piece (sign 91))) false)
+    (edge_behind e (lexeme_fragment (sign 91))) false)
 
 in-curly : (ms : List Lexeme) → Closes Curly ms → Even (sign 123 ∷ ms)
 in-curly ms f os ns h at e l =
     step (λ ks. unmatched os (firsts ks) ≡ None) (sign 123) (ms ++ ns) refl at e l (λ at1 l1 _ _ _. f at1 os ns h (at1 + 1)
-    (edge_behind e (lexeme_piece (sign 123))) false)
+    (edge_behind e (lexeme_fragment (sign 123))) false)
 
 brackets : (b : Bool) (ms : List Lexeme) → Even ms → Even (in_brackets b ms)
 brackets true ms f = in-round (ms ++ sign 41 ∷ []) (then-closes Round ms (sign 41 ∷ []) f close-round)

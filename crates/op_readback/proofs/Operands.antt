@@ -13,7 +13,7 @@ use Rattle.op_term.specs.declared.ops.OpKind.TheVariants.{Xfx, Xfy, Yfx, Fy, Fx,
 use Rattle.op_term.specs.declared.ops.Meaning.{Meaning}
 use Rattle.op_reader.specs.declared.row_kind.RowKind.{RowKind}
 use Rattle.op_reader.specs.declared.row_kind.RowKind.TheVariants.{Clause, Arguments, Elements, Last}
-use Rattle.op_reader.specs.Row.{Piece, operator as an_op, tree}
+use Rattle.op_reader.specs.Row.{Member, operator as an_op, tree}
 use Rattle.op_reader.specs.Words.{operator_of}
 use Rattle.op_writer.specs.declared.style.Style.TheVariants.{Quoted}
 use Rattle.op_writer.specs.declared.bound.Bound.{Bound}
@@ -88,11 +88,11 @@ module _ (ops : Table) (table : IsTable ops) (n : ℕ) where
       }
 
   -- an operand's words, from any text that ends before it
-  abbrev pub Takes : RowKind → List Lexeme → List Lexeme → List (Piece Text) → Type 0
+  abbrev pub Takes : RowKind → List Lexeme → List Lexeme → List (Member Text) → Type 0
   Takes c xs ns row = (at : ℕ) (e : Edge) (l : Bool) → Taken ops n c (T at e l (xs ++ ns)) ns row
 
   -- in brackets where it doesn't fit
-  pub boxed : (t : Term Text) (xs : List Lexeme) (row : List (Piece Text)) (p : ℕ) (b : Bool) (bound : Bound) (c : RowKind)
+  pub boxed : (t : Term Text) (xs : List Lexeme) (row : List (Member Text)) (p : ℕ) (b : Bool) (bound : Bound) (c : RowKind)
       → ((c : RowKind) → Suits c p → (ns : List Lexeme) → Behind (Operand 0) ns → Takes c xs ns row)
       → (b ≡ true → Suits c p) → tree 1200 row ≡ Some t → (ns : List Lexeme) → Behind bound ns
       → Takes c (in_brackets (not b) xs) ns (cond b row (alone t))
@@ -122,7 +122,7 @@ module _ (ops : Table) (table : IsTable ops) (n : ℕ) where
       ap (λ (o : Option Meaning). elim o as (λ _. ℕ) [ Some m ↦ m.priority | None ↦ 0 ]) (q ∙ ap (λ r. r.as_infix) table.comma)
 
   -- an infix operator and its operands
-  pub infix-core : (f : Text) (m : Meaning) → infix_in ops f ≡ Some m → (xs ys : List Lexeme) (ra rb : List (Piece Text))
+  pub infix-core : (f : Text) (m : Meaning) → infix_in ops f ≡ Some m → (xs ys : List Lexeme) (ra rb : List (Member Text))
       → ((c : RowKind) → Suits c (limit (left_of m)) → (ns : List Lexeme) → Behind (left_of m) ns → Takes c xs ns ra)
       → ((c : RowKind) → Suits c (limit (right_of m)) → (ns : List Lexeme) → Behind (right_of m) ns → Takes c ys ns rb)
       → (c : RowKind) → Suits c m.priority → (ns : List Lexeme) → Behind (Operand 0) ns
@@ -140,7 +140,7 @@ module _ (ops : Table) (table : IsTable ops) (n : ℕ) where
       (tb c (suits-weak c m.priority (limit (right_of m)) ro.1 s) ns (as-operand (Operand 0) (right_of m) ns ro.0 b)))
 
   -- a prefix operator and its operand
-  pub prefix-core : (f : Text) (m : Meaning) → prefix_in ops f ≡ Some m → (ys : List Lexeme) (rb : List (Piece Text))
+  pub prefix-core : (f : Text) (m : Meaning) → prefix_in ops f ≡ Some m → (ys : List Lexeme) (rb : List (Member Text))
       → ((ns : List Lexeme) (at : ℕ) (e : Edge) (l : Bool) → Begins ops (right_of m) e l (T at e l (ys ++ ns)))
       → ((c : RowKind) → Suits c (limit (right_of m)) → (ns : List Lexeme) → Behind (right_of m) ns → Takes c ys ns rb)
       → (c : RowKind) → Suits c m.priority → (ns : List Lexeme) → Behind (Operand 0) ns
@@ -166,7 +166,7 @@ module _ (ops : Table) (table : IsTable ops) (n : ℕ) where
       by Fx h = absurd (let z : false ≡ true = h in cc)
 
   -- an operand and its postfix operator
-  pub postfix-core : (f : Text) (m : Meaning) → postfix_in ops f ≡ Some m → (xs : List Lexeme) (ra : List (Piece Text))
+  pub postfix-core : (f : Text) (m : Meaning) → postfix_in ops f ≡ Some m → (xs : List Lexeme) (ra : List (Member Text))
       → ((c : RowKind) → Suits c (limit (left_of m)) → (ns : List Lexeme) → Behind (left_of m) ns → Takes c xs ns ra)
       → (c : RowKind) → Suits c m.priority → (ns : List Lexeme) → Behind (Operand 0) ns
       → Takes c (xs ++ (sign 32 ∷ name f ∷ [])) ns (ra ++ an_op (operator_of f m) ∷ [])

@@ -7,7 +7,7 @@ use Rattle.op_logic.specs.Term.{Term, node, no_args, arg}
 use Rattle.op_term.specs.Ops.{Table, IsTable, IsMeaning, is_prefix, is_infix, is_postfix}
 use Rattle.op_term.specs.declared.ops.Meaning.{Meaning}
 use Rattle.op_reader.specs.declared.row_kind.RowKind.{RowKind}
-use Rattle.op_reader.specs.Row.{Piece, tree, operator as an_op}
+use Rattle.op_reader.specs.Row.{Member, tree, operator as an_op}
 use Rattle.op_writer.specs.declared.style.Style.{Style}
 use Rattle.op_writer.specs.declared.bound.Bound.{Bound}
 use Rattle.op_writer.specs.declared.bound.Bound.TheVariants.{Whole}
@@ -34,7 +34,7 @@ module _ (ops : Table) (table : IsTable ops) (n : ℕ) (style : Style) where
   T = tokens
 
   -- the tree of the row of an operator and its operands
-  whole-tree : (t : Term Text) (r : Bound → List (Piece Text)) (m : Meaning) (row : List (Piece Text)) → m.priority ≤ 1200
+  whole-tree : (t : Term Text) (r : Bound → List (Member Text)) (m : Meaning) (row : List (Member Text)) → m.priority ≤ 1200
       → r (Whole 1200) ≡ cond (fits (Whole 1200) m) row (alone t) → tree 1200 (r (Whole 1200)) ≡ Some t → tree 1200 row ≡ Some t
   whole-tree t r m row h e k = ap (tree 1200) (sym (e ∙ if_true (nat_le m.priority 1200) row (alone t) (le-leb m.priority 1200 h))) ∙ k
 
@@ -47,7 +47,7 @@ module _ (ops : Table) (table : IsTable ops) (n : ℕ) (style : Style) where
       let i = notation-infix ops style f m e in
       let w : IsMeaning is_infix m = subst (λ (o : Option Meaning). IfSome o (IsMeaning is_infix)) i (table.infixes f) in
       let t : Term Text = node f (arg a (arg b no_args)) in
-      let row : List (Piece Text) = row_of ops style a (left_of m) ++ an_op (operator_of f m) ∷ row_of ops style b (right_of m) in
+      let row : List (Member Text) = row_of ops style a (left_of m) ++ an_op (operator_of f m) ∷ row_of ops style b (right_of m) in
       boxed ops table n t (lexemes_of ops style a (within (left_of m)) ++
       (infix_lexemes f ++ lexemes_of ops style b (within (right_of m)))) row
       m.priority (fits bound m) bound c
@@ -65,7 +65,7 @@ module _ (ops : Table) (table : IsTable ops) (n : ℕ) (style : Style) where
       let i = notation-postfix ops style f m e in
       let w : IsMeaning is_postfix m = subst (λ (o : Option Meaning). IfSome o (IsMeaning is_postfix)) i (table.postfixes f) in
       let t : Term Text = node f (arg a no_args) in
-      let row : List (Piece Text) = row_of ops style a (left_of m) ++ an_op (operator_of f m) ∷ [] in
+      let row : List (Member Text) = row_of ops style a (left_of m) ++ an_op (operator_of f m) ∷ [] in
       boxed ops table n t (lexemes_of ops style a (within (left_of m)) ++ (sign 32 ∷ name f ∷ [])) row m.priority (fits bound m) bound c
       (postfix-core ops table n f m i (lexemes_of ops style a (within (left_of m))) (row_of ops style a (left_of m)) (ra (left_of m)))
       (λ q. suits-weak c (limit bound) m.priority (fits-limit f bound m q) s)
@@ -84,7 +84,7 @@ module _ (ops : Table) (table : IsTable ops) (n : ℕ) (style : Style) where
       let i = notation-prefix ops style f m e in
       let w : IsMeaning is_prefix m = subst (λ (o : Option Meaning). IfSome o (IsMeaning is_prefix)) i (table.prefixes f) in
       let t : Term Text = node f (arg a no_args) in
-      let row : List (Piece Text) = an_op (operator_of f m) ∷ row_of ops style a (right_of m) in
+      let row : List (Member Text) = an_op (operator_of f m) ∷ row_of ops style a (right_of m) in
       boxed ops table n t (prefix_lexemes f ++ lexemes_of ops style a (within (right_of m))) row m.priority (fits bound m) bound c
       (prefix-core ops table n f m i (lexemes_of ops style a (within (right_of m))) (row_of ops style a (right_of m))
       (sa (right_of m)) (ra (right_of m)))

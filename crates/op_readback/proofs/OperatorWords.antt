@@ -15,8 +15,8 @@ use Rattle.op_token.specs.declared.token.TokenKind.TheVariants.{Name, Integer, C
 use Rattle.op_token.specs.Spelling.{least_magnitude}
 use Rattle.op_reader.specs.declared.row_kind.RowKind.{RowKind}
 use Rattle.op_reader.specs.declared.row_kind.RowKind.TheVariants.{Clause, Arguments, Elements, Last}
-use Rattle.op_reader.specs.Row.{Operator, operand as a_piece}
-use Rattle.op_reader.specs.Words.{AsOperand, prefix, plain, sign as a_sign, AsOperator, joins, misplaced, Word, word, comma, operator_of}
+use Rattle.op_reader.specs.Row.{Operator, operand as a_member}
+use Rattle.op_reader.specs.Words.{AsOperand, prefix, plain, minus as a_minus, AsOperator, joins, misplaced, Word, word, comma, operator_of}
 use Rattle.op_reader.specs.Words.{as_operator, integer_word, signed_or_bare, opens, magnitude_behind}
 use Rattle.op_reader.specs.Roles.{Parts, single, levels_of, operator, operand, Expected, an_operand, an_operator, behind_operator, on_rows}
 use Rattle.op_reader.specs.Roles.{roles}
@@ -27,15 +27,15 @@ use Rattle.op_writer.specs.declared.edge.Edge.TheVariants.{Other}
 use Rattle.op_writer.specs.Spelling.{is_symbolic, name_text}
 use Rattle.op_writer.specs.declared.bound.Bound.{Bound}
 use Rattle.op_writer.specs.Text.{is_operand}
-use Rattle.op_writer.specs.Pieces.{edge_behind, is_apart, prefix_edge}
+use Rattle.op_writer.specs.Fragments.{edge_behind, is_apart, prefix_edge}
 use Rattle.op_readback.specs.ReadBack.{IsSmall}
-use Rattle.op_readback.proofs.Lexemes.{Lexeme, sign, name, prefix_name, number, lexeme_piece, infix_lexemes, prefix_lexemes}
+use Rattle.op_readback.proofs.Lexemes.{Lexeme, sign, name, prefix_name, number, lexeme_fragment, infix_lexemes, prefix_lexemes}
 use Rattle.op_readback.proofs.LexemeTexts.{lexeme_text, unquoted-text}
 use Rattle.op_readback.proofs.LexemeTokens.{Known, tok, tokens}
 use Rattle.op_readback.proofs.KnownWords.{firsts, k_word, k_words, k_operand, k_negative, k_alone, k_bare, minus_name}
 use Rattle.op_readback.proofs.FirstWords.{step, no-pair, ender-pair, integer-pair, NameWord, name-word, prefix-word, no-negative, Begins}
 use Rattle.op_readback.proofs.LexemeQuotes.{symbolic-unquoted}
-use Rattle.op_readback.proofs.OperandRoles.{over, Taken, Link, one-taken, piece-row}
+use Rattle.op_readback.proofs.OperandRoles.{over, Taken, Link, one-taken, member-row}
 
 abbrev Text : Type 0
 Text = List ℕ
@@ -105,11 +105,11 @@ module _ (ops : Table) (table : IsTable ops) (n : ℕ) where
       let w = name-word ops f ms at e l in
       record {
         after = w.after;
-        edge = edge_behind e (lexeme_piece (name f));
+        edge = edge_behind e (lexeme_fragment (name f));
         layout = false;
         the_word = word w.place w.operand (joins (operator_of f m));
         words = ap (levels_of n) (w.words ∙ ap (λ (x : AsOperator Text). word w.place w.operand x ∷ k_words ops false
-            (T w.after (edge_behind e (lexeme_piece (name f))) false ms)) (w.operator_is r ∙ h));
+            (T w.after (edge_behind e (lexeme_fragment (name f))) false ms)) (w.operator_is r ∙ h));
         is_roles =
             λ ps stop. joins-roles c w.place w.operand (operator_of f m) ps stop ∙ ap (on_rows (operator (operator_of f m))) (b ps stop);
       }
@@ -122,7 +122,7 @@ module _ (ops : Table) (table : IsTable ops) (n : ℕ) where
   comma-link : (o : Operator Text) → is_infix o.kind ≡ true → as_operator ops (codes ",") ≡ joins o
       → (ms : List Lexeme) (at : ℕ) (e : Edge) (l : Bool) → Link ops n Clause an_operator an_operand o (T at e l (sign 44 ∷ ms)) ms
   comma-link o k h ms at e l = step (λ ks. Link ops n Clause an_operator an_operand o ks ms) (sign 44) ms refl at e l (λ at1 l1 _ _ _.
-      let e1 = edge_behind e (lexeme_piece (sign 44)) in let js = T (at1 + 1) e1 false ms in
+      let e1 = edge_behind e (lexeme_fragment (sign 44)) in let js = T (at1 + 1) e1 false ms in
       record {
         after = at1 + 1;
         edge = e1;
@@ -207,7 +207,7 @@ module _ (ops : Table) (table : IsTable ops) (n : ℕ) where
       (λ s. subst (λ (xs : List Lexeme). Link ops n c an_operand an_operand (operator_of f m) (T at e l (xs ++ ms)) ms)
       (sym (if_false (is_symbolic (name_text Quoted f)) _ _ s))
       (let w = name-word ops f (sign 32 ∷ ms) at e l in let e2 = edge_behind e
-      (lexeme_piece (name f)) in let x = b (w.after + 1) Other true in
+      (lexeme_fragment (name f)) in let x = b (w.after + 1) Other true in
       spaced-link c an_operand an_operand (operator_of f m) (T at e l (name f ∷ sign 32 ∷ ms)) ms
       (prefix-link-of c f m e2 (T at e l (name f ∷ sign 32 ∷ ms)) (sign 32 ∷ ms) h w (x.laid refl) (λ q. x.laid_digit refl) (x.alone o))))
 
@@ -215,9 +215,9 @@ module _ (ops : Table) (table : IsTable ops) (n : ℕ) where
   pub atom-taken : (c : RowKind) (f : Text) (ns : List Lexeme)
       → ((at : ℕ) (e : Edge) → (opens (firsts (T at e false ns)) ≡ false) × (magnitude_behind (firsts (T at e false ns)) ≡ None))
       → ((at : ℕ) (e : Edge) (P : Type 0) → (prefix_in ops f ≡ None → P) → (k_alone ops (T at e false ns) ≡ true → P) → P)
-      → (at : ℕ) (e : Edge) (l : Bool) → Taken ops n c (T at e l (name f ∷ ns)) ns (a_piece (atom f) ∷ [])
+      → (at : ℕ) (e : Edge) (l : Bool) → Taken ops n c (T at e l (name f ∷ ns)) ns (a_member (atom f) ∷ [])
   atom-taken c f ns h k at e l =
-      let w = name-word ops f ns at e l in let e2 = edge_behind e (lexeme_piece (name f)) in let js = T w.after e2 false ns in
+      let w = name-word ops f ns at e l in let e2 = edge_behind e (lexeme_fragment (name f)) in let js = T w.after e2 false ns in
       let g = h w.after e2 in
       let is : w.operand ≡ plain (atom f) = k w.after e2 (w.operand ≡ plain (atom f)) (λ q. w.atom_is g.0 g.1 q)
       (λ q. w.alone_is g.0 g.1 q) in
@@ -226,48 +226,48 @@ module _ (ops : Table) (table : IsTable ops) (n : ℕ) where
 
   -- integers
   two-words : (a : ℕ) (op : AsOperator Text) (t : Token) (m k : ℕ) (ws : List (Word Text))
-      → levels_of n (word a (a_sign (int (negsuc k))) op ∷ integer_word t m ∷ ws)
-      ≡ over (λ ps. single (word a (a_sign (int (negsuc k))) op) (single (integer_word t m) ps)) (levels_of n ws)
+      → levels_of n (word a (a_minus (int (negsuc k))) op ∷ integer_word t m ∷ ws)
+      ≡ over (λ ps. single (word a (a_minus (int (negsuc k))) op) (single (integer_word t m) ps)) (levels_of n ws)
   two-words a op t m k ws = by_test (nat_lt m least_magnitude)
-      (λ e. subst (λ (w : Word Text). levels_of n (word a (a_sign (int (negsuc k))) op ∷ w ∷ ws)
-      ≡ over (λ ps. single (word a (a_sign (int (negsuc k))) op) (single w ps)) (levels_of n ws))
+      (λ e. subst (λ (w : Word Text). levels_of n (word a (a_minus (int (negsuc k))) op ∷ w ∷ ws)
+      ≡ over (λ ps. single (word a (a_minus (int (negsuc k))) op) (single w ps)) (levels_of n ws))
       (sym (if_true (nat_lt m least_magnitude) _ _ e)) refl)
-      (λ e. subst (λ (w : Word Text). levels_of n (word a (a_sign (int (negsuc k))) op ∷ w ∷ ws)
-      ≡ over (λ ps. single (word a (a_sign (int (negsuc k))) op) (single w ps)) (levels_of n ws))
+      (λ e. subst (λ (w : Word Text). levels_of n (word a (a_minus (int (negsuc k))) op ∷ w ∷ ws)
+      ≡ over (λ ps. single (word a (a_minus (int (negsuc k))) op) (single w ps)) (levels_of n ws))
       (sym (if_false (nat_lt m least_magnitude) _ _ e)) refl)
 
   pub int-taken : (c : RowKind) (i : ℤ) → IsSmall i → (ns : List Lexeme) (at : ℕ) (e : Edge) (l : Bool)
-      → Taken ops n c (T at e l (number i ∷ ns)) ns (a_piece (int i) ∷ [])
+      → Taken ops n c (T at e l (number i ∷ ns)) ns (a_member (int i) ∷ [])
   int-taken c (pos k) h ns at e l =
-      step (λ ks. Taken ops n c ks ns (a_piece (int (pos k)) ∷ [])) (number (pos k)) ns refl at e l (λ at1 l1 _ _ _.
-      let e1 = edge_behind e (lexeme_piece (number (pos k))) in let at2 = at1 + length (decimal k) in let js = T at2 e1 false ns in
+      step (λ ks. Taken ops n c ks ns (a_member (int (pos k)) ∷ [])) (number (pos k)) ns refl at e l (λ at1 l1 _ _ _.
+      let e1 = edge_behind e (lexeme_fragment (number (pos k))) in let at2 = at1 + length (decimal k) in let js = T at2 e1 false ns in
       one-taken ops n c at1 (int (pos k)) misplaced ((tok (Integer k) at1 at2 l1, []) ∷ js) at2 e1 ns
       (ap (levels_of n) (no-pair ops (tok (Integer k) at1 at2 l1, []) js (integer-pair ops k (firsts js))
       ∙ ap (λ (w : Word Text). w ∷ k_words ops false js) (if_true (nat_lt k least_magnitude) _ _
       (lt-ltb k least_magnitude (let z : k < 2 ^ 63 = h in omega (arith, z)))))))
   int-taken c (negsuc k) h ns at e l =
-      step (λ ks. Taken ops n c ks ns (a_piece (int (negsuc k)) ∷ [])) (number (negsuc k)) ns refl at e l (λ at1 l1 _ _ _.
-      let e1 = edge_behind e (lexeme_piece (number (negsuc k))) in
+      step (λ ks. Taken ops n c ks ns (a_member (int (negsuc k)) ∷ [])) (number (negsuc k)) ns refl at e l (λ at1 l1 _ _ _.
+      let e1 = edge_behind e (lexeme_fragment (number (negsuc k))) in
       let at2 = at1 + length (lexeme_text (number (negsuc k))) in
       let js = T at2 e1 false ns in
       let two : Known = (tok (Integer (suc k)) (at1 + 1) (at1 + 1 + length (decimal (suc k))) false, []) in
       let one : Known = (tok Name at1 (at1 + 1) l1, codes "-") in
       let w2 = k_word ops two js in
-      let neg : k_operand ops one (two ∷ js) ≡ a_sign (int (negsuc k)) =
+      let neg : k_operand ops one (two ∷ js) ≡ a_minus (int (negsuc k)) =
       ap (λ (x : Option ℤ). signed_or_bare x (k_bare ops (codes "-") (two ∷ js))) (if_true (nat_le (suc k) least_magnitude)
       (Some (negsuc k)) None (le-leb (suc k) least_magnitude (let z : k < 2 ^ 63 = h in omega (arith, z)))) in
       record {
         after = at2;
         edge = e1;
-        parts = λ ps. single (word at1 (a_sign (int (negsuc k))) (as_operator ops (codes "-"))) (single w2 ps);
+        parts = λ ps. single (word at1 (a_minus (int (negsuc k))) (as_operator ops (codes "-"))) (single w2 ps);
         words = ap (levels_of n) (no-pair ops one (two ∷ js) refl
             ∙ (ap (λ (x : AsOperand Text). word at1 x (as_operator ops (codes "-")) ∷ k_words ops false (two ∷ js)) neg
-            ∙ ap (λ (ws : List (Word Text)). word at1 (a_sign (int (negsuc k))) (as_operator ops (codes "-")) ∷ ws)
+            ∙ ap (λ (ws : List (Word Text)). word at1 (a_minus (int (negsuc k))) (as_operator ops (codes "-")) ∷ ws)
             (no-pair ops two js (integer-pair ops (suc k) (firsts js)))))
             ∙ two-words at1 (as_operator ops (codes "-")) (tok (Integer (suc k)) (at1 + 1) (at1 + 1 + length (decimal (suc k))) false)
             (suc k) k (k_words ops false js);
         rows = operand (int (negsuc k));
         is_roles = λ ps stop. refl;
-        is_read = λ rs. piece-row (a_piece (int (negsuc k))) (read_rows known rs);
+        is_read = λ rs. member-row (a_member (int (negsuc k))) (read_rows known rs);
         is_excess = λ rs. refl;
       })

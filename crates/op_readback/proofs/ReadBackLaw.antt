@@ -9,7 +9,7 @@ use Rattle.op_term.specs.declared.quotes.DoubleQuotes.{DoubleQuotes}
 use Rattle.op_reader.specs.declared.fault.ReadFaultKind.TheVariants.{Token as BadToken, Unbalanced, NoOperand, Priority}
 use Rattle.op_reader.specs.declared.row_kind.RowKind.TheVariants.{Clause}
 use Rattle.op_reader.specs.FirstClause.{unmatched}
-use Rattle.op_reader.specs.Row.{Piece, tree}
+use Rattle.op_reader.specs.Row.{Member, tree}
 use Rattle.op_reader.specs.Roles.{Levels, none, Rows, done, an_operand, roles, clause_roles}
 use Rattle.op_reader.specs.Terms.{known, ReadRows, read_rows, term_of, excess_in}
 use Rattle.op_reader.specs.Reading.{Outcome, term, refused, refused_or, first_place, rows_outcome, words_outcome}
@@ -36,7 +36,7 @@ Text = List ℕ
 
 module _ (ops : Table) (table : IsTable ops) (style : Style) where
   -- tokens that are read as one operand
-  taken-outcome : (t : Term Text) (row : List (Piece Text)) → tree 1200 row ≡ Some t → (n : ℕ) (ks : List Known)
+  taken-outcome : (t : Term Text) (row : List (Member Text)) → tree 1200 row ≡ Some t → (n : ℕ) (ks : List Known)
       → unmatched [] (firsts ks) ≡ None → Taken ops (n + 1) Clause ks [] row
       → known_outcome ops n ks ≡ term t [] (n + 2)
   taken-outcome t row w n ks b a =
@@ -44,7 +44,7 @@ module _ (ops : Table) (table : IsTable ops) (style : Style) where
       let has_roles : clause_roles (n + 1) (k_words ops false ks) ≡ Ok rs =
       ap (λ (l : Levels Text). roles Clause an_operand l.inner.parts l.inner.stop) a.words ∙ a.is_roles none (n + 1) in
       let is_read : read_rows known rs ≡ Some (read row [] None) = a.is_read done
-      ∙ ap (λ (xs : List (Piece Text)). Some (read xs [] None)) (append-nil row) in
+      ∙ ap (λ (xs : List (Member Text)). Some (read xs [] None)) (append-nil row) in
       let has_term : term_of known rs ≡ Some t = ap (option_and_then (λ (r : ReadRows Text). tree 1200 r.row)) is_read ∙ w in
       let place = first_place (firsts ks) in
       ap (λ (x : Option ℕ). refused_or Unbalanced x (words_outcome place [] (n + 1) (n + 2) (k_words ops false ks))) b

@@ -20,12 +20,12 @@ use Rattle.op_writer.specs.declared.style.Style.TheVariants.{Quoted, Canonical}
 use Rattle.op_writer.specs.declared.bound.Bound.TheVariants.{Whole}
 use Rattle.op_writer.specs.declared.edge.Edge.TheVariants.{Other}
 use Rattle.op_writer.specs.Spelling.{name_text}
-use Rattle.op_writer.specs.Pieces.{Piece, spaced}
+use Rattle.op_writer.specs.Fragments.{Fragment, spaced}
 use Rattle.op_writer.specs.Text
 use Rattle.op_writer.specs.Text.{within}
-use Rattle.op_readback.proofs.Lexemes.{Lexeme, lexeme_piece, lexemes_of, IsWritten}
+use Rattle.op_readback.proofs.Lexemes.{Lexeme, lexeme_fragment, lexemes_of, IsWritten}
 use Rattle.op_readback.proofs.LexemeTexts.{IsClean}
-use Rattle.op_readback.proofs.LexemePieces.{same-lexemes}
+use Rattle.op_readback.proofs.LexemeFragments.{same-lexemes}
 use Rattle.op_readback.proofs.LexemeTokens.{Known, pushes, tokens, AreLexemes, ended, end_token, lexed}
 use Rattle.op_readback.proofs.KnownWords.{OfKind, AreKnown, firsts, k_words, words-are, no-variables}
 use Rattle.op_readback.proofs.TokenNames.{tokens-known}
@@ -79,11 +79,12 @@ module _ (ops : Table) (quotes : DoubleQuotes) where
 
   -- the text of lexemes, read
   pub reads : (ms : List Lexeme) → AreLexemes ms → IsClean false ms
-      → reading_of ops quotes (ended Other ms) ≡ known_outcome ops (length (spaced Other (map lexeme_piece ms))) (tokens 0 Other false ms)
+      → reading_of ops quotes (ended Other ms) ≡ known_outcome ops (length (spaced Other (map lexeme_fragment ms)))
+      (tokens 0 Other false ms)
   unfolding reading_of
   reads ms h c =
       let text = ended Other ms in
-      let n = length (spaced Other (map lexeme_piece ms)) in
+      let n = length (spaced Other (map lexeme_fragment ms)) in
       let ks = tokens 0 Other false ms in
       let known = tokens-known ms h false c text [] Other false refl in
       let r : Lexed = push (end_token n) (record { tokens = []; fault = None }) in
@@ -108,8 +109,8 @@ module _ (ops : Table) (quotes : DoubleQuotes) where
       let ms = lexemes_of ops style t (within (Whole p)) in
       let f = fine ops style t h (Whole p) in
       let e = same-lexemes ops style same t h (within (Whole p)) in
-      ap (λ (ps : List Piece). reading_of ops quotes (spaced Other ps ++ codes " .")) e
-      ∙ (reads ms f.0 f.1 ∙ ap (λ (ps : List Piece). known_outcome ops (length (spaced Other ps)) (tokens 0 Other false ms)) (sym e))
+      ap (λ (ps : List Fragment). reading_of ops quotes (spaced Other ps ++ codes " .")) e
+      ∙ (reads ms f.0 f.1 ∙ ap (λ (ps : List Fragment). known_outcome ops (length (spaced Other ps)) (tokens 0 Other false ms)) (sym e))
 
   pub quoted-reads : (t : Term (List ℕ)) → IsWritten Quoted t → (p : ℕ)
       → reading_of ops quotes (Text.text_of ops Quoted t p ++ codes " .") ≡ known_outcome ops (length (Text.text_of ops Quoted t p))

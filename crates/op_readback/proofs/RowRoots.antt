@@ -7,7 +7,7 @@ use Rattle.op_term.specs.declared.ops.OpKind.{OpKind}
 use Rattle.op_term.specs.declared.ops.OpKind.TheVariants.{Xfx, Xfy, Yfx, Fy, Fx, Xf, Yf}
 use Rattle.op_term.specs.declared.ops.Meaning.{Meaning}
 use Rattle.op_term.specs.Ops.{is_y_left, is_y_right}
-use Rattle.op_reader.specs.Row.{Piece, operand, operator, Operator, Split, split_at, top, leftmost, rightmost, root, root_among}
+use Rattle.op_reader.specs.Row.{Member, operand, operator, Operator, Split, split_at, top, leftmost, rightmost, root, root_among}
 use Rattle.op_reader.proofs.RowSplits.{extended, top-append, leftmost-here, leftmost-more, rightmost-here, rightmost-there, leftmost-there}
 use Rattle.op_reader.proofs.RowSplits.{leftmost-splits}
 use Rattle.op_writer.specs.declared.bound.Bound.{Bound}
@@ -25,23 +25,23 @@ IsAllowed (Operand p) o = o.priority ≤ p
 IsAllowed (Left p) o = (o.priority ≤ p) × (o.priority ≡ p → is_y_left o.kind ≡ true)
 IsAllowed (Right p) o = (o.priority ≤ p) × (o.priority ≡ p → is_y_right o.kind ≡ true)
 
-abbrev pub AllAllowed : Bound → List (Piece Text) → Type 0
+abbrev pub AllAllowed : Bound → List (Member Text) → Type 0
 AllAllowed b [] = Unit {0}
 AllAllowed b (operand t ∷ ps) = AllAllowed b ps
 AllAllowed b (operator o ∷ ps) = IsAllowed b o × AllAllowed b ps
 
-pub allowed-append : (b : Bound) (xs ys : List (Piece Text)) → AllAllowed b xs → AllAllowed b ys → AllAllowed b (xs ++ ys)
+pub allowed-append : (b : Bound) (xs ys : List (Member Text)) → AllAllowed b xs → AllAllowed b ys → AllAllowed b (xs ++ ys)
 allowed-append b [] ys h g = g
 allowed-append b (operand t ∷ xs) ys h g = allowed-append b xs ys h g
 allowed-append b (operator o ∷ xs) ys h g = (h.0, allowed-append b xs ys h.1 g)
 
-pub allowed-map : (b c : Bound) (xs : List (Piece Text)) → ((o : Operator Text) → IsAllowed b o → IsAllowed c o)
+pub allowed-map : (b c : Bound) (xs : List (Member Text)) → ((o : Operator Text) → IsAllowed b o → IsAllowed c o)
     → AllAllowed b xs → AllAllowed c xs
 allowed-map b c [] f h = tt
 allowed-map b c (operand t ∷ xs) f h = allowed-map b c xs f h
 allowed-map b c (operator o ∷ xs) f h = (f o h.0, allowed-map b c xs f h.1)
 
-allowed-in : (b : Bound) (xs ys : List (Piece Text)) (o : Operator Text) → AllAllowed b (xs ++ operator o ∷ ys) → IsAllowed b o
+allowed-in : (b : Bound) (xs ys : List (Member Text)) (o : Operator Text) → AllAllowed b (xs ++ operator o ∷ ys) → IsAllowed b o
 allowed-in b [] ys o h = h.0
 allowed-in b (operand t ∷ xs) ys o h = allowed-in b xs ys o h
 allowed-in b (operator p ∷ xs) ys o h = allowed-in b xs ys o h.1
@@ -52,7 +52,7 @@ allowed-limit (Operand p) o h = h
 allowed-limit (Left p) o h = h.0
 allowed-limit (Right p) o h = h.0
 
-pub top-limit : (b : Bound) (xs : List (Piece Text)) → AllAllowed b xs → top xs ≤ limit b
+pub top-limit : (b : Bound) (xs : List (Member Text)) → AllAllowed b xs → top xs ≤ limit b
 top-limit b [] h = omega arith
 top-limit b (operand t ∷ xs) h = top-limit b xs h
 top-limit b (operator o ∷ xs) h = omega (arith, allowed-limit b o h.0, top-limit b xs h.1)
@@ -188,12 +188,12 @@ or-false : (a b : Bool) → a ≡ false → b ≡ false → (a || b) ≡ false
 or-false true b h g = absurd (let e : true ≡ false = h in cc)
 or-false false b h g = g
 
-module _ (f : Text) (m : Meaning) (one : 1 ≤ m.priority) (xs ys : List (Piece Text)) (hx : AllAllowed (left_of m) xs)
+module _ (f : Text) (m : Meaning) (one : 1 ≤ m.priority) (xs ys : List (Member Text)) (hx : AllAllowed (left_of m) xs)
     (hy : AllAllowed (right_of m) ys) where
   abbrev here : Split Text
   here = split_at xs (operator_of f m) ys
 
-  abbrev whole : List (Piece Text)
+  abbrev whole : List (Member Text)
   whole = xs ++ operator (operator_of f m) ∷ ys
 
   top-left : top xs ≤ m.priority
@@ -240,7 +240,7 @@ module _ (f : Text) (m : Meaning) (one : 1 ≤ m.priority) (xs ys : List (Piece 
       (subst (λ (b : Bound). AllAllowed b ys) er hy) in omega (arith, k, one)) in
       let rw : rightmost m.priority whole ≡ Some here = rightmost-here xs (operator_of f m) ys less in
       let al : IsAllowed (Left m.priority) l.0.root = allowed-in (Left m.priority) l.0.before l.0.after l.0.root
-      (subst (λ (ps : List (Piece Text)). AllAllowed (Left m.priority) ps) s.pieces (subst (λ (b : Bound). AllAllowed b xs) e hx)) in
+      (subst (λ (ps : List (Member Text)). AllAllowed (Left m.priority) ps) s.members (subst (λ (b : Bound). AllAllowed b xs) e hx)) in
       let not-right : is_y_right l.0.root.kind ≡ false = not-both l.0.root.kind (al.1 s.priority) in
       let not-less : ltb (top more.after) more.root.priority ≡ false = by_test (ltb (top more.after) more.root.priority)
       (λ k. absurd (let d : top more.after ≡ max (top l.0.after) (max m.priority (top ys)) = top-append l.0.after

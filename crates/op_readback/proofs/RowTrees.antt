@@ -11,7 +11,7 @@ use Rattle.op_term.specs.declared.ops.OpKind.{OpKind}
 use Rattle.op_term.specs.declared.ops.OpKind.TheVariants.{Xfx, Xfy, Yfx, Fy, Fx, Xf, Yf}
 use Rattle.op_term.specs.declared.ops.Meaning.{Meaning}
 use Rattle.op_term.specs.Ops.{Table, IsTable, IsMeaning, prefix_in, infix_in, postfix_in, is_prefix, is_infix, is_postfix}
-use Rattle.op_reader.specs.Row.{Piece, operand, operator, Operator, split_at, joined, left_bound, right_bound, tree_of, tree}
+use Rattle.op_reader.specs.Row.{Member, operand, operator, Operator, split_at, joined, left_bound, right_bound, tree_of, tree}
 use Rattle.op_reader.proofs.Spines.{is_single, tree_at, tree_step, tree_more, tree_single}
 use Rattle.op_writer.specs.declared.style.Style.{Style}
 use Rattle.op_writer.specs.declared.bound.Bound.{Bound}
@@ -26,14 +26,14 @@ abbrev Text : Type 0
 Text = List ℕ
 
 -- a row with an operator is no single operand
-not-single : (xs : List (Piece Text)) (o : Operator Text) (ys : List (Piece Text)) → is_single (xs ++ operator o ∷ ys) ≡ false
+not-single : (xs : List (Member Text)) (o : Operator Text) (ys : List (Member Text)) → is_single (xs ++ operator o ∷ ys) ≡ false
 not-single [] o ys = refl
 not-single (operator p ∷ xs) o ys = refl
 not-single (operand t ∷ []) o ys = refl
 not-single (operand t ∷ x ∷ xs) o ys = refl
 
--- more steps than pieces
-more : (k bound : ℕ) (ps : List (Piece Text)) → tree_of (length ps) bound ps ≡ tree_of (k + length ps) bound ps
+-- more steps than members
+more : (k bound : ℕ) (ps : List (Member Text)) → tree_of (length ps) bound ps ≡ tree_of (k + length ps) bound ps
 more zero bound ps = ap (λ (n : ℕ). tree_of n bound ps) (let e : length ps ≡ 0 + length ps = omega arith in e)
 more (suc k) bound ps =
     more k bound ps ∙ (tree_more (k + length ps) bound ps (omega arith)
@@ -50,7 +50,7 @@ right-limit f m = right-cases m
     (λ y e. if_false _ _ _ y ∙ sym (ap limit e))
 
 -- the tree of a row at its operator
-module _ (f : Text) (m : Meaning) (one : 1 ≤ m.priority) (xs ys : List (Piece Text)) (hx : AllAllowed (left_of m) xs)
+module _ (f : Text) (m : Meaning) (one : 1 ≤ m.priority) (xs ys : List (Member Text)) (hx : AllAllowed (left_of m) xs)
     (hy : AllAllowed (right_of m) ys) where
   at-root : (p : ℕ) (left right : Option (Term Text)) → m.priority ≤ p → tree (limit (left_of m)) xs ≡ left
       → tree (limit (right_of m)) ys ≡ right
@@ -138,14 +138,14 @@ meaning-of class o m h e = subst (λ (q : Option Meaning). IfSome q (IsMeaning c
 abbrev Good : Table → Style → Term Text → Type 0
 Good ops style t = (bound : Bound) → AllAllowed bound (row_of ops style t bound) × (tree (limit bound) (row_of ops style t bound) ≡ Some t)
 
-abbrev GoodRow : Term Text → Bound → List (Piece Text) → Type 0
+abbrev GoodRow : Term Text → Bound → List (Member Text) → Type 0
 GoodRow t bound row = AllAllowed bound row × (tree (limit bound) row ≡ Some t)
 
 alone-good : (t : Term Text) (bound : Bound) → GoodRow t bound (alone t)
 alone-good t bound = (tt, tree_single 0 (limit bound) t)
 
 -- with an operator where it fits, and alone where it doesn't
-fits-or : (t : Term Text) (bound : Bound) (m : Meaning) (row : List (Piece Text)) → (fits bound m ≡ true → GoodRow t bound row)
+fits-or : (t : Term Text) (bound : Bound) (m : Meaning) (row : List (Member Text)) → (fits bound m ≡ true → GoodRow t bound row)
     → GoodRow t bound (cond (fits bound m) row (alone t))
 fits-or t bound m row h = by_test (fits bound m)
     (λ e. subst (GoodRow t bound) (sym (if_true (fits bound m) row (alone t) e)) (h e))

@@ -25,10 +25,10 @@ use Rattle.op_writer.specs.declared.edge.Edge.{Edge}
 use Rattle.op_writer.specs.declared.edge.Edge.TheVariants.{Minus}
 use Rattle.op_base.specs.Characters.{is_symbol}
 use Rattle.op_writer.specs.Spelling.{is_symbolic, name_text}
-use Rattle.op_writer.specs.Pieces.{edge_behind}
+use Rattle.op_writer.specs.Fragments.{edge_behind}
 use Rattle.op_writer.specs.Text.{within, rest, argument, fits, left_of, right_of, notation_of}
 use Rattle.op_readback.specs.ReadBack.{IsSmall}
-use Rattle.op_readback.proofs.Lexemes.{Lexeme, sign, name, number, lexeme_piece, in_brackets, infix_lexemes, prefix_lexemes}
+use Rattle.op_readback.proofs.Lexemes.{Lexeme, sign, name, number, lexeme_fragment, in_brackets, infix_lexemes, prefix_lexemes}
 use Rattle.op_readback.proofs.Lexemes.{compound_lexemes, further_lexemes, functional_lexemes, lexemes_of, all_lexemes}
 use Rattle.op_readback.proofs.QuotedNames.{and-parts}
 use Rattle.op_readback.proofs.IntegerSpellings.{IsDigits, decimal-digits}
@@ -74,7 +74,7 @@ module _ (ops : Table) where
     alone = λ o. refl;
   })
   begins-number (negsuc k) h ns bound at e l = step (Begins ops bound e l) (number (negsuc k)) ns refl at e l (λ at1 l1 h1 g i.
-      let js = T (at1 + length (lexeme_text (number (negsuc k)))) (edge_behind e (lexeme_piece (number (negsuc k)))) false ns in
+      let js = T (at1 + length (lexeme_text (number (negsuc k)))) (edge_behind e (lexeme_fragment (number (negsuc k)))) false ns in
       let two : Known = (tok (Integer (suc k)) (at1 + 1) (at1 + 1 + length (decimal (suc k))) false, []) in
       let one : Known = (tok Name at1 (at1 + 1) l1, codes "-") in
       let neg : k_negative one (two ∷ js) ≡ Some (negsuc k) = if_true (nat_le (suc k) least_magnitude) (Some (negsuc k)) None

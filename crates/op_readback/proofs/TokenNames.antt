@@ -15,8 +15,8 @@ use Rattle.op_token.specs.Tokens.{text_from}
 use Rattle.op_writer.specs.declared.edge.Edge.{Edge}
 use Rattle.op_writer.specs.declared.edge.Edge.TheVariants.{Other}
 use Rattle.op_writer.specs.Spelling.{is_unquoted, quoted}
-use Rattle.op_writer.specs.Pieces.{is_apart, set_apart, spaced, edge_behind}
-use Rattle.op_readback.proofs.Lexemes.{Lexeme, sign, name, prefix_name, number, lexeme_piece}
+use Rattle.op_writer.specs.Fragments.{is_apart, set_apart, spaced, edge_behind}
+use Rattle.op_readback.proofs.Lexemes.{Lexeme, sign, name, prefix_name, number, lexeme_fragment}
 use Rattle.op_readback.proofs.NameSpellings.{quoted-text}
 use Rattle.op_readback.proofs.LexemeTexts.{lexeme_text, IsLexeme, is_risky, IsClean, is_sign, by-sign, unquoted-text, quoted-name-text}
 use Rattle.op_readback.proofs.LexemeTexts.{begun}
@@ -142,27 +142,27 @@ module _ (text pre : List ℕ) where
   )
 
 lexeme-ended : (m : Lexeme) (ms : List Lexeme) (e : Edge) (x : List ℕ) → set_apart e (lexeme_text m) ≡ x
-    → ended e (m ∷ ms) ≡ x ++ ended (edge_behind e (lexeme_piece m)) ms
+    → ended e (m ∷ ms) ≡ x ++ ended (edge_behind e (lexeme_fragment m)) ms
 lexeme-ended m ms e x q =
-    let more = spaced (edge_behind e (lexeme_piece m)) (map lexeme_piece ms) in
+    let more = spaced (edge_behind e (lexeme_fragment m)) (map lexeme_fragment ms) in
     ap (λ (y : List ℕ). (y ++ more) ++ 32 ∷ 46 ∷ []) q ∙ append_assoc x more (32 ∷ 46 ∷ [])
 
 space-text : (m : Lexeme) (ms : List Lexeme) → is_space m ≡ true → (e : Edge) → ended e (m ∷ ms) ≡ 32 ∷ ended Other ms
 space-text (sign b) ms k e = subst (λ (x : ℕ). ended e (sign x ∷ ms) ≡ 32 ∷ ended Other ms) (sym (eqb-true b 32 k))
-    (ap (λ (x : List ℕ). (x ++ spaced Other (map lexeme_piece ms)) ++ 32 ∷ 46 ∷ []) (if_false (is_apart e 32) (32 ∷ 32 ∷ [])
+    (ap (λ (x : List ℕ). (x ++ spaced Other (map lexeme_fragment ms)) ++ 32 ∷ 46 ∷ []) (if_false (is_apart e 32) (32 ∷ 32 ∷ [])
     (32 ∷ []) (space-apart e)))
 space-text (name f) ms k e = absurd (let z : false ≡ true = k in cc)
 space-text (prefix_name f) ms k e = absurd (let z : false ≡ true = k in cc)
 space-text (number i) ms k e = absurd (let z : false ≡ true = k in cc)
 
 tail : (m : Lexeme) (ms : List Lexeme) → AreLexemes (m ∷ ms) → {q : Bool} → IsClean q (m ∷ ms) → (text pre : List ℕ) (e : Edge) (l : Bool)
-    → text ≡ pre ++ (lexeme_text m ++ ended (edge_behind e (lexeme_piece m)) ms)
-    → ((p : List ℕ) (r : Bool) → text ≡ p ++ ended (edge_behind e (lexeme_piece m)) ms
-    → AreKnown text (tokens (length p) (edge_behind e (lexeme_piece m)) r ms))
+    → text ≡ pre ++ (lexeme_text m ++ ended (edge_behind e (lexeme_fragment m)) ms)
+    → ((p : List ℕ) (r : Bool) → text ≡ p ++ ended (edge_behind e (lexeme_fragment m)) ms
+    → AreKnown text (tokens (length p) (edge_behind e (lexeme_fragment m)) r ms))
     → AreKnown text (lexeme_tokens m (length pre) l ++ tokens (length pre + length (lexeme_text m))
-    (edge_behind e (lexeme_piece m)) false ms)
+    (edge_behind e (lexeme_fragment m)) false ms)
 tail m ms h c text pre e l there rest =
-    let e2 = edge_behind e (lexeme_piece m) in
+    let e2 = edge_behind e (lexeme_fragment m) in
     known-append text (lexeme_tokens m (length pre) l) (tokens (length pre + length (lexeme_text m)) e2 false ms)
     (lexeme-known text pre m (ended e2 ms) l h.0 there (behind e2 (is_risky m) ms h.1 c.1).quote)
     (subst (λ (n : ℕ). AreKnown text (tokens n e2 false ms)) (length-append pre (lexeme_text m))
@@ -180,19 +180,19 @@ tokens-known (m ∷ ms) h q c text pre e l t = by_test (is_space m)
     ∙ sym (append_assoc pre (32 ∷ []) (ended Other ms)))))))
     (λ k. subst (AreKnown text) (sym (if_false (is_space m) _ _ k)) (by_test (gap e (lexeme_text m))
     (λ g. subst (AreKnown text) (sym (if_true (gap e (lexeme_text m)) _ _ g))
-    (let there : text ≡ (pre ++ 32 ∷ []) ++ (lexeme_text m ++ ended (edge_behind e (lexeme_piece m)) ms) =
+    (let there : text ≡ (pre ++ 32 ∷ []) ++ (lexeme_text m ++ ended (edge_behind e (lexeme_fragment m)) ms) =
     t ∙ (ap (λ (x : List ℕ). pre ++ x) (lexeme-ended m ms e (32 ∷ lexeme_text m) (set-apart-is e (lexeme_text m)
     ∙ if_true (gap e (lexeme_text m)) _ _ g)) ∙ sym (append_assoc pre (32 ∷ [])
-    (lexeme_text m ++ ended (edge_behind e (lexeme_piece m)) ms))) in
+    (lexeme_text m ++ ended (edge_behind e (lexeme_fragment m)) ms))) in
     let size : length (pre ++ 32 ∷ []) ≡ length pre + 1 =
     (let z = length-append pre (32 ∷ []) in let y : length {A = ℕ} (32 ∷ []) ≡ 1 = refl in omega (arith, z, y)) in
     subst (λ (n : ℕ). AreKnown text (lexeme_tokens m n true ++ tokens (n + length (lexeme_text m))
-    (edge_behind e (lexeme_piece m)) false ms))
+    (edge_behind e (lexeme_fragment m)) false ms))
     size
     (tail m ms h c text (pre ++ 32 ∷ []) e true there (λ p r w. tokens-known ms h.1 (is_risky m) c.1 text p
-    (edge_behind e (lexeme_piece m)) r w))))
+    (edge_behind e (lexeme_fragment m)) r w))))
     (λ g. subst (AreKnown text) (sym (if_false (gap e (lexeme_text m)) _ _ g))
-    (let there : text ≡ pre ++ (lexeme_text m ++ ended (edge_behind e (lexeme_piece m)) ms) =
+    (let there : text ≡ pre ++ (lexeme_text m ++ ended (edge_behind e (lexeme_fragment m)) ms) =
     t ∙ ap (λ (x : List ℕ). pre ++ x) (lexeme-ended m ms e (lexeme_text m) (set-apart-is e (lexeme_text m)
     ∙ if_false (gap e (lexeme_text m)) _ _ g)) in
-    tail m ms h c text pre e l there (λ p r w. tokens-known ms h.1 (is_risky m) c.1 text p (edge_behind e (lexeme_piece m)) r w)))))
+    tail m ms h c text pre e l there (λ p r w. tokens-known ms h.1 (is_risky m) c.1 text p (edge_behind e (lexeme_fragment m)) r w)))))

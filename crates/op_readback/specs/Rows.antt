@@ -3,7 +3,7 @@ use Rattle.std.specs.Prelude.{ℕ, List, [], ◌∷◌, ◌++◌, if◌then◌el
 use Rattle.op_logic.specs.Term.{Term, var, int, node, Args, no_args, arg, arity}
 use Rattle.op_term.specs.declared.ops.Meaning.{Meaning}
 use Rattle.op_term.specs.Ops.{Table}
-use Rattle.op_reader.specs.Row.{Piece, operand, operator, Operator}
+use Rattle.op_reader.specs.Row.{Member, operand, operator, Operator}
 use Rattle.op_writer.specs.declared.style.Style.{Style}
 use Rattle.op_writer.specs.declared.bound.Bound.{Bound}
 use Rattle.op_writer.specs.declared.bound.Bound.TheVariants.{Whole, Operand, Left, Right}
@@ -16,12 +16,12 @@ operator_of f m = record { name = f; priority = m.priority; kind = m.kind }
 
 -- the row of a part, by its bound
 abbrev pub RowForm : Type 0
-RowForm = Bound → List (Piece (List ℕ))
+RowForm = Bound → List (Member (List ℕ))
 
-abbrev pub alone : Term (List ℕ) → List (Piece (List ℕ))
+abbrev pub alone : Term (List ℕ) → List (Member (List ℕ))
 alone t = operand t ∷ []
 
-abbrev pub notation_row : Term (List ℕ) → List ℕ → List RowForm → Bound → Notation → List (Piece (List ℕ))
+abbrev pub notation_row : Term (List ℕ) → List ℕ → List RowForm → Bound → Notation → List (Member (List ℕ))
 notation_row t f (a ∷ b ∷ []) bound (Infix m) =
     if fits bound m then a (left_of m) ++ operator (operator_of f m) ∷ b (right_of m) else alone t
 notation_row t f (a ∷ []) bound (Prefix m) = if fits bound m then operator (operator_of f m) ∷ a (right_of m) else alone t

@@ -5,13 +5,13 @@ use Rattle.std.specs.Option.{option_map, IfSome}
 use Rattle.op_logic.specs.Term.{Term, int, node, arg, rename, rename_args}
 use Rattle.op_logic.specs.Names.{name_at, named}
 use Rattle.op_term.specs.Places.{term_at, args_at}
-use Rattle.op_reader.specs.declared.piece.Piece.{Piece as PieceHeld}
-use Rattle.op_reader.specs.declared.piece.Piece.TheVariants.{Operand, Operator as AnOperator}
+use Rattle.op_reader.specs.declared.member.Member.{Member as DeclaredMember}
+use Rattle.op_reader.specs.declared.member.Member.TheVariants.{Operand, Operator as AnOperator}
 use Rattle.op_reader.specs.Row.{operand, tree}
 use Rattle.op_reader.specs.inner.RoleLists.{View, node_in}
-use Rattle.op_reader.specs.inner.Pieces.{piece_at, PieceBelow}
-use Rattle.op_reader.specs.inner.ReadRows.{Extends, piece_in}
-use Rattle.op_reader.proofs.RowNames.{piece_renamed, tree_renamed}
+use Rattle.op_reader.specs.inner.Members.{member_at, MemberBelow}
+use Rattle.op_reader.specs.inner.ReadRows.{Extends, member_in}
+use Rattle.op_reader.proofs.RowNames.{member_renamed, tree_renamed}
 use Rattle.op_reader.proofs.ShownNodes.{term_later, kept_kept, kept_new, new_below, named_list}
 use Rattle.std.proofs.lemmas.List.{reverse-append}
 use Rattle.std.proofs.Math.Seq.{get_or-append_seam}
@@ -21,32 +21,32 @@ use Rattle.op_reader.specs.Terms.{args_of}
 pub node_seen : (v : View) (ts : List (Term ℕ)) (n : ℕ) → Extends v ts → n < length ts → node_in v n ≡ named v.names (term_at ts n)
 node_seen v ts n k h = ap (named v.names) (term_later ts v.terms n k h)
 
-piece_seen : (v : View) (ts : List (Term ℕ)) (p : PieceHeld) → Extends v ts → PieceBelow (length ts) p
-    → piece_renamed (name_at v.names) (piece_at ts p) ≡ piece_in v p
-piece_seen v ts (Operand n) k h = ap operand (sym (node_seen v ts n k h))
-piece_seen v ts (AnOperator o) k h = refl
+member_seen : (v : View) (ts : List (Term ℕ)) (p : DeclaredMember) → Extends v ts → MemberBelow (length ts) p
+    → member_renamed (name_at v.names) (member_at ts p) ≡ member_in v p
+member_seen v ts (Operand n) k h = ap operand (sym (node_seen v ts n k h))
+member_seen v ts (AnOperator o) k h = refl
 
-pub pieces_seen : (v : View) (ts : List (Term ℕ)) (ps : List PieceHeld) → Extends v ts → All (PieceBelow (length ts)) ps →
-    map (piece_renamed (name_at v.names)) (map (piece_at ts) ps) ≡ map (piece_in v) ps
-pieces_seen v ts [] k h = refl
-pieces_seen v ts (p ∷ ps) k h =
-    ap (λ q. q ∷ map (piece_renamed (name_at v.names)) (map (piece_at ts) ps)) (piece_seen v ts p k (h zero p (omega arith)))
-    ∙ ap (λ qs. piece_in v p ∷ qs) (pieces_seen v ts ps k (λ i d lt. h (suc i) d (omega arith)))
+pub members_seen : (v : View) (ts : List (Term ℕ)) (ps : List DeclaredMember) → Extends v ts → All (MemberBelow (length ts)) ps →
+    map (member_renamed (name_at v.names)) (map (member_at ts) ps) ≡ map (member_in v) ps
+members_seen v ts [] k h = refl
+members_seen v ts (p ∷ ps) k h =
+    ap (λ q. q ∷ map (member_renamed (name_at v.names)) (map (member_at ts) ps)) (member_seen v ts p k (h zero p (omega arith)))
+    ∙ ap (λ qs. member_in v p ∷ qs) (members_seen v ts ps k (λ i d lt. h (suc i) d (omega arith)))
 
 found_seen : (v : View) (ts : List (Term ℕ)) (o : Option ℕ) → Extends v ts → IfSome o (λ n. n < length ts)
     → option_map (rename (name_at v.names)) (option_map (term_at ts) o) ≡ option_map (node_in v) o
 found_seen v ts None k h = refl
 found_seen v ts (Some n) k h = ap Some (sym (node_seen v ts n k h))
 
-pub tree_seen : (v : View) (ts us : List (Term ℕ)) (ps : List PieceHeld) (bound : ℕ) (found : Option ℕ) → Extends v us
+pub tree_seen : (v : View) (ts us : List (Term ℕ)) (ps : List DeclaredMember) (bound : ℕ) (found : Option ℕ) → Extends v us
     → take (length ts) us ≡ ts →
-    All (PieceBelow (length ts)) ps → IfSome found (λ n. n < length us)
-    → tree bound (map (piece_at ts) ps) ≡ option_map (term_at us) found →
-    tree bound (map (piece_in v) ps) ≡ option_map (node_in v) found
+    All (MemberBelow (length ts)) ps → IfSome found (λ n. n < length us)
+    → tree bound (map (member_at ts) ps) ≡ option_map (term_at us) found →
+    tree bound (map (member_in v) ps) ≡ option_map (node_in v) found
 tree_seen v ts us ps bound found k l below there is =
     let before : Extends v ts = kept_kept ts us v.terms l k in
-    ap (tree bound) (sym (pieces_seen v ts ps before below))
-    ∙ tree_renamed (name_at v.names) bound (map (piece_at ts) ps)
+    ap (tree bound) (sym (members_seen v ts ps before below))
+    ∙ tree_renamed (name_at v.names) bound (map (member_at ts) ps)
     ∙ ap (option_map (rename (name_at v.names))) is
     ∙ found_seen v us found k there
 

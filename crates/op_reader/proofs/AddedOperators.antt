@@ -9,7 +9,8 @@ use Rattle.op_logic.proofs.BoolCases.{by_test, if_true, if_false}
 use Rattle.op_term.specs.Ops.{is_prefix, is_postfix, is_y_left, is_y_right}
 use Rattle.op_term.specs.declared.ops.OpKind.{OpKind}
 use Rattle.op_term.specs.declared.ops.OpKind.TheVariants.{Xf, Yf}
-use Rattle.op_reader.specs.Row.{Piece, operand, operator, Operator, Split, split_at, top, root, left_bound, right_bound, is_empty, with_one}
+use Rattle.op_reader.specs.Row.{Member, operand, operator, Operator, Split, split_at, top, root}
+use Rattle.op_reader.specs.Row.{left_bound, right_bound, is_empty, with_one}
 use Rattle.op_reader.specs.Row.{tree_of}
 use Rattle.op_reader.specs.inner.Spine.{Arm, Spine, ended, under, whole_priority, spine_within, spine_of}
 use Rattle.op_reader.specs.inner.Adding.{added, added_to}
@@ -49,28 +50,28 @@ false_by true h = absurd (h refl)
 false_by false h = refl
 
 module _ {N : Type 0} where
-  not_empty : (row : List (Piece N)) (o : Operator N) (e : List (Piece N)) → is_empty (row ++ operator o ∷ e) ≡ false
+  not_empty : (row : List (Member N)) (o : Operator N) (e : List (Member N)) → is_empty (row ++ operator o ∷ e) ≡ false
   not_empty [] o e = refl
   not_empty (p ∷ row) o e = refl
 
-  root_not_single : (ps : List (Piece N)) (s : Split N) → root ps ≡ Some s → is_single ps ≡ false
+  root_not_single : (ps : List (Member N)) (s : Split N) → root ps ≡ Some s → is_single ps ≡ false
   root_not_single ps s h =
-      single_or ps (λ t e. let i : root (operand t ∷ []) ≡ Some s = subst (λ (qs : List (Piece N)). root qs ≡ Some s) e h in cc) (λ e. e)
+      single_or ps (λ t e. let i : root (operand t ∷ []) ≡ Some s = subst (λ (qs : List (Member N)). root qs ≡ Some s) e h in cc) (λ e. e)
 
-  top_not_single : (ps : List (Piece N)) → 0 < top ps → is_single ps ≡ false
+  top_not_single : (ps : List (Member N)) → 0 < top ps → is_single ps ≡ false
   top_not_single ps h = single_or ps (λ t e. absurd (omega (arith, ap top e))) (λ e. e)
 
-  operator_not_single : (row : List (Piece N)) (o : Operator N) (e : List (Piece N)) → is_single (row ++ operator o ∷ e) ≡ false
+  operator_not_single : (row : List (Member N)) (o : Operator N) (e : List (Member N)) → is_single (row ++ operator o ∷ e) ≡ false
   operator_not_single [] o e = refl
   operator_not_single (operator p ∷ row) o e = refl
   operator_not_single (operand t ∷ []) o e = refl
   operator_not_single (operand t ∷ p ∷ row) o e = refl
 
-  pub spine_cases : {P : Type 0} (n : ℕ) (ps : List (Piece N)) (sp : Spine N) → spine_of (suc n) ps ≡ Some sp
+  pub spine_cases : {P : Type 0} (n : ℕ) (ps : List (Member N)) (sp : Spine N) → spine_of (suc n) ps ≡ Some sp
       → ((t : Term N) → ps ≡ operand t ∷ [] → ended t 0 ≡ sp → P) → ((s : Split N) → root ps ≡ Some s → spine_split n s ≡ Some sp → P) → P
   spine_cases n ps sp h f g = single_or ps
       (λ t e. f t e (let i : Some (ended t 0) ≡ Some sp = sym (spine_single n t)
-      ∙ subst (λ (qs : List (Piece N)). spine_of (suc n) qs ≡ Some sp) e h in cc))
+      ∙ subst (λ (qs : List (Member N)). spine_of (suc n) qs ≡ Some sp) e h in cc))
       (λ e. only_when (spine_split n) (root ps) sp (sym (spine_step n ps e) ∙ h) g)
 
   -- the spine that a root leads
@@ -114,17 +115,17 @@ module _ {N : Type 0} where
       led_by_tests s.root (is_prefix s.root.kind) (is_postfix s.root.kind) (is_empty s.before) (is_empty s.after)
       (tree_of n (left_bound s.root) s.before) (right_at n s) sp h
 
-module _ {N : Type 0} (F : List (Piece N)) (o : Operator N) (e : List (Piece N)) (nF : top F ≡ 0) (ne : top e ≡ 0)
+module _ {N : Type 0} (F : List (Member N)) (o : Operator N) (e : List (Member N)) (nF : top F ≡ 0) (ne : top e ≡ 0)
     (some : 0 < o.priority) where
   -- what is to be known of the change at the place where the operator stands
   pub record IsChange (change : Spine N → Option (Spine N)) : Type 0 where
     pub above : (s r : Spine N) → change s ≡ Some r → (whole_priority s ≤ o.priority) × (whole_priority r ≡ o.priority)
     pub beside : (s : Spine N) → whole_priority s ≡ o.priority → is_y_left o.kind ≡ false → change s ≡ None
-    pub at_root : (n : ℕ) (row : List (Piece N)) → length (row ++ operator o ∷ e) ≤ suc n
+    pub at_root : (n : ℕ) (row : List (Member N)) → length (row ++ operator o ∷ e) ≤ suc n
         → spine_split n (split_at row o e) ≡ option_and_then change (spine_of (suc n) (row ++ F))
 
   module _ (change : Spine N → Option (Spine N)) (is : IsChange change) where
-    abbrev E : List (Piece N)
+    abbrev E : List (Member N)
     E = operator o ∷ e
 
     -- what is changed is within a bound that the operator is within, where it was within it
@@ -222,7 +223,7 @@ module _ {N : Type 0} (F : List (Piece N)) (o : Operator N) (e : List (Piece N))
     unfolding added
     single_same t sp i = subst (λ (x : Spine N). change x ≡ added_to o change x) i refl
 
-    pub adds : (n : ℕ) (row : List (Piece N)) → length (row ++ E) ≤ n
+    pub adds : (n : ℕ) (row : List (Member N)) → length (row ++ E) ≤ n
         → spine_of n (row ++ E) ≡ option_and_then (added_to o change) (spine_of n (row ++ F))
     adds zero row h = absurd (omega (arith, length-append row E))
     adds (suc n) row h =

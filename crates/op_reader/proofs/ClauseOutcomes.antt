@@ -10,7 +10,7 @@ use Rattle.op_reader.specs.declared.fault.ReadFault.{ReadFault}
 use Rattle.op_reader.specs.declared.fault.ReadFaultKind.TheVariants.{Unbalanced}
 use Rattle.op_reader.specs.declared.term_reader.Reading.{Reading}
 use Rattle.op_reader.specs.declared.read_rows.ListNames.{ListNames}
-use Rattle.op_reader.specs.declared.word.Word.{Word as WordHeld}
+use Rattle.op_reader.specs.declared.word.Word.{Word as DeclaredWord}
 use Rattle.op_reader.specs.FirstClause.{sentence, unmatched}
 use Rattle.op_reader.specs.Words.{source, words_of, variables_of, named_from}
 use Rattle.op_reader.specs.Roles.{levels_of}
@@ -37,7 +37,7 @@ list_names_later names more k e n =
     }
 
 module _ (ops : Table) (quotes : DoubleQuotes) (text : List ℕ) (tokens : List Token) (stop : Token) (names later : List (List ℕ))
-    (terms : List (Term ℕ)) (held : List WordHeld)
+    (terms : List (Term ℕ)) (held : List DeclaredWord)
     (variables : List (List ℕ × ℕ)) (known : ListNames) (place : ℕ) (r : Result Reading ReadFault)
     (matched : unmatched [] tokens ≡ None) (shown : ShowsWords names terms held (words_of (source ops quotes text) tokens))
     (kept : take (length names) later ≡ names)

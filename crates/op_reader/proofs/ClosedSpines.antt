@@ -9,7 +9,7 @@ use Rattle.op_logic.specs.Term.{Term}
 use Rattle.op_logic.proofs.BoolCases.{by_test, if_true, if_false}
 use Rattle.op_term.specs.Ops.{is_prefix, is_postfix}
 use Rattle.op_term.specs.Places.{term_at}
-use Rattle.op_reader.specs.Row.{Piece, Operator, left_bound, right_bound, is_empty, with_one, tree_of}
+use Rattle.op_reader.specs.Row.{Member, Operator, left_bound, right_bound, is_empty, with_one, tree_of}
 use Rattle.op_reader.specs.inner.Spine.{Arm, Spine, ended, under, arms_priority, whole_priority, spine_within, spine_of}
 use Rattle.op_reader.specs.inner.RowState.{arm_of, BranchesBelow}
 use Rattle.op_reader.specs.inner.Adding.{with_right, arms_term, whole_term, taken, added, AreFalling, IsSameTo, branch_bound, last_is_below}
@@ -93,7 +93,7 @@ module _ {N : Type 0} where
   led_falls p false false c d (Some l) (Some r) sp g h =
       let i : under p (Some l) r ≡ sp = cc in subst (λ (x : Spine N). AreFalling x.arms x.priority) i (g r refl)
 
-  pub spine_falls : (n : ℕ) (ps : List (Piece N)) (sp : Spine N) → spine_of n ps ≡ Some sp → AreFalling sp.arms sp.priority
+  pub spine_falls : (n : ℕ) (ps : List (Member N)) (sp : Spine N) → spine_of n ps ≡ Some sp → AreFalling sp.arms sp.priority
   unfolding spine_of
   spine_falls zero ps sp h = cc
   spine_falls (suc n) ps sp h =

@@ -4,7 +4,7 @@ use Rattle.std.proofs.Math.Seq.{drop-cons}
 use Rattle.std.proofs.Math.ListN.{drop_of_length-le}
 use Rattle.std.specs.Prelude.{Result, Ok, Err, reverse, map}
 use Rattle.op_reader.specs.declared.role.Role.{Role}
-use Rattle.op_reader.specs.declared.word.Word.{Word as WordHeld}
+use Rattle.op_reader.specs.declared.word.Word.{Word as DeclaredWord}
 use Rattle.op_reader.specs.declared.row_kind.RowKind.TheVariants.{Clause}
 use Rattle.op_reader.specs.declared.roles.Spot.{Spot}
 use Rattle.op_reader.specs.declared.roles.Roles.{Roles}
@@ -66,7 +66,7 @@ whole_outer stop ws layers e h =
     (ap (λ ls. beside (roles Clause an_operand l.inner.parts l.inner.stop) (outer_roles [] ls)) (sym e) ∙ h)
 
 -- the words from a place on begin with the word there
-pub first_left : (v : View) (stop : ℕ) (ws : List WordHeld) (i : ℕ) (w : WordHeld) → i < length ws → w ≡ get_or ws i w →
+pub first_left : (v : View) (stop : ℕ) (ws : List DeclaredWord) (i : ℕ) (w : DeclaredWord) → i < length ws → w ≡ get_or ws i w →
     levels_of stop (map (word_in v) (drop i ws)) ≡ with_word (word_in v w) (levels_of stop (map (word_in v) (drop (i + 1) ws)))
 first_left v stop ws i w h e =
     ap (λ us. levels_of stop (map (word_in v) us)) (drop-cons ws i w h)
@@ -74,7 +74,7 @@ first_left v stop ws i w h e =
     ∙ ap (λ n. with_word (word_in v w) (levels_of stop (map (word_in v) (drop n ws)))) (sym (add-one i))
 
 -- a word that can't stand where it does
-pub stopped : (v : View) (stop : ℕ) (ws : List WordHeld) (i : ℕ) (w : WordHeld) (ms : List Role) (spot : Spot)
+pub stopped : (v : View) (stop : ℕ) (ws : List DeclaredWord) (i : ℕ) (w : DeclaredWord) (ms : List Role) (spot : Spot)
     (whole : Result Layers ℕ) (place : ℕ) →
     i < length ws → w ≡ get_or ws i w → ((l : Levels (List ℕ)) → left_at v spot (with_word (word_in v w) l) ≡ Err place) →
     whole ≡ on_layers (with_roles v ms) (left_at v spot (levels_of stop (map (word_in v) (drop i ws)))) → whole ≡ Err place
@@ -84,11 +84,11 @@ stopped v stop ws i w ms spot whole place h e refused so_far =
     ∙ ap (on_layers (with_roles v ms)) (refused (levels_of stop (map (word_in v) (drop (i + 1) ws))))
 
 -- no words are left
-pub none_left : (v : View) (stop : ℕ) (ws : List WordHeld) (i : ℕ) → length ws ≤ i →
+pub none_left : (v : View) (stop : ℕ) (ws : List DeclaredWord) (i : ℕ) → length ws ≤ i →
     levels_of stop (map (word_in v) (drop i ws)) ≡ record { inner = level none stop; outer = [] }
 none_left v stop ws i h = ap (λ us. levels_of stop (map (word_in v) us)) (drop_of_length-le ws h)
 
-pub finished : (stop : ℕ) (ws : List WordHeld) (i : ℕ) (ms : List Role) (spot : Spot) (r : Roles) → length ws ≤ i →
+pub finished : (stop : ℕ) (ws : List DeclaredWord) (i : ℕ) (ms : List Role) (spot : Spot) (r : Roles) → length ws ≤ i →
     ((u : View) → roles_left Clause [] an_operand (levels_of stop (map (word_in u) ws)) ≡ on_layers (with_roles u ms)
     (left_at u spot (levels_of stop (map (word_in u) (drop i ws))))) →
     IsEnded spot.expected ms stop r → HasRoles stop ws r

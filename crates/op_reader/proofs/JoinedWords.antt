@@ -9,10 +9,10 @@ use Rattle.op_logic.specs.Term.{Term}
 use Rattle.op_token.specs.declared.token.Token.{Token}
 use Rattle.op_token.specs.declared.token.TokenKind.{TokenKind}
 use Rattle.op_token.specs.declared.token.TokenKind.TheVariants.{Variable, OpenSquare, OpenCurly, CloseSquare, CloseCurly}
-use Rattle.op_reader.specs.declared.word.Word.{Word as WordHeld}
+use Rattle.op_reader.specs.declared.word.Word.{Word as DeclaredWord}
 use Rattle.op_reader.specs.declared.word.Word.TheVariants.{Other}
-use Rattle.op_reader.specs.declared.word.AsOperand.{AsOperand as AsOperandHeld}
-use Rattle.op_reader.specs.declared.word.AsOperand.TheVariants.{Sign, Plain}
+use Rattle.op_reader.specs.declared.word.AsOperand.{AsOperand as DeclaredAsOperand}
+use Rattle.op_reader.specs.declared.word.AsOperand.TheVariants.{Minus, Plain}
 use Rattle.op_reader.specs.declared.words.Made.{Made}
 use Rattle.op_reader.specs.Words.{Source, Word, word_of, words_from, variables_of, met_behind, with_variable, spelling, is_variable}
 use Rattle.op_reader.specs.Words.{is_empty_pair}
@@ -20,23 +20,23 @@ use Rattle.op_reader.specs.inner.RoleLists.{word_in, OperandBelow, WordBelow}
 use Rattle.op_reader.specs.inner.Shown.{ShowsWord, ShowsWords, HasMet, Worded}
 use Rattle.op_reader.proofs.ShownNodes.{kept_length, later_back}
 
-operand_below_more : (n m : ℕ) (a : AsOperandHeld) → n ≤ m → OperandBelow n a → OperandBelow m a
-operand_below_more n m (Sign k) l h = omega arith
+operand_below_more : (n m : ℕ) (a : DeclaredAsOperand) → n ≤ m → OperandBelow n a → OperandBelow m a
+operand_below_more n m (Minus k) l h = omega arith
 operand_below_more n m (Plain k) l h = omega arith
 operand_below_more n m a l h = h
 
-pub word_below_more : (n m : ℕ) (w : WordHeld) → n ≤ m → WordBelow n w → WordBelow m w
+pub word_below_more : (n m : ℕ) (w : DeclaredWord) → n ≤ m → WordBelow n w → WordBelow m w
 word_below_more n m (Other place a o) l h = operand_below_more n m a l h
 word_below_more n m w l h = h
 
-pub words_shown_more : (names more : List (List ℕ)) (terms further : List (Term ℕ)) (held next : List WordHeld)
-    (us : List (Word (List ℕ))) (w : WordHeld) (u : Word (List ℕ)) →
+pub words_shown_more : (names more : List (List ℕ)) (terms further : List (Term ℕ)) (held next : List DeclaredWord)
+    (us : List (Word (List ℕ))) (w : DeclaredWord) (u : Word (List ℕ)) →
     take (length names) more ≡ names → take (length terms) further ≡ terms → next ≡ held ++ w ∷ [] →
     ShowsWords names terms held us → ShowsWord more further w u → ShowsWords more further next (us ++ u ∷ [])
 words_shown_more names more terms further held next us w u k l e s one =
     let longer = kept_length terms further l in
     record {
-      below = subst (λ (ws : List WordHeld). All (WordBelow (length further)) ws) (sym e)
+      below = subst (λ (ws : List DeclaredWord). All (WordBelow (length further)) ws) (sym e)
           (All-push (WordBelow (length further)) held w (λ i d h. word_below_more (length terms) (length further) (get_or held i d) longer
           (s.below i d h)) one.below);
       shown = λ v h. ap (map (word_in v)) e ∙ map_push (word_in v) held w
@@ -70,7 +70,7 @@ leaves_two s t u us h =
     }
 
 pub worded_more : (s : Source) (ts : List Token) (at next : ℕ) (t : Token) (us : List Token) (names more : List (List ℕ))
-    (made new : Made) (held joined : List WordHeld) (w : WordHeld) →
+    (made new : Made) (held joined : List DeclaredWord) (w : DeclaredWord) →
     drop at ts ≡ t ∷ us → Leaves s t us (drop next ts) → take (length names) more ≡ names
     → take (length made.nodes) new.nodes ≡ made.nodes →
     joined ≡ held ++ w ∷ [] → new.count ≤ next →
@@ -124,7 +124,7 @@ pair_length ts (u ∷ us) at kind l r h =
     let some : length (u ∷ us) ≡ suc (length us) = refl in
     omega arith
 
-pub worded_none : (s : Source) (ts : List Token) (names : List (List ℕ)) (made : Made) (held : List WordHeld) → made.names ≡ []
+pub worded_none : (s : Source) (ts : List Token) (names : List (List ℕ)) (made : Made) (held : List DeclaredWord) → made.names ≡ []
     → made.count ≡ 0 → held ≡ [] →
     Worded s ts 0 names made held
 worded_none s ts names made held n k e =
@@ -132,7 +132,7 @@ worded_none s ts names made held n k e =
       met = [];
       words = [];
       shown = record {
-        below = subst (λ (ws : List WordHeld). All (WordBelow (length made.nodes)) ws) (sym e) (λ i d h. absurd (omega arith));
+        below = subst (λ (ws : List DeclaredWord). All (WordBelow (length made.nodes)) ws) (sym e) (λ i d h. absurd (omega arith));
         shown = λ v h. ap (map (word_in v)) e;
       };
       whole = refl;

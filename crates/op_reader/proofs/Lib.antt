@@ -13,7 +13,7 @@ mod ReadVariables
 mod ReadingOutcomes
 mod RefusedRows
 mod RowNames
-mod RowPieces
+mod RowMembers
 mod RowRoots
 mod RowShape
 pub mod RowSplits

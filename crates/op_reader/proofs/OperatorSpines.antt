@@ -9,7 +9,7 @@ use Rattle.op_logic.proofs.BoolCases.{by_test, if_true, if_false}
 use Rattle.op_term.specs.Ops.{is_prefix, is_infix, is_postfix, is_y_left}
 use Rattle.op_term.specs.declared.ops.OpKind.{OpKind}
 use Rattle.op_term.specs.declared.ops.OpKind.TheVariants.{Xfx, Xfy, Yfx, Fy, Fx, Xf, Yf}
-use Rattle.op_reader.specs.Row.{Piece, operand, operator, Operator, split_at, top, left_bound, right_bound, is_empty, with_one, tree_of}
+use Rattle.op_reader.specs.Row.{Member, operand, operator, Operator, split_at, top, left_bound, right_bound, is_empty, with_one, tree_of}
 use Rattle.op_reader.specs.inner.Spine.{Arm, Spine, ended, under, arms_priority, whole_priority, spine_within, spine_of, spine}
 use Rattle.op_reader.specs.inner.Adding.{whole_term, taken, added_to}
 use Rattle.op_reader.proofs.RowRoots.{root_splits}
@@ -34,21 +34,21 @@ map_as_then : {A B : Type 0} (f : A → B) (q : Option A) → option_and_then (�
 map_as_then f None = refl
 map_as_then f (Some x) = refl
 
--- whether the last piece is an operand
-abbrev ends_with_operand : {N : Type 0} → List (Piece N) → Bool
+-- whether the last member is an operand
+abbrev ends_with_operand : {N : Type 0} → List (Member N) → Bool
 ends_with_operand [] = false
 ends_with_operand (operand t ∷ []) = true
 ends_with_operand (operator o ∷ []) = false
 ends_with_operand (p ∷ q ∷ ps) = ends_with_operand (q ∷ ps)
 
 module _ {N : Type 0} where
-  -- more steps than pieces
-  spine_enough : (n k : ℕ) (ps : List (Piece N)) → n ≡ length ps + k → spine_of n ps ≡ spine ps
+  -- more steps than members
+  spine_enough : (n k : ℕ) (ps : List (Member N)) → n ≡ length ps + k → spine_of n ps ≡ spine ps
   spine_enough n zero ps h = ap (λ (m : ℕ). spine_of m ps) (let i : n ≡ length ps = omega arith in i)
   spine_enough zero (suc k) ps h = absurd (omega arith)
   spine_enough (suc n) (suc k) ps h = sym (spine_more n ps (omega arith)) ∙ spine_enough n k ps (omega arith)
 
-  pub spine_with : (n : ℕ) (ps : List (Piece N)) → length ps ≤ n → spine_of n ps ≡ spine ps
+  pub spine_with : (n : ℕ) (ps : List (Member N)) → length ps ≤ n → spine_of n ps ≡ spine ps
   spine_with n ps h = spine_enough n (n - length ps) ps (omega arith)
 
   left_within : (o : Operator N) → left_bound o ≤ o.priority
@@ -81,7 +81,7 @@ module _ {N : Type 0} where
       (λ y. ap (option_map made) (if_false _ _ _ y) ∙ sym (if_false _ _ _ y))
 
   -- the tree on the left, as it is taken
-  left_taken : (o : Operator N) (made : Term N → Spine N) (n : ℕ) (row : List (Piece N)) → length row ≤ n →
+  left_taken : (o : Operator N) (made : Term N → Spine N) (n : ℕ) (row : List (Member N)) → length row ≤ n →
       option_map made (tree_of n (left_bound o) row) ≡ option_and_then (taken o made) (spine_of (suc n) (row ++ []))
   left_taken o made n row h =
       ap (option_map made) (tree_closed n (left_bound o) row)
@@ -100,7 +100,7 @@ module _ {N : Type 0} where
   abbrev pub by_postfix : Operator N → Term N → Spine N
   by_postfix o t = ended (with_one o.name t) o.priority
 
-  infix_root : (o : Operator N) (x : Term N) → is_infix o.kind ≡ true → (n : ℕ) (row : List (Piece N))
+  infix_root : (o : Operator N) (x : Term N) → is_infix o.kind ≡ true → (n : ℕ) (row : List (Member N))
       → length (row ++ operator o ∷ operand x ∷ []) ≤ suc n →
       spine_split n (split_at row o (operand x ∷ [])) ≡ option_and_then (taken o (by_infix o x)) (spine_of (suc n) (row ++ []))
   infix_root o x k zero row h = absurd (omega (arith, length-append row (operator o ∷ operand x ∷ [])))
@@ -114,7 +114,7 @@ module _ {N : Type 0} where
       ∙ (map_as_then (by_infix o x) left
       ∙ left_taken o (by_infix o x) (suc n) row (omega (arith, length-append row (operator o ∷ operand x ∷ []))))))
 
-  postfix_root : (o : Operator N) → is_postfix o.kind ≡ true → (n : ℕ) (row : List (Piece N)) → length (row ++ operator o ∷ []) ≤ suc n →
+  postfix_root : (o : Operator N) → is_postfix o.kind ≡ true → (n : ℕ) (row : List (Member N)) → length (row ++ operator o ∷ []) ≤ suc n →
       spine_split n (split_at row o []) ≡ option_and_then (taken o (by_postfix o)) (spine_of (suc n) (row ++ []))
   postfix_root o k n row h =
       let left = tree_of n (left_bound o) row in
@@ -124,10 +124,10 @@ module _ {N : Type 0} where
       ∙ left_taken o (by_postfix o) n row (omega (arith, length-append row (operator o ∷ []))))
 
   -- An infix operator and its operand.
-  pub spine-infix : (o : Operator N) (x : Term N) → is_infix o.kind ≡ true → 0 < o.priority → (ps : List (Piece N)) →
+  pub spine-infix : (o : Operator N) (x : Term N) → is_infix o.kind ≡ true → 0 < o.priority → (ps : List (Member N)) →
       spine (ps ++ operator o ∷ operand x ∷ []) ≡ option_and_then (added_to o (taken o (by_infix o x))) (spine ps)
   spine-infix o x k some ps =
-      let E : List (Piece N) = operator o ∷ operand x ∷ [] in
+      let E : List (Member N) = operator o ∷ operand x ∷ [] in
       let is : IsChange [] o (operand x ∷ []) refl refl some (taken o (by_infix o x)) = record {
         above = taken_above o (by_infix o x) (λ t. refl);
         beside = taken_beside o (by_infix o x) some;
@@ -138,10 +138,10 @@ module _ {N : Type 0} where
       ∙ spine_with (length (ps ++ E)) ps (omega (arith, length-append ps E)))
 
   -- A postfix operator.
-  pub spine-postfix : (o : Operator N) → is_postfix o.kind ≡ true → 0 < o.priority → (ps : List (Piece N)) →
+  pub spine-postfix : (o : Operator N) → is_postfix o.kind ≡ true → 0 < o.priority → (ps : List (Member N)) →
       spine (ps ++ operator o ∷ []) ≡ option_and_then (added_to o (taken o (by_postfix o))) (spine ps)
   spine-postfix o k some ps =
-      let E : List (Piece N) = operator o ∷ [] in
+      let E : List (Member N) = operator o ∷ [] in
       let is : IsChange [] o [] refl refl some (taken o (by_postfix o)) = record {
         above = taken_above o (by_postfix o) (λ t. refl);
         beside = taken_beside o (by_postfix o) some;
@@ -151,21 +151,21 @@ module _ {N : Type 0} where
       ∙ ap (option_and_then (added_to o (taken o (by_postfix o)))) (ap (spine_of (length (ps ++ E))) (append-nil ps)
       ∙ spine_with (length (ps ++ E)) ps (omega (arith, length-append ps E)))
 
-  ends_operand : (ps : List (Piece N)) (t : Term N) → ends_with_operand (ps ++ operand t ∷ []) ≡ true
+  ends_operand : (ps : List (Member N)) (t : Term N) → ends_with_operand (ps ++ operand t ∷ []) ≡ true
   ends_operand [] t = refl
   ends_operand (operand u ∷ []) t = refl
   ends_operand (operator o ∷ []) t = refl
   ends_operand (operand u ∷ q ∷ ps) t = ends_operand (q ∷ ps) t
   ends_operand (operator o ∷ q ∷ ps) t = ends_operand (q ∷ ps) t
 
-  ends_operator : (ps : List (Piece N)) (o : Operator N) → ends_with_operand (ps ++ operator o ∷ []) ≡ false
+  ends_operator : (ps : List (Member N)) (o : Operator N) → ends_with_operand (ps ++ operator o ∷ []) ≡ false
   ends_operator [] o = refl
   ends_operator (operand u ∷ []) o = refl
   ends_operator (operator p ∷ []) o = refl
   ends_operator (operand u ∷ q ∷ ps) o = ends_operator (q ∷ ps) o
   ends_operator (operator p ∷ q ∷ ps) o = ends_operator (q ∷ ps) o
 
-  not_last : (ps before after : List (Piece N)) (t : Term N) (o : Operator N) → ps ++ operand t ∷ [] ≡ before ++ operator o ∷ after
+  not_last : (ps before after : List (Member N)) (t : Term N) (o : Operator N) → ps ++ operand t ∷ [] ≡ before ++ operator o ∷ after
       → is_empty after ≡ true → ⊥
   not_last ps before [] t o e h = let i : true ≡ false = sym (ends_operand ps t) ∙ (ap ends_with_operand e ∙ ends_operator before o) in cc
   not_last ps before (p ∷ after) t o e h = cc
@@ -207,7 +207,7 @@ module _ {N : Type 0} where
   not_first o x p false false c d (Some l) (Some r) sp h k =
       let i : under p (Some l) r ≡ sp = cc in subst (λ (s : Spine N). by_prefix o x s ≡ None) i refl
 
-  prefix_parts : (o : Operator N) (x : Term N) (n : ℕ) (row : List (Piece N)) (b : Bool) (left : Option (Term N)) →
+  prefix_parts : (o : Operator N) (x : Term N) (n : ℕ) (row : List (Member N)) (b : Bool) (left : Option (Term N)) →
       led_parts o true b (is_empty row) false left (Some (ended x 0)) ≡ option_and_then (by_prefix o x)
       (spine_of (suc (suc n)) (row ++ operand x ∷ []))
   prefix_parts o x n [] b left = sym (ap (option_and_then (by_prefix o x)) (spine_single (suc n) x))
@@ -218,9 +218,9 @@ module _ {N : Type 0} where
       (λ s r f. not_first o x s.root (is_prefix s.root.kind) (is_postfix s.root.kind) (is_empty s.before) (is_empty s.after)
       (tree_of (suc n) (left_bound s.root) s.before) (right_at (suc n) s) sp f
       (not_last (p ∷ row) s.before s.after x s.root (root_splits (top (p ∷ row ++ operand x ∷ []))
-      (p ∷ row ++ operand x ∷ []) s refl r).pieces))))
+      (p ∷ row ++ operand x ∷ []) s refl r).members))))
 
-  prefix_root : (o : Operator N) (x : Term N) → is_prefix o.kind ≡ true → (n : ℕ) (row : List (Piece N))
+  prefix_root : (o : Operator N) (x : Term N) → is_prefix o.kind ≡ true → (n : ℕ) (row : List (Member N))
       → length (row ++ operator o ∷ operand x ∷ []) ≤ suc n →
       spine_split n (split_at row o (operand x ∷ [])) ≡ option_and_then (by_prefix o x) (spine_of (suc n) (row ++ operand x ∷ []))
   prefix_root o x k zero row h = absurd (omega (arith, length-append row (operator o ∷ operand x ∷ [])))
@@ -231,11 +231,11 @@ module _ {N : Type 0} where
       ∙ prefix_parts o x n row (is_postfix o.kind) left)
 
   -- A prefix operator before an operand.
-  pub spine-prefix : (o : Operator N) (x : Term N) → is_prefix o.kind ≡ true → 0 < o.priority → (ps : List (Piece N)) →
+  pub spine-prefix : (o : Operator N) (x : Term N) → is_prefix o.kind ≡ true → 0 < o.priority → (ps : List (Member N)) →
       spine (ps ++ operator o ∷ operand x ∷ []) ≡ option_and_then (added_to o (by_prefix o x)) (spine (ps ++ operand x ∷ []))
   spine-prefix o x k some ps =
-      let F : List (Piece N) = operand x ∷ [] in
-      let E : List (Piece N) = operator o ∷ F in
+      let F : List (Member N) = operand x ∷ [] in
+      let E : List (Member N) = operator o ∷ F in
       let is : IsChange F o F refl refl some (by_prefix o x) = record {
         above = λ s r h. first_above o x s.arms s.priority r h;
         beside = λ s h _. first_beside o x some s.arms s.priority h;

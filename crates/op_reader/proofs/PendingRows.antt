@@ -9,16 +9,16 @@ use Rattle.std.specs.Prelude.{reverse}
 use Rattle.std.specs.Option.{IfSome}
 use Rattle.std.proofs.lemmas.List.{reverse-append}
 use Rattle.std.proofs.lemmas.List.Elements.{All-weaker, All-pop}
-use Rattle.op_reader.specs.declared.piece.Piece.{Piece}
-use Rattle.op_reader.specs.declared.piece.Piece.TheVariants.{Operand, Operator}
+use Rattle.op_reader.specs.declared.member.Member.{Member}
+use Rattle.op_reader.specs.declared.member.Member.TheVariants.{Operand, Operator}
 use Rattle.op_reader.specs.declared.read_rows.ReadRows.{ReadRows}
 use Rattle.op_reader.specs.declared.terms.Pending.{Pending}
-use Rattle.op_reader.specs.inner.Pieces.{PieceBelow}
+use Rattle.op_reader.specs.inner.Members.{MemberBelow}
 use Rattle.op_reader.specs.inner.ReadRows.{rows_in, first_rows, RowsBelow, PendingBelow, Popped, Reads, nothing_read}
 
-piece_more : (n m : ℕ) → n ≤ m → (p : Piece) → PieceBelow n p → PieceBelow m p
-piece_more n m l (Operand k) h = omega arith
-piece_more n m l (Operator o) h = h
+member_more : (n m : ℕ) → n ≤ m → (p : Member) → MemberBelow n p → MemberBelow m p
+member_more n m l (Operand k) h = omega arith
+member_more n m l (Operator o) h = h
 
 tail_more : (n m : ℕ) → n ≤ m → (o : Option ℕ) → IfSome o (λ k. k < n) → IfSome o (λ k. k < m)
 tail_more n m l (Some k) h = let g : k < n = h in omega arith
@@ -27,7 +27,7 @@ tail_more n m l None h = h
 pub rows_more : (n m : ℕ) → n ≤ m → (l : ReadRows) → RowsBelow n l → RowsBelow m l
 rows_more n m l v h =
     record {
-      row = All-weaker (PieceBelow n) (PieceBelow m) (piece_more n m l) v.row.items h.row;
+      row = All-weaker (MemberBelow n) (MemberBelow m) (member_more n m l) v.row.items h.row;
       rest = All-weaker (λ k. k < n) (λ k. k < m) (λ k g. omega arith) v.rest.items h.rest;
       tail = tail_more n m l v.tail h.tail;
     }

@@ -1,4 +1,4 @@
--- A row without a tree has none after any addition; and only pieces that alternate as they must have one.
+-- A row without a tree has none after any addition; and only members that alternate as they must have one.
 use Rattle.std.proofs.Common.{◌≡◌, ℕ, zero, suc, ◌<◌, Bool, true, false, not, ◌&&◌, List, [], ◌∷◌, ◌++◌, Option, Some, None, length, refl}
 use Rattle.std.proofs.Common.{ap, sym, ◌∙◌, arith, leb}
 use Rattle.std.specs.Option.{option_and_then}
@@ -8,7 +8,7 @@ use Rattle.op_logic.proofs.BoolCases.{by_test, if_true, if_false}
 use Rattle.op_term.specs.Ops.{is_prefix, is_infix, is_postfix}
 use Rattle.op_term.specs.declared.ops.OpKind.{OpKind}
 use Rattle.op_term.specs.declared.ops.OpKind.TheVariants.{Xfx, Xfy, Yfx, Fy, Fx, Xf, Yf}
-use Rattle.op_reader.specs.Row.{Piece, operand, operator, Operator, alternates, is_row, top, root, left_bound, right_bound, is_empty}
+use Rattle.op_reader.specs.Row.{Member, operand, operator, Operator, alternates, is_row, top, root, left_bound, right_bound, is_empty}
 use Rattle.op_reader.specs.Row.{with_one, with_two, tree_of, tree, HasNoTree}
 use Rattle.op_reader.specs.inner.Spine.{whole_priority, spine}
 use Rattle.op_reader.specs.inner.Adding.{whole_term, taken, added_to}
@@ -18,7 +18,7 @@ use Rattle.op_reader.proofs.AddedOperators.{by_option, only_when}
 use Rattle.op_reader.proofs.OperatorSpines.{by_prefix, by_infix, by_postfix, spine-prefix, spine-infix, spine-postfix}
 use Rattle.op_reader.proofs.RowNames.{joined_by}
 
-no_spine : (ps : List (Piece ℕ)) → HasNoTree ps → spine ps ≡ None
+no_spine : (ps : List (Member ℕ)) → HasNoTree ps → spine ps ≡ None
 no_spine ps h =
     by_option (spine ps)
     (λ e. e)
@@ -29,22 +29,22 @@ no_spine ps h =
     let j : tree n ps ≡ None = h n in
     cc)
 
-no_tree : (ps : List (Piece ℕ)) → spine ps ≡ None → HasNoTree ps
+no_tree : (ps : List (Member ℕ)) → spine ps ≡ None → HasNoTree ps
 no_tree ps e = λ n. tree_closed (length ps) n ps ∙ ap (option_and_then (closed n)) e
 
-pub infix_keeps : (ps : List (Piece ℕ)) (o : Operator ℕ) (t : Term ℕ) → is_infix o.kind ≡ true → 0 < o.priority → HasNoTree ps
+pub infix_keeps : (ps : List (Member ℕ)) (o : Operator ℕ) (t : Term ℕ) → is_infix o.kind ≡ true → 0 < o.priority → HasNoTree ps
     → HasNoTree (ps ++ operator o ∷ operand t ∷ [])
 infix_keeps ps o t k some h =
     no_tree (ps ++ operator o ∷ operand t ∷ []) (spine-infix o t k some ps
     ∙ ap (option_and_then (added_to o (taken o (by_infix o t)))) (no_spine ps h))
 
-pub postfix_keeps : (ps : List (Piece ℕ)) (o : Operator ℕ) → is_postfix o.kind ≡ true → 0 < o.priority → HasNoTree ps
+pub postfix_keeps : (ps : List (Member ℕ)) (o : Operator ℕ) → is_postfix o.kind ≡ true → 0 < o.priority → HasNoTree ps
     → HasNoTree (ps ++ operator o ∷ [])
 postfix_keeps ps o k some h =
     no_tree (ps ++ operator o ∷ []) (spine-postfix o k some ps
     ∙ ap (option_and_then (added_to o (taken o (by_postfix o)))) (no_spine ps h))
 
-pub prefix_keeps : (ps : List (Piece ℕ)) (o : Operator ℕ) (t : Term ℕ) → is_prefix o.kind ≡ true → 0 < o.priority
+pub prefix_keeps : (ps : List (Member ℕ)) (o : Operator ℕ) (t : Term ℕ) → is_prefix o.kind ≡ true → 0 < o.priority
     → HasNoTree (ps ++ operand t ∷ []) → HasNoTree (ps ++ operator o ∷ operand t ∷ [])
 prefix_keeps ps o t k some h =
     no_tree (ps ++ operator o ∷ operand t ∷ []) (spine-prefix o t k some ps ∙ ap (option_and_then (added_to o (by_prefix o t)))
@@ -94,7 +94,7 @@ both_true false b h g = cc
 
 module _ {N : Type 0} where
   -- a row goes on where an operator is expected
-  goes_on : (e : Bool) (xs ys : List (Piece N)) → alternates e xs ≡ true → alternates false ys ≡ true → alternates e (xs ++ ys) ≡ true
+  goes_on : (e : Bool) (xs ys : List (Member N)) → alternates e xs ≡ true → alternates false ys ≡ true → alternates e (xs ++ ys) ≡ true
   goes_on true [] ys h g = cc
   goes_on false [] ys h g = g
   goes_on e (operand t ∷ xs) ys h g = both_true e _ (and_first e _ h) (goes_on false xs ys (and_true e _ h) g)
@@ -105,22 +105,22 @@ module _ {N : Type 0} where
       (λ y. let i : (not e && alternates (is_infix o.kind) xs) ≡ true = sym (if_false _ _ _ y) ∙ h in
       if_false _ _ _ y ∙ both_true (not e) _ (and_first (not e) _ i) (goes_on (is_infix o.kind) xs ys (and_true (not e) _ i) g))
 
-  prefix_row : (before : List (Piece N)) (o : Operator N) (after : List (Piece N)) → is_prefix o.kind ≡ true → is_empty before ≡ true
+  prefix_row : (before : List (Member N)) (o : Operator N) (after : List (Member N)) → is_prefix o.kind ≡ true → is_empty before ≡ true
       → is_row after ≡ true → is_row (before ++ operator o ∷ after) ≡ true
   prefix_row [] o after k e h = if_true _ _ _ k ∙ h
   prefix_row (p ∷ before) o after k e h = cc
 
-  postfix_row : (before : List (Piece N)) (o : Operator N) (after : List (Piece N)) → is_prefix o.kind ≡ false → is_postfix o.kind ≡ true
+  postfix_row : (before : List (Member N)) (o : Operator N) (after : List (Member N)) → is_prefix o.kind ≡ false → is_postfix o.kind ≡ true
       → is_empty after ≡ true → is_row before ≡ true → is_row (before ++ operator o ∷ after) ≡ true
   postfix_row before o [] p k e h = goes_on true before (operator o ∷ []) h (if_false _ _ _ p ∙ ap not (not_infix o.kind k))
   postfix_row before o (q ∷ after) p k e h = cc
 
-  infix_row : (before : List (Piece N)) (o : Operator N) (after : List (Piece N)) → is_prefix o.kind ≡ false → is_postfix o.kind ≡ false
+  infix_row : (before : List (Member N)) (o : Operator N) (after : List (Member N)) → is_prefix o.kind ≡ false → is_postfix o.kind ≡ false
       → is_row before ≡ true → is_row after ≡ true → is_row (before ++ operator o ∷ after) ≡ true
   infix_row before o after p k h g =
       goes_on true before (operator o ∷ after) h (if_false _ _ _ p ∙ (ap (λ (b : Bool). alternates b after) (infix_else o.kind p k) ∙ g))
 
-of_row : (n bound : ℕ) (ps : List (Piece ℕ)) (t : Term ℕ) → tree_of n bound ps ≡ Some t → is_row ps ≡ true
+of_row : (n bound : ℕ) (ps : List (Member ℕ)) (t : Term ℕ) → tree_of n bound ps ≡ Some t → is_row ps ≡ true
 unfolding tree_of
 of_row zero bound ps t h = cc
 of_row (suc n) bound ps t h =
@@ -129,7 +129,7 @@ of_row (suc n) bound ps t h =
     (λ e. only_when (tree_at n bound) (root ps) t (sym (tree_step n bound ps e) ∙ h)
     (λ s r f.
     let o = s.root in
-    let i : ps ≡ s.before ++ operator o ∷ s.after = (root_splits (top ps) ps s refl r).pieces in
+    let i : ps ≡ s.before ++ operator o ∷ s.after = (root_splits (top ps) ps s refl r).members in
     by_test (leb o.priority bound)
     (λ y. joined_when o.name (is_prefix o.kind) (is_postfix o.kind) (is_empty s.before) (is_empty s.after)
     (tree_of n (left_bound o) s.before) (tree_of n (right_bound o) s.after) t (sym (if_true _ _ _ y) ∙ f)
@@ -139,5 +139,5 @@ of_row (suc n) bound ps t h =
     (of_row n (right_bound o) s.after v w)))
     (λ y. let j : None ≡ Some t = sym (if_false _ _ _ y) ∙ f in cc)))
 
-pub trees_of_rows : (bound : ℕ) (ps : List (Piece ℕ)) (t : Term ℕ) → tree bound ps ≡ Some t → is_row ps ≡ true
+pub trees_of_rows : (bound : ℕ) (ps : List (Member ℕ)) (t : Term ℕ) → tree bound ps ≡ Some t → is_row ps ≡ true
 trees_of_rows bound ps t h = of_row (length ps) bound ps t h

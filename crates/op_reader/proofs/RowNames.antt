@@ -5,18 +5,18 @@ use Rattle.std.specs.Option.{option_map, option_and_then}
 use Rattle.std.proofs.lemmas.List.{length-map}
 use Rattle.op_logic.specs.Term.{Term, rename}
 use Rattle.op_term.specs.Ops.{is_prefix, is_postfix, is_y_left, is_y_right}
-use Rattle.op_reader.specs.Row.{Piece, operand, operator, Operator, Split, split_at, behind, top, leftmost, rightmost, root, root_among}
+use Rattle.op_reader.specs.Row.{Member, operand, operator, Operator, Split, split_at, behind, top, leftmost, rightmost, root, root_among}
 use Rattle.op_reader.specs.Row.{joined, left_bound, right_bound, is_empty, with_one, with_two, tree_of, tree}
 use Rattle.op_reader.proofs.RowSplits.{last_of, rightmost_is}
 use Rattle.op_reader.proofs.Spines.{is_single, single_or, tree_step, tree_at}
 
--- pieces with other names
+-- members with other names
 abbrev pub operator_renamed : {N M : Type 0} → (N → M) → Operator N → Operator M
 operator_renamed f o = record { name = f o.name; priority = o.priority; kind = o.kind }
 
-abbrev pub piece_renamed : {N M : Type 0} → (N → M) → Piece N → Piece M
-piece_renamed f (operand t) = operand (rename f t)
-piece_renamed f (operator o) = operator (operator_renamed f o)
+abbrev pub member_renamed : {N M : Type 0} → (N → M) → Member N → Member M
+member_renamed f (operand t) = operand (rename f t)
+member_renamed f (operator o) = operator (operator_renamed f o)
 
 -- the tree of a split row, by its tests
 abbrev pub joined_by : {K : Type 0} → K → Bool → Bool → Bool → Bool → Option (Term K) → Option (Term K) → Option (Term K)
@@ -25,18 +25,18 @@ joined_by name a b c d left right =
     (option_and_then (λ l. option_map (with_two name l) right) left))
 
 module _ {N M : Type 0} (f : N → M) where
-  abbrev pieces : List (Piece N) → List (Piece M)
-  pieces ps = map (piece_renamed f) ps
+  abbrev members : List (Member N) → List (Member M)
+  members ps = map (member_renamed f) ps
 
   abbrev split_renamed : Split N → Split M
-  split_renamed s = split_at (pieces s.before) (operator_renamed f s.root) (pieces s.after)
+  split_renamed s = split_at (members s.before) (operator_renamed f s.root) (members s.after)
 
-  top_renamed : (ps : List (Piece N)) → top (pieces ps) ≡ top ps
+  top_renamed : (ps : List (Member N)) → top (members ps) ≡ top ps
   top_renamed [] = refl
   top_renamed (operand t ∷ ps) = top_renamed ps
   top_renamed (operator o ∷ ps) = ap (max o.priority) (top_renamed ps)
 
-  behind_renamed : (p : Piece N) (o : Option (Split N)) → option_map (behind (piece_renamed f p)) (option_map split_renamed o)
+  behind_renamed : (p : Member N) (o : Option (Split N)) → option_map (behind (member_renamed f p)) (option_map split_renamed o)
       ≡ option_map split_renamed (option_map (behind p) o)
   behind_renamed p None = refl
   behind_renamed p (Some s) = refl
@@ -46,27 +46,27 @@ module _ {N M : Type 0} (f : N → M) where
   test_renamed g true x y = refl
   test_renamed g false x y = refl
 
-  leftmost_renamed : (n : ℕ) (ps : List (Piece N)) → leftmost n (pieces ps) ≡ option_map split_renamed (leftmost n ps)
+  leftmost_renamed : (n : ℕ) (ps : List (Member N)) → leftmost n (members ps) ≡ option_map split_renamed (leftmost n ps)
   leftmost_renamed n [] = refl
   leftmost_renamed n (operand t ∷ ps) =
-      ap (option_map (behind (piece_renamed f (operand t)))) (leftmost_renamed n ps) ∙ behind_renamed (operand t) (leftmost n ps)
+      ap (option_map (behind (member_renamed f (operand t)))) (leftmost_renamed n ps) ∙ behind_renamed (operand t) (leftmost n ps)
   leftmost_renamed n (operator o ∷ ps) =
-      ap (λ (q : Option (Split M)). cond (o.priority == n) (Some (split_at [] (operator_renamed f o) (pieces ps))) q)
-      (ap (option_map (behind (piece_renamed f (operator o)))) (leftmost_renamed n ps) ∙ behind_renamed (operator o) (leftmost n ps))
+      ap (λ (q : Option (Split M)). cond (o.priority == n) (Some (split_at [] (operator_renamed f o) (members ps))) q)
+      (ap (option_map (behind (member_renamed f (operator o)))) (leftmost_renamed n ps) ∙ behind_renamed (operator o) (leftmost n ps))
       ∙ test_renamed split_renamed (o.priority == n) (Some (split_at [] o ps)) (option_map (behind (operator o)) (leftmost n ps))
 
-  last_renamed : (n : ℕ) (o : Operator N) (ps : List (Piece N)) (q : Option (Split N))
-      → last_of n (operator_renamed f o) (pieces ps) (option_map split_renamed q) ≡ option_map split_renamed (last_of n o ps q)
+  last_renamed : (n : ℕ) (o : Operator N) (ps : List (Member N)) (q : Option (Split N))
+      → last_of n (operator_renamed f o) (members ps) (option_map split_renamed q) ≡ option_map split_renamed (last_of n o ps q)
   last_renamed n o ps None = test_renamed split_renamed (o.priority == n) (Some (split_at [] o ps)) None
   last_renamed n o ps (Some s) = refl
 
-  rightmost_renamed : (n : ℕ) (ps : List (Piece N)) → rightmost n (pieces ps) ≡ option_map split_renamed (rightmost n ps)
+  rightmost_renamed : (n : ℕ) (ps : List (Member N)) → rightmost n (members ps) ≡ option_map split_renamed (rightmost n ps)
   rightmost_renamed n [] = refl
   rightmost_renamed n (operand t ∷ ps) =
-      ap (option_map (behind (piece_renamed f (operand t)))) (rightmost_renamed n ps) ∙ behind_renamed (operand t) (rightmost n ps)
+      ap (option_map (behind (member_renamed f (operand t)))) (rightmost_renamed n ps) ∙ behind_renamed (operand t) (rightmost n ps)
   rightmost_renamed n (operator o ∷ ps) =
-      rightmost_is n (operator_renamed f o) (pieces ps)
-      ∙ (ap (last_of n (operator_renamed f o) (pieces ps)) (rightmost_renamed n ps)
+      rightmost_is n (operator_renamed f o) (members ps)
+      ∙ (ap (last_of n (operator_renamed f o) (members ps)) (rightmost_renamed n ps)
       ∙ (last_renamed n o ps (rightmost n ps) ∙ ap (option_map split_renamed) (sym (rightmost_is n o ps))))
 
   among_renamed : (l r : Option (Split N)) → root_among (option_map split_renamed l) (option_map split_renamed r)
@@ -81,18 +81,18 @@ module _ {N M : Type 0} (f : N → M) where
       ∙ (ap (λ (q : Option (Split M)). cond b (Some (split_renamed l)) q) (test_renamed split_renamed c (Some r) None)
       ∙ test_renamed split_renamed b (Some l) (cond c (Some r) None))
 
-  root_renamed : (ps : List (Piece N)) → root (pieces ps) ≡ option_map split_renamed (root ps)
+  root_renamed : (ps : List (Member N)) → root (members ps) ≡ option_map split_renamed (root ps)
   root_renamed ps =
-      ap (λ (n : ℕ). root_among (leftmost n (pieces ps)) (rightmost n (pieces ps))) (top_renamed ps)
-      ∙ (ap (λ (q : Option (Split M)). root_among q (rightmost (top ps) (pieces ps))) (leftmost_renamed (top ps) ps)
+      ap (λ (n : ℕ). root_among (leftmost n (members ps)) (rightmost n (members ps))) (top_renamed ps)
+      ∙ (ap (λ (q : Option (Split M)). root_among q (rightmost (top ps) (members ps))) (leftmost_renamed (top ps) ps)
       ∙ (ap (λ (q : Option (Split M)). root_among (option_map split_renamed (leftmost (top ps) ps)) q) (rightmost_renamed (top ps) ps)
       ∙ among_renamed (leftmost (top ps) ps) (rightmost (top ps) ps)))
 
-  empty_renamed : (ps : List (Piece N)) → is_empty (pieces ps) ≡ is_empty ps
+  empty_renamed : (ps : List (Member N)) → is_empty (members ps) ≡ is_empty ps
   empty_renamed [] = refl
   empty_renamed (p ∷ ps) = refl
 
-  single_renamed : (ps : List (Piece N)) → is_single (pieces ps) ≡ is_single ps
+  single_renamed : (ps : List (Member N)) → is_single (members ps) ≡ is_single ps
   single_renamed [] = refl
   single_renamed (operator o ∷ ps) = refl
   single_renamed (operand t ∷ []) = refl
@@ -117,7 +117,7 @@ module _ {N M : Type 0} (f : N → M) where
   then_renamed g h None e = refl
   then_renamed g h (Some s) e = e s
 
-  split_tree : (n bound : ℕ) → ((b : ℕ) (qs : List (Piece N)) → tree_of n b (pieces qs) ≡ option_map (rename f) (tree_of n b qs))
+  split_tree : (n bound : ℕ) → ((b : ℕ) (qs : List (Member N)) → tree_of n b (members qs) ≡ option_map (rename f) (tree_of n b qs))
       → (s : Split N) →
       tree_at n bound (split_renamed s) ≡ option_map (rename f) (tree_at n bound s)
   split_tree n bound ih s =
@@ -127,28 +127,28 @@ module _ {N M : Type 0} (f : N → M) where
       let by : Bool → Bool → Option (Term M) → Option (Term M) → Option (Term M) =
       λ c d l r. joined_by (f o.name) (is_prefix o.kind) (is_postfix o.kind) c d l r in
       ap (λ (q : Option (Term M)). cond (leb o.priority bound) q None)
-      (ap (λ (l : Option (Term M)). by (is_empty (pieces s.before)) (is_empty (pieces s.after)) l (tree_of n (right_bound o)
-      (pieces s.after))) (ih (left_bound o) s.before)
-      ∙ (ap (λ (r : Option (Term M)). by (is_empty (pieces s.before)) (is_empty (pieces s.after)) (option_map (rename f) left) r)
+      (ap (λ (l : Option (Term M)). by (is_empty (members s.before)) (is_empty (members s.after)) l (tree_of n (right_bound o)
+      (members s.after))) (ih (left_bound o) s.before)
+      ∙ (ap (λ (r : Option (Term M)). by (is_empty (members s.before)) (is_empty (members s.after)) (option_map (rename f) left) r)
       (ih (right_bound o) s.after)
-      ∙ (ap (λ (c : Bool). by c (is_empty (pieces s.after)) (option_map (rename f) left) (option_map (rename f) right))
+      ∙ (ap (λ (c : Bool). by c (is_empty (members s.after)) (option_map (rename f) left) (option_map (rename f) right))
       (empty_renamed s.before)
       ∙ (ap (λ (d : Bool). by (is_empty s.before) d (option_map (rename f) left) (option_map (rename f) right)) (empty_renamed s.after)
       ∙ joined_renamed o.name (is_prefix o.kind) (is_postfix o.kind) (is_empty s.before) (is_empty s.after) left right))))
       ∙ test_renamed (rename f) (leb o.priority bound) (joined s left right) None
 
-  tree_of_renamed : (n bound : ℕ) (ps : List (Piece N)) → tree_of n bound (pieces ps) ≡ option_map (rename f) (tree_of n bound ps)
+  tree_of_renamed : (n bound : ℕ) (ps : List (Member N)) → tree_of n bound (members ps) ≡ option_map (rename f) (tree_of n bound ps)
   unfolding tree_of
   tree_of_renamed zero bound ps = refl
   tree_of_renamed (suc n) bound ps =
       single_or ps
-      (λ t e. subst (λ (qs : List (Piece N)). tree_of (suc n) bound (pieces qs) ≡ option_map (rename f) (tree_of (suc n) bound qs))
+      (λ t e. subst (λ (qs : List (Member N)). tree_of (suc n) bound (members qs) ≡ option_map (rename f) (tree_of (suc n) bound qs))
       (sym e) refl)
-      (λ e. tree_step n bound (pieces ps) (single_renamed ps ∙ e)
+      (λ e. tree_step n bound (members ps) (single_renamed ps ∙ e)
       ∙ (ap (option_and_then (tree_at n bound)) (root_renamed ps)
       ∙ (then_renamed (tree_at n bound) (tree_at n bound) (root ps) (split_tree n bound (λ b qs. tree_of_renamed n b qs))
       ∙ ap (option_map (rename f)) (sym (tree_step n bound ps e)))))
 
-  pub tree_renamed : (bound : ℕ) (ps : List (Piece N)) → tree bound (map (piece_renamed f) ps) ≡ option_map (rename f) (tree bound ps)
+  pub tree_renamed : (bound : ℕ) (ps : List (Member N)) → tree bound (map (member_renamed f) ps) ≡ option_map (rename f) (tree bound ps)
   tree_renamed bound ps =
-      ap (λ (n : ℕ). tree_of n bound (pieces ps)) (length-map ps (piece_renamed f)) ∙ tree_of_renamed (length ps) bound ps
+      ap (λ (n : ℕ). tree_of n bound (members ps)) (length-map ps (member_renamed f)) ∙ tree_of_renamed (length ps) bound ps

@@ -7,7 +7,7 @@ use Rattle.op_logic.proofs.BoolCases.{by_test, by_order, if_true, if_false}
 use Rattle.op_term.specs.declared.ops.OpKind.{OpKind}
 use Rattle.op_term.specs.declared.ops.OpKind.TheVariants.{Xfx, Xfy, Yfx, Fy, Fx, Xf, Yf}
 use Rattle.op_term.specs.Ops.{is_y_left, is_y_right}
-use Rattle.op_reader.specs.Row.{Piece, operator, Operator, Split, split_at, top, leftmost, rightmost, root, root_among, right_bound}
+use Rattle.op_reader.specs.Row.{Member, operator, Operator, Split, split_at, top, leftmost, rightmost, root, root_among, right_bound}
 use Rattle.op_reader.proofs.RowSplits.{extended, top-append, leftmost-here, leftmost-more, rightmost-above, rightmost-more, rightmost-here}
 use Rattle.op_reader.proofs.RowSplits.{IsSplit, leftmost-splits, rightmost-splits, leftmost-there, rightmost-there}
 
@@ -49,11 +49,11 @@ module _ {N : Type 0} where
   chosen_one l r false true h f g = g (cc) refl refl
   chosen_one l r false false h f g = cc
 
-  root_is : (n : ℕ) (ps : List (Piece N)) (l r : Split N) → top ps ≡ n → leftmost n ps ≡ Some l
+  root_is : (n : ℕ) (ps : List (Member N)) (l r : Split N) → top ps ≡ n → leftmost n ps ≡ Some l
       → rightmost n ps ≡ Some r → root ps ≡ chosen l r
   root_is n ps l r e f g = let i : root ps ≡ root_among (Some l) (Some r) = cc in i
 
-  pub root_splits : (n : ℕ) (ps : List (Piece N)) (s : Split N) → top ps ≡ n → root ps ≡ Some s → IsSplit n ps s
+  pub root_splits : (n : ℕ) (ps : List (Member N)) (s : Split N) → top ps ≡ n → root ps ≡ Some s → IsSplit n ps s
   root_splits n ps s e h =
       among (leftmost n ps) (rightmost n ps) (λ x g. leftmost-splits n ps x g) (λ x g. rightmost-splits n ps x g)
       (let i : root ps ≡ root_among (leftmost n ps) (rightmost n ps) = cc in sym i ∙ h)
@@ -78,10 +78,10 @@ module _ {N : Type 0} where
   right_nearly : (o : Operator N) → o.priority - 1 ≤ right_bound o
   right_nearly o = by_test (is_y_right o.kind) (λ h. omega (arith, right_equal o h)) (λ h. omega (arith, right_below o h))
 
-  -- Pieces F on the right that have no operator give way to an operator with pieces that have none. Either the root is as before,
+  -- Members F on the right that have no operator give way to an operator with members that have none. Either the root is as before,
   -- and the operator may stand on its right; or there is none either way; or the operator is the root; or it is refused beside an
   -- operator of its own priority.
-  pub data Outcome (row F : List (Piece N)) (o : Operator N) (e : List (Piece N)) : Type 0 where
+  pub data Outcome (row F : List (Member N)) (o : Operator N) (e : List (Member N)) : Type 0 where
     stays : (s : Split N) → root (row ++ F) ≡ Some (extended F s) → root (row ++ operator o ∷ e) ≡ Some (extended (operator o ∷ e) s)
         → row ≡ s.before ++ operator s.root ∷ s.after → o.priority ≤ right_bound s.root → Outcome row F o e
     none : 0 < top (row ++ F) → root (row ++ F) ≡ None → root (row ++ operator o ∷ e) ≡ None → Outcome row F o e
@@ -91,7 +91,7 @@ module _ {N : Type 0} where
         → ((s : Split N) → root (row ++ F) ≡ Some s → (s.root.priority ≡ o.priority) × (right_bound s.root < o.priority))
         → Outcome row F o e
 
-  module _ (row F : List (Piece N)) (o : Operator N) (e : List (Piece N)) (nF : top F ≡ 0) (ne : top e ≡ 0) (some : 0 < o.priority) where
+  module _ (row F : List (Member N)) (o : Operator N) (e : List (Member N)) (nF : top F ≡ 0) (ne : top e ≡ 0) (some : 0 < o.priority) where
     top_before : top (row ++ F) ≡ top row
     top_before = omega (arith, top-append row F)
 
@@ -124,7 +124,7 @@ module _ {N : Type 0} where
         ∙ ap (option_map (extended F)) R.1 in
         let cF : root (row ++ F) ≡ chosen (extended F l) (extended F r) = root_is p (row ++ F) (extended F l) (extended F r) top_before
         (leftmost-more p row F l L.1) rF in
-        let E : List (Piece N) = operator o ∷ e in
+        let E : List (Member N) = operator o ∷ e in
         let rE : rightmost p (row ++ E) ≡ Some (split_at row o e) = subst (λ (n : ℕ). rightmost n (row ++ E) ≡ Some (split_at row o e))
         (sym h) (rightmost-here row o e (omega arith)) in
         let cE : root (row ++ E) ≡ chosen (extended E l) (split_at row o e) =
@@ -133,7 +133,7 @@ module _ {N : Type 0} where
         (λ y. stays l
         (cF ∙ if_true _ _ _ (or_right _ _ y))
         (cE ∙ if_true _ _ _ (or_right _ _ y))
-        sl.pieces
+        sl.members
         (omega (arith, sl.priority, right_equal l.root y)))
         (λ y.
         let below : (s : Split N) → root (row ++ F) ≡ Some s → (s.root.priority ≡ o.priority) × (right_bound s.root < o.priority) =
@@ -163,7 +163,7 @@ module _ {N : Type 0} where
         ∙ ap (option_map (extended F)) R.1 in
         let cF : root (row ++ F) ≡ chosen (extended F l) (extended F r) = root_is p (row ++ F) (extended F l) (extended F r) top_before
         (leftmost-more p row F l L.1) rF in
-        let E : List (Piece N) = operator o ∷ e in
+        let E : List (Member N) = operator o ∷ e in
         let rE : rightmost p (row ++ E) ≡ Some (extended E r) = rightmost-more p row E (rightmost-above p E (omega arith))
         ∙ ap (option_map (extended E)) R.1 in
         let cE : root (row ++ E) ≡ chosen (extended E l) (extended E r) =
@@ -175,10 +175,10 @@ module _ {N : Type 0} where
         let same_test : (ltb (top (l.after ++ E)) l.root.priority || is_y_right l.root.kind)
         ≡ (ltb (top (l.after ++ F)) l.root.priority || is_y_right l.root.kind) = ap (λ (b : Bool). b || is_y_right l.root.kind) tests in
         by_test (ltb (top (l.after ++ F)) l.root.priority || is_y_right l.root.kind)
-        (λ y. stays l (cF ∙ if_true _ _ _ y) (cE ∙ if_true _ _ _ (same_test ∙ y)) sl.pieces
+        (λ y. stays l (cF ∙ if_true _ _ _ y) (cE ∙ if_true _ _ _ (same_test ∙ y)) sl.members
         (omega (arith, sl.priority, right_nearly l.root)))
         (λ y. by_test (is_y_left r.root.kind)
-        (λ z. stays r (cF ∙ (if_false _ _ _ y ∙ if_true _ _ _ z)) (cE ∙ (if_false _ _ _ (same_test ∙ y) ∙ if_true _ _ _ z)) sr.pieces
+        (λ z. stays r (cF ∙ (if_false _ _ _ y ∙ if_true _ _ _ z)) (cE ∙ (if_false _ _ _ (same_test ∙ y) ∙ if_true _ _ _ z)) sr.members
         (omega (arith, sr.priority, right_nearly r.root)))
         (λ z. none (omega (arith, top_before)) (cF ∙ (if_false _ _ _ y ∙ if_false _ _ _ z)) (cE
         ∙ (if_false _ _ _ (same_test ∙ y) ∙ if_false _ _ _ z))))

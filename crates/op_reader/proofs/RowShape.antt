@@ -1,18 +1,19 @@
--- A row that has a tree alternates as it must: so pieces that don't are refused.
+-- A row that has a tree alternates as it must: so members that don't are refused.
 use Rattle.std.proofs.Common.{◌≡◌, ℕ, zero, suc, Bool, true, false, cond, ◌&&◌, not, List, [], ◌∷◌, ◌++◌, Option, Some, None, length, refl}
 use Rattle.std.proofs.Common.{ap, sym, ◌∙◌, leb, ◌<◌, ◌≤◌, map, drop, get_or}
 use Rattle.std.proofs.Math.Seq.{drop-cons}
 use Rattle.std.proofs.Math.ListN.{drop_of_length-le}
-use Rattle.op_reader.specs.declared.piece.Piece.{Piece as PieceHeld}
-use Rattle.op_reader.specs.declared.piece.Piece.TheVariants.{Operand, Operator as AnOperator}
-use Rattle.op_reader.specs.inner.Pieces.{piece_at}
+use Rattle.op_reader.specs.declared.member.Member.{Member as DeclaredMember}
+use Rattle.op_reader.specs.declared.member.Member.TheVariants.{Operand, Operator as AnOperator}
+use Rattle.op_reader.specs.inner.Members.{member_at}
 use Rattle.std.specs.Option.{option_map, option_and_then}
 use Rattle.op_logic.specs.Term.{Term}
 use Rattle.op_logic.proofs.BoolCases.{if_true, if_false}
 use Rattle.op_term.specs.declared.ops.OpKind.{OpKind}
 use Rattle.op_term.specs.declared.ops.OpKind.TheVariants.{Xfx, Xfy, Yfx, Fy, Fx, Xf, Yf}
 use Rattle.op_term.specs.Ops.{is_prefix, is_postfix, is_infix}
-use Rattle.op_reader.specs.Row.{Piece, operand, operator, Operator, Split, alternates, top, root, joined, left_bound, right_bound, is_empty}
+use Rattle.op_reader.specs.Row.{Member, operand, operator, Operator, Split, alternates, top, root}
+use Rattle.op_reader.specs.Row.{joined, left_bound, right_bound, is_empty}
 use Rattle.op_reader.specs.Row.{with_one, with_two, tree_of, tree}
 use Rattle.op_reader.proofs.RowRoots.{root_splits}
 use Rattle.op_reader.proofs.Spines.{single_or, tree_step, tree_at}
@@ -53,7 +54,7 @@ some_bounded false o y h = cc
 
 module _ {N : Type 0} where
   -- behind a row an operator is expected
-  row-append : (e : Bool) (xs ys : List (Piece N)) → alternates e xs ≡ true → alternates e (xs ++ ys) ≡ alternates false ys
+  row-append : (e : Bool) (xs ys : List (Member N)) → alternates e xs ≡ true → alternates e (xs ++ ys) ≡ alternates false ys
   row-append true [] ys h = cc
   row-append false [] ys h = refl
   row-append true (operand t ∷ xs) ys h = row-append false xs ys h
@@ -63,10 +64,10 @@ module _ {N : Type 0} where
       (alternates (is_infix o.kind) (xs ++ ys)) (alternates false ys) h
       (row-append true xs ys) (row-append (is_infix o.kind) xs ys)
 
-  abbrev prefix_row : Bool → Operator N → List (Piece N) → Bool
+  abbrev prefix_row : Bool → Operator N → List (Member N) → Bool
   prefix_row e o ys = cond (is_prefix o.kind) (e && alternates true ys) (not e && alternates (is_infix o.kind) ys)
 
-  nothing : (xs : List (Piece N)) → is_empty xs ≡ true → xs ≡ []
+  nothing : (xs : List (Member N)) → is_empty xs ≡ true → xs ≡ []
   nothing [] h = refl
   nothing (x ∷ xs) h = cc
 
@@ -80,7 +81,7 @@ module _ {N : Type 0} where
       (sym (if_true (is_prefix o.kind) (cond (is_empty s.before) (option_map (with_one o.name) right) None)
       (cond (is_postfix o.kind) (cond (is_empty s.after) (option_map (with_one o.name) left) None)
       (option_and_then (λ l. option_map (with_two o.name l) right) left)) p) ∙ h) in
-      ap (λ (xs : List (Piece N)). alternates true (xs ++ operator o ∷ s.after)) (nothing s.before w.0)
+      ap (λ (xs : List (Member N)). alternates true (xs ++ operator o ∷ s.after)) (nothing s.before w.0)
       ∙ if_true (is_prefix o.kind) (alternates true s.after) false p
       ∙ g w.1.0 w.1.1)
       (λ p q i. let w = some_one (with_one o.name) (is_empty s.after) left t
@@ -90,7 +91,7 @@ module _ {N : Type 0} where
       (cond (is_postfix o.kind) (cond (is_empty s.after) (option_map (with_one o.name) left) None)
       (option_and_then (λ l. option_map (with_two o.name l) right) left)) p) ∙ h) in
       row-append true s.before (operator o ∷ s.after) (f w.1.0 w.1.1)
-      ∙ ap (λ (ys : List (Piece N)). alternates false (operator o ∷ ys)) (nothing s.after w.0)
+      ∙ ap (λ (ys : List (Member N)). alternates false (operator o ∷ ys)) (nothing s.after w.0)
       ∙ if_false (is_prefix o.kind) false (not (is_infix o.kind)) p
       ∙ ap not i)
       (λ p q i. let w = some_two (with_two o.name) left right t
@@ -109,7 +110,7 @@ module _ {N : Type 0} where
   from_root (Some s) f t h = (s, (refl, h))
   from_root None f t h = cc
 
-  tree_row : (n bound : ℕ) (ps : List (Piece N)) (t : Term N) → tree_of n bound ps ≡ Some t → alternates true ps ≡ true
+  tree_row : (n bound : ℕ) (ps : List (Member N)) (t : Term N) → tree_of n bound ps ≡ Some t → alternates true ps ≡ true
   unfolding tree_of
   tree_row zero bound ps t h = cc
   tree_row (suc n) bound ps t h =
@@ -118,7 +119,7 @@ module _ {N : Type 0} where
       (λ e. let w = from_root (root ps) (tree_at n bound) t (sym (tree_step n bound ps e) ∙ h) in
       let s = w.0 in
       let split = root_splits (top ps) ps s refl w.1.0 in
-      ap (alternates true) split.pieces
+      ap (alternates true) split.members
       ∙ split_row s (tree_of n (left_bound s.root) s.before) (tree_of n (right_bound s.root) s.after) t
       (some_bounded (leb s.root.priority bound) _ t w.1.1)
       (λ l g. tree_row n (left_bound s.root) s.before l g) (λ r g. tree_row n (right_bound s.root) s.after r g))
@@ -127,29 +128,29 @@ module _ {N : Type 0} where
   none_from None f = refl
   none_from (Some t) f = absurd (f t refl)
 
-  pub no_row_no_tree : (bound : ℕ) (ps : List (Piece N)) → alternates true ps ≡ false → tree bound ps ≡ None
+  pub no_row_no_tree : (bound : ℕ) (ps : List (Member N)) → alternates true ps ≡ false → tree bound ps ≡ None
   no_row_no_tree bound ps h =
       none_from (tree bound ps) (λ t e. let r = tree_row (length ps) bound ps t e in let c : true ≡ false = sym r ∙ h in cc)
 
-same_shape : (ts us : List (Term ℕ)) (p : PieceHeld) (e : Bool) (rest : List (Piece ℕ))
-    → alternates e (piece_at ts p ∷ rest) ≡ alternates e (piece_at us p ∷ rest)
+same_shape : (ts us : List (Term ℕ)) (p : DeclaredMember) (e : Bool) (rest : List (Member ℕ))
+    → alternates e (member_at ts p ∷ rest) ≡ alternates e (member_at us p ∷ rest)
 same_shape ts us (Operand n) e rest = refl
 same_shape ts us (AnOperator o) e rest = refl
 
--- a piece that can't stand there
-pub piece_refused : (ts us : List (Term ℕ)) (ps : List PieceHeld) (i bound : ℕ) (p : PieceHeld) (e : Bool)
+-- a member that can't stand there
+pub member_refused : (ts us : List (Term ℕ)) (ps : List DeclaredMember) (i bound : ℕ) (p : DeclaredMember) (e : Bool)
     → i < length ps → p ≡ get_or ps i p →
-    alternates true (map (piece_at ts) ps) ≡ alternates e (map (piece_at ts) (drop i ps)) →
-    ((rest : List (Piece ℕ)) → alternates e (piece_at us p ∷ rest) ≡ false) → tree bound (map (piece_at ts) ps) ≡ None
-piece_refused ts us ps i bound p e l is so_far refused =
-    no_row_no_tree bound (map (piece_at ts) ps)
-    (so_far ∙ ap (λ qs. alternates e (map (piece_at ts) qs)) (drop-cons ps i p l)
-    ∙ ap (λ q. alternates e (piece_at ts q ∷ map (piece_at ts) (drop (suc i) ps))) (sym is)
-    ∙ same_shape ts us p e (map (piece_at ts) (drop (suc i) ps)) ∙ refused (map (piece_at ts) (drop (suc i) ps)))
+    alternates true (map (member_at ts) ps) ≡ alternates e (map (member_at ts) (drop i ps)) →
+    ((rest : List (Member ℕ)) → alternates e (member_at us p ∷ rest) ≡ false) → tree bound (map (member_at ts) ps) ≡ None
+member_refused ts us ps i bound p e l is so_far refused =
+    no_row_no_tree bound (map (member_at ts) ps)
+    (so_far ∙ ap (λ qs. alternates e (map (member_at ts) qs)) (drop-cons ps i p l)
+    ∙ ap (λ q. alternates e (member_at ts q ∷ map (member_at ts) (drop (suc i) ps))) (sym is)
+    ∙ same_shape ts us p e (map (member_at ts) (drop (suc i) ps)) ∙ refused (map (member_at ts) (drop (suc i) ps)))
 
 -- an operand is still expected at the end
-pub row_unended : (ts : List (Term ℕ)) (ps : List PieceHeld) (i bound : ℕ) (e : Bool) → length ps ≤ i → e ≡ true →
-    alternates true (map (piece_at ts) ps) ≡ alternates e (map (piece_at ts) (drop i ps)) → tree bound (map (piece_at ts) ps) ≡ None
+pub row_unended : (ts : List (Term ℕ)) (ps : List DeclaredMember) (i bound : ℕ) (e : Bool) → length ps ≤ i → e ≡ true →
+    alternates true (map (member_at ts) ps) ≡ alternates e (map (member_at ts) (drop i ps)) → tree bound (map (member_at ts) ps) ≡ None
 row_unended ts ps i bound e l expected so_far =
-    no_row_no_tree bound (map (piece_at ts) ps)
-    (so_far ∙ ap (λ qs. alternates e (map (piece_at ts) qs)) (drop_of_length-le ps l) ∙ ap not expected)
+    no_row_no_tree bound (map (member_at ts) ps)
+    (so_far ∙ ap (λ qs. alternates e (map (member_at ts) qs)) (drop_of_length-le ps l) ∙ ap not expected)

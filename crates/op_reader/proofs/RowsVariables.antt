@@ -8,14 +8,15 @@ use Rattle.op_reader.specs.declared.bracket.Bracket.{Bracket}
 use Rattle.op_reader.specs.declared.bracket.Bracket.TheVariants.{Round, Square, Curly}
 use Rattle.op_reader.specs.declared.row_kind.RowKind.{RowKind}
 use Rattle.op_reader.specs.declared.row_kind.RowKind.TheVariants.{Clause, Arguments, Elements, Last}
-use Rattle.op_reader.specs.Row.{Piece, operand as an_operand, operator as an_operator, tree}
+use Rattle.op_reader.specs.Row.{Member, operand as an_operand, operator as an_operator, tree}
 use Rattle.op_reader.specs.Words.{list_of}
 use Rattle.op_reader.specs.Roles.{Rows, done, separator, tail, operator, operand, too_great, compound, bracketed, inside}
-use Rattle.op_reader.specs.Terms.{Known, ReadRows, with_piece, args_of, separated, tailed, compound_of, bracketed_of, as_operand, read_rows}
+use Rattle.op_reader.specs.Terms.{Known, ReadRows, with_member, args_of, separated, tailed}
+use Rattle.op_reader.specs.Terms.{compound_of, bracketed_of, as_operand, read_rows}
 use Rattle.op_reader.specs.Terms.{term_of}
 use Rattle.op_reader.specs.Variables.{variables, args_variables}
 use Rattle.op_reader.proofs.AddedOperators.{only_when, map_some}
-use Rattle.op_reader.proofs.TreeVariables.{pieces_variables, tree_variables}
+use Rattle.op_reader.proofs.TreeVariables.{members_variables, tree_variables}
 
 -- where rows may stand behind the first, and where a list's tail may
 abbrev pub has_more : RowKind → Bool
@@ -77,7 +78,7 @@ module _ {N : Type 0} where
 
   -- what was read
   abbrev read_variables : ReadRows N → List ℕ
-  read_variables r = pieces_variables r.row ++ (terms_variables r.rest ++ tail_variables r.tail)
+  read_variables r = members_variables r.row ++ (terms_variables r.rest ++ tail_variables r.tail)
 
   record IsRead (c : RowKind) (rs : Rows N) (r : ReadRows N) : Type 0 where
     all : read_variables r ≡ rows_variables rs
@@ -87,30 +88,30 @@ module _ {N : Type 0} where
   read_same : (c : RowKind) (rs : Rows N) (q r : ReadRows N) → q ≡ r → IsRead c rs q → IsRead c rs r
   read_same c rs q r e h = subst (IsRead c rs) e h
 
-  -- a piece joins the row
-  piece_read : (c : RowKind) (rs : Rows N) (p : Piece N) (vs : List ℕ) (q r : ReadRows N) → pieces_variables (p ∷ []) ≡ vs →
-      with_piece p q ≡ r → IsRead c rs q →
+  -- a member joins the row
+  member_read : (c : RowKind) (rs : Rows N) (p : Member N) (vs : List ℕ) (q r : ReadRows N) → members_variables (p ∷ []) ≡ vs →
+      with_member p q ≡ r → IsRead c rs q →
       (qs : Rows N) → rows_variables qs ≡ vs ++ rows_variables rs → IsRead c qs r
-  piece_read c rs p vs q r v e h qs w =
-      read_same c qs (with_piece p q) r e record {
-        all = pieces_first p q.row (terms_variables q.rest ++ tail_variables q.tail)
+  member_read c rs p vs q r v e h qs w =
+      read_same c qs (with_member p q) r e record {
+        all = members_first p q.row (terms_variables q.rest ++ tail_variables q.tail)
             ∙ (ap (λ (us : List ℕ). us ++ read_variables q) v ∙ (ap (λ (us : List ℕ). vs ++ us) h.all ∙ sym w));
         rest = h.rest;
         tail = h.tail;
       }
     where
-      pieces_first : (p : Piece N) (ps : List (Piece N)) (us : List ℕ) →
-          pieces_variables (p ∷ ps) ++ us ≡ pieces_variables (p ∷ []) ++ (pieces_variables ps ++ us)
-      pieces_first (an_operand t) ps us =
-          append_assoc (variables t) (pieces_variables ps) us
-          ∙ ap (λ (ws : List ℕ). ws ++ (pieces_variables ps ++ us)) (sym (append-nil (variables t)))
-      pieces_first (an_operator o) ps us = refl
+      members_first : (p : Member N) (ps : List (Member N)) (us : List ℕ) →
+          members_variables (p ∷ ps) ++ us ≡ members_variables (p ∷ []) ++ (members_variables ps ++ us)
+      members_first (an_operand t) ps us =
+          append_assoc (variables t) (members_variables ps) us
+          ∙ ap (λ (ws : List ℕ). ws ++ (members_variables ps ++ us)) (sym (append-nil (variables t)))
+      members_first (an_operator o) ps us = refl
 
   only_row : (c : RowKind) (rs : Rows N) (r : ReadRows N) → has_more c ≡ false → has_tail c ≡ false → IsRead c rs r →
-      pieces_variables r.row ≡ rows_variables rs
+      members_variables r.row ≡ rows_variables rs
   only_row c rs r f g h =
-      sym (append-nil (pieces_variables r.row))
-      ∙ (ap (λ (us : List ℕ). pieces_variables r.row ++ us)
+      sym (append-nil (members_variables r.row))
+      ∙ (ap (λ (us : List ℕ). members_variables r.row ++ us)
       (sym (ap (λ (ts : List (Term N)). terms_variables ts ++ tail_variables r.tail) (h.rest f) ∙ ap tail_variables (h.tail g)))
       ∙ h.all)
 
@@ -142,7 +143,7 @@ module _ {N : Type 0} where
       (λ u g i.
       ap (λ (x : Term N). variables x) (sym i)
       ∙ (ap (λ (us : List ℕ). us ++ args_variables (args_of q.rest)) (tree_variables 999 q.row u g)
-      ∙ (ap (λ (us : List ℕ). pieces_variables q.row ++ us)
+      ∙ (ap (λ (us : List ℕ). members_variables q.row ++ us)
       (args_are_terms q.rest ∙ (sym (append-nil (terms_variables q.rest))
       ∙ ap (λ (o : Option (Term N)). terms_variables q.rest ++ tail_variables o) (sym (h.tail refl))))
       ∙ h.all)))
@@ -158,7 +159,7 @@ module _ {N : Type 0} where
       ∙ (list_variables k.dot end (u ∷ q.rest)
       ∙ (append_assoc (variables u) (terms_variables q.rest) (variables end)
       ∙ (ap (λ (us : List ℕ). us ++ (terms_variables q.rest ++ variables end)) (tree_variables 999 q.row u g)
-      ∙ (ap (λ (us : List ℕ). pieces_variables q.row ++ (terms_variables q.rest ++ us)) (end_variables k.nil q.tail) ∙ h.all)))))
+      ∙ (ap (λ (us : List ℕ). members_variables q.row ++ (terms_variables q.rest ++ us)) (end_variables k.nil q.tail) ∙ h.all)))))
   bracketed_read k Curly rs q t e h =
       map_some (λ (u : Term N). node k.braces (arg u no_args)) (tree 1200 q.row) t e
       (λ u g i. ap (λ (x : Term N). variables x) (sym i)
@@ -169,9 +170,9 @@ module _ {N : Type 0} where
       ((t : Term N) → o ≡ Some t → variables t ≡ rows_variables inner) → ((q : ReadRows N) → p ≡ Some q → IsRead c rs q) →
       (qs : Rows N) → rows_variables qs ≡ rows_variables inner ++ rows_variables rs → IsRead c qs r
   part_read c inner rs o p r e f g qs w =
-      only_when (λ (t : Term N). option_map (with_piece (an_operand t)) p) o r e
-      (λ t i j. map_some (with_piece (an_operand t)) p r j
-      (λ q m n. piece_read c rs (an_operand t) (rows_variables inner) q r (append-nil (variables t) ∙ f t i) n (g q m) qs w))
+      only_when (λ (t : Term N). option_map (with_member (an_operand t)) p) o r e
+      (λ t i j. map_some (with_member (an_operand t)) p r j
+      (λ q m n. member_read c rs (an_operand t) (rows_variables inner) q r (append-nil (variables t) ∙ f t i) n (g q m) qs w))
 
   rows_read : (c : RowKind) (k : Known N) (rs : Rows N) (r : ReadRows N) → StandIn c rs → read_rows k rs ≡ Some r → IsRead c rs r
   rows_read c k done r s h =
@@ -181,14 +182,14 @@ module _ {N : Type 0} where
       (λ q e f. separated_read c rs q r s.0 f (rows_read c k rs q s.1 e))
   rows_read c k (tail rs) r s h = only_when tailed (read_rows k rs) r h (λ q e f. tailed_read c rs q r s.0 f (rows_read Last k rs q s.1 e))
   rows_read c k (operator o rs) r s h =
-      map_some (with_piece (an_operator o)) (read_rows k rs) r h
-      (λ q e f. piece_read c rs (an_operator o) [] q r refl f (rows_read c k rs q s e) (operator o rs) refl)
+      map_some (with_member (an_operator o)) (read_rows k rs) r h
+      (λ q e f. member_read c rs (an_operator o) [] q r refl f (rows_read c k rs q s e) (operator o rs) refl)
   rows_read c k (operand t rs) r s h =
-      map_some (with_piece (an_operand t)) (read_rows k rs) r h
-      (λ q e f. piece_read c rs (an_operand t) (variables t) q r (append-nil (variables t)) f (rows_read c k rs q s e) (operand t rs) refl)
+      map_some (with_member (an_operand t)) (read_rows k rs) r h
+      (λ q e f. member_read c rs (an_operand t) (variables t) q r (append-nil (variables t)) f (rows_read c k rs q s e) (operand t rs) refl)
   rows_read c k (too_great place rs) r s h =
-      map_some (with_piece (an_operand (int (pos 0)))) (read_rows k rs) r h
-      (λ q e f. piece_read c rs (an_operand (int (pos 0))) [] q r refl f (rows_read c k rs q s e) (too_great place rs) refl)
+      map_some (with_member (an_operand (int (pos 0)))) (read_rows k rs) r h
+      (λ q e f. member_read c rs (an_operand (int (pos 0))) [] q r refl f (rows_read c k rs q s e) (too_great place rs) refl)
   rows_read c k (compound f inner rs) r s h =
       part_read c inner rs (option_and_then (compound_of f) (read_rows k inner)) (read_rows k rs) r h
       (λ t e. only_when (compound_of f) (read_rows k inner) t e

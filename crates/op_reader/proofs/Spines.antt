@@ -6,7 +6,7 @@ use Rattle.std.proofs.lemmas.Bool.{le-leb}
 use Rattle.op_logic.specs.Term.{Term}
 use Rattle.op_logic.proofs.BoolCases.{by_test, if_true, if_false}
 use Rattle.op_term.specs.Ops.{is_prefix, is_postfix}
-use Rattle.op_reader.specs.Row.{Piece, operand, operator, Operator, Split, top, root, joined, left_bound, right_bound, is_empty, with_one}
+use Rattle.op_reader.specs.Row.{Member, operand, operator, Operator, Split, top, root, joined, left_bound, right_bound, is_empty, with_one}
 use Rattle.op_reader.specs.Row.{with_two, tree_of}
 use Rattle.op_reader.specs.inner.Spine.{Spine, ended, under, whole_priority, spine_within, led, spine_of}
 use Rattle.op_reader.specs.inner.Adding.{whole_term}
@@ -22,11 +22,11 @@ joined_closed f g None = refl
 joined_closed f g (Some x) = refl
 
 module _ {N : Type 0} where
-  abbrev pub is_single : List (Piece N) → Bool
+  abbrev pub is_single : List (Member N) → Bool
   is_single (operand t ∷ []) = true
   is_single ps = false
 
-  pub single_or : {P : Type 0} (ps : List (Piece N)) → ((t : Term N) → ps ≡ operand t ∷ [] → P) → (is_single ps ≡ false → P) → P
+  pub single_or : {P : Type 0} (ps : List (Member N)) → ((t : Term N) → ps ≡ operand t ∷ [] → P) → (is_single ps ≡ false → P) → P
   single_or [] f g = g refl
   single_or (operator o ∷ ps) f g = g refl
   single_or (operand t ∷ []) f g = f t refl
@@ -43,7 +43,7 @@ module _ {N : Type 0} where
   abbrev pub spine_split : ℕ → Split N → Option (Spine N)
   spine_split n s = led s (tree_of n (left_bound s.root) s.before) (right_at n s)
 
-  pub tree_step : (n bound : ℕ) (ps : List (Piece N)) → is_single ps ≡ false
+  pub tree_step : (n bound : ℕ) (ps : List (Member N)) → is_single ps ≡ false
       → tree_of (suc n) bound ps ≡ option_and_then (tree_at n bound) (root ps)
   unfolding tree_of
   tree_step n bound [] h = refl
@@ -51,7 +51,7 @@ module _ {N : Type 0} where
   tree_step n bound (operand t ∷ []) h = cc
   tree_step n bound (operand t ∷ p ∷ ps) h = refl
 
-  pub spine_step : (n : ℕ) (ps : List (Piece N)) → is_single ps ≡ false → spine_of (suc n) ps ≡ option_and_then (spine_split n) (root ps)
+  pub spine_step : (n : ℕ) (ps : List (Member N)) → is_single ps ≡ false → spine_of (suc n) ps ≡ option_and_then (spine_split n) (root ps)
   unfolding spine_of
   spine_step n [] h = refl
   spine_step n (operator o ∷ ps) h = refl
@@ -67,13 +67,13 @@ module _ {N : Type 0} where
   spine_single n t = refl
 
   -- sides are shorter
-  pub record AreShorter (ps : List (Piece N)) (s : Split N) : Type 0 where
+  pub record AreShorter (ps : List (Member N)) (s : Split N) : Type 0 where
     pub before : length s.before < length ps
     pub after : length s.after < length ps
 
-  pub shorter : (ps : List (Piece N)) (s : Split N) → root ps ≡ Some s → AreShorter ps s
+  pub shorter : (ps : List (Member N)) (s : Split N) → root ps ≡ Some s → AreShorter ps s
   shorter ps s h =
-      let e : length ps ≡ length s.before + suc (length s.after) = ap length (root_splits (top ps) ps s refl h).pieces
+      let e : length ps ≡ length s.before + suc (length s.after) = ap length (root_splits (top ps) ps s refl h).members
       ∙ length-append s.before (operator s.root ∷ s.after) in
       record { before = omega arith; after = omega arith }
 
@@ -82,14 +82,14 @@ module _ {N : Type 0} where
   same_at f g None h = refl
   same_at f g (Some s) h = h s refl
 
-  -- more steps than pieces change nothing
-  pub tree_more : (n bound : ℕ) (ps : List (Piece N)) → length ps ≤ n → tree_of n bound ps ≡ tree_of (suc n) bound ps
+  -- more steps than members change nothing
+  pub tree_more : (n bound : ℕ) (ps : List (Member N)) → length ps ≤ n → tree_of n bound ps ≡ tree_of (suc n) bound ps
   unfolding tree_of
   tree_more zero bound [] h = refl
   tree_more zero bound (p ∷ ps) h = absurd (omega arith)
   tree_more (suc n) bound ps h =
       single_or ps
-      (λ t e. subst (λ (qs : List (Piece N)). tree_of (suc n) bound qs ≡ tree_of (suc (suc n)) bound qs) (sym e) refl)
+      (λ t e. subst (λ (qs : List (Member N)). tree_of (suc n) bound qs ≡ tree_of (suc (suc n)) bound qs) (sym e) refl)
       (λ e. tree_step n bound ps e ∙ (same_at (tree_at n bound) (tree_at (suc n) bound) (root ps)
       (λ s r. let k = shorter ps s r in
       let l = tree_more n (left_bound s.root) s.before (omega (arith, k.before)) in
@@ -98,13 +98,13 @@ module _ {N : Type 0} where
       ∙ ap (λ (x : Option (Term N)). cond (leb s.root.priority bound) (joined s (tree_of (suc n) (left_bound s.root) s.before) x) None) m)
       ∙ sym (tree_step (suc n) bound ps e)))
 
-  pub spine_more : (n : ℕ) (ps : List (Piece N)) → length ps ≤ n → spine_of n ps ≡ spine_of (suc n) ps
+  pub spine_more : (n : ℕ) (ps : List (Member N)) → length ps ≤ n → spine_of n ps ≡ spine_of (suc n) ps
   unfolding spine_of
   spine_more zero [] h = refl
   spine_more zero (p ∷ ps) h = absurd (omega arith)
   spine_more (suc n) ps h =
       single_or ps
-      (λ t e. subst (λ (qs : List (Piece N)). spine_of (suc n) qs ≡ spine_of (suc (suc n)) qs) (sym e) refl)
+      (λ t e. subst (λ (qs : List (Member N)). spine_of (suc n) qs ≡ spine_of (suc (suc n)) qs) (sym e) refl)
       (λ e. spine_step n ps e ∙ (same_at (spine_split n) (spine_split (suc n)) (root ps)
       (λ s r. let k = shorter ps s r in
       let l = tree_more n (left_bound s.root) s.before (omega (arith, k.before)) in
@@ -143,11 +143,11 @@ module _ {N : Type 0} where
   closed_by_tests bound o false false c d (Some l) None = none_either _
   closed_by_tests bound o false false c d (Some l) (Some r) = refl
 
-  pub tree_closed : (n bound : ℕ) (ps : List (Piece N)) → tree_of n bound ps ≡ option_and_then (closed bound) (spine_of n ps)
+  pub tree_closed : (n bound : ℕ) (ps : List (Member N)) → tree_of n bound ps ≡ option_and_then (closed bound) (spine_of n ps)
   unfolding tree_of spine_of
   tree_closed zero bound ps = refl
   tree_closed (suc n) bound ps = single_or ps
-      (λ t e. subst (λ (qs : List (Piece N)). tree_of (suc n) bound qs ≡ option_and_then (closed bound) (spine_of (suc n) qs)) (sym e)
+      (λ t e. subst (λ (qs : List (Member N)). tree_of (suc n) bound qs ≡ option_and_then (closed bound) (spine_of (suc n) qs)) (sym e)
       (sym (if_true _ _ _ (le-leb 0 bound (omega arith)))))
       (λ e. tree_step n bound ps e ∙ (same_at (tree_at n bound) (λ s. option_and_then (closed bound) (spine_split n s)) (root ps)
       (λ s r. let m = tree_closed n (right_bound s.root) s.after ∙ closed_within (right_bound s.root) (spine_of n s.after) in

@@ -7,7 +7,7 @@ use Rattle.op_reader.specs.declared.bracket.Bracket.{Bracket}
 use Rattle.op_reader.specs.declared.row_kind.RowKind.{RowKind}
 use Rattle.op_reader.specs.declared.row_kind.RowKind.TheVariants.{Clause, Arguments, Elements, Last}
 use Rattle.op_reader.specs.Row.{Operator}
-use Rattle.op_reader.specs.Words.{AsOperand, functor, sign, prefix, plain, excess, AsOperator, joins, misplaced, Word, opened, closed}
+use Rattle.op_reader.specs.Words.{AsOperand, functor, minus, prefix, plain, excess, AsOperator, joins, misplaced, Word, opened, closed}
 use Rattle.op_reader.specs.Words.{comma, bar, word}
 use Rattle.op_reader.specs.Roles.{Parts, none, single, enclosed, Level, Levels, levels_of, with_word, with_opening, Rows, done}
 use Rattle.op_reader.specs.Roles.{separator, tail, operator, operand, too_great, compound, bracketed, inside, Expected, an_operand}
@@ -29,12 +29,12 @@ both_when f (Err place) q rs h k = cc
 
 module _ {N : Type 0} where
   abbrev pub operand_variables : AsOperand N → List ℕ
-  operand_variables (sign t) = variables t
+  operand_variables (minus t) = variables t
   operand_variables (plain t) = variables t
   operand_variables a = []
 
   abbrev pub is_sign : AsOperand N → Bool
-  is_sign (sign t) = true
+  is_sign (minus t) = true
   is_sign a = false
 
   abbrev pub word_variables : Word N → List ℕ
@@ -155,10 +155,10 @@ module _ {N : Type 0} where
   role c an_operator none stop rs p r h = have_rows c none done rs (let i : Ok done ≡ Ok rs = h in cc) tt refl
   role c e none stop rs p r h = cc
   role c an_operand (single (word place (functor f) o) ps) stop rs p r h = role c (arguments_of f) ps stop rs p.2 tt h
-  role c an_operand (single (word place (sign t) o) ps) stop rs p r h =
+  role c an_operand (single (word place (minus t) o) ps) stop rs p r h =
       rows_when (operand t) (roles c a_number ps stop) rs h
       (λ qs e f. let i = role c a_number ps stop qs p.2 (p.1 refl) e in
-      have_rows c (single (word place (sign t) o) ps) (operand t qs) rs f i.0 (ap (λ (vs : List ℕ). variables t ++ vs) i.1))
+      have_rows c (single (word place (minus t) o) ps) (operand t qs) rs f i.0 (ap (λ (vs : List ℕ). variables t ++ vs) i.1))
   role c an_operand (single (word place (prefix q) o) ps) stop rs p r h =
       rows_when (operator q) (roles c an_operand ps stop) rs h
       (λ qs e f. let i = role c an_operand ps stop qs p.2 tt e in

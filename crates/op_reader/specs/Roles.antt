@@ -7,7 +7,7 @@ use Rattle.op_reader.specs.declared.bracket.Bracket.TheVariants.{Square}
 use Rattle.op_reader.specs.declared.row_kind.RowKind.{RowKind}
 use Rattle.op_reader.specs.declared.row_kind.RowKind.TheVariants.{Clause, Arguments, Elements, Last}
 use Rattle.op_reader.specs.Row.{Operator}
-use Rattle.op_reader.specs.Words.{functor, sign, prefix, plain, excess, joins, Word, opened, closed, comma, bar, word}
+use Rattle.op_reader.specs.Words.{functor, minus, prefix, plain, excess, joins, Word, opened, closed, comma, bar, word}
 
 -- words in their order, a part in brackets as one: the place of its opening bracket, what is inside, the place of its closing bracket
 pub data Parts (N : Type 0) : Type 0 where
@@ -94,7 +94,7 @@ abbrev pub roles : {N : Type 0} → RowKind → Expected N → Parts N → ℕ �
 roles c an_operator none stop = Ok done
 roles c e none stop = Err stop
 roles c an_operand (single (word place (functor f) o) ps) stop = roles c (arguments_of f) ps stop
-roles c an_operand (single (word place (sign t) o) ps) stop = on_rows (operand t) (roles c a_number ps stop)
+roles c an_operand (single (word place (minus t) o) ps) stop = on_rows (operand t) (roles c a_number ps stop)
 roles c an_operand (single (word place (prefix p) o) ps) stop = on_rows (operator p) (roles c an_operand ps stop)
 roles c an_operand (single (word place (plain t) o) ps) stop = on_rows (operand t) (roles c an_operator ps stop)
 roles c an_operand (single (word place excess o) ps) stop = on_rows (too_great place) (roles c an_operator ps stop)

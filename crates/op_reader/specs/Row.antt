@@ -12,19 +12,19 @@ pub record Operator (N : Type 0) : Type 0 where
   pub kind : OpKind
 
 -- what a row consists of: finished terms as operands, and operators
-pub data Piece (N : Type 0) : Type 0 where
-  operand : Term N → Piece N
-  operator : Operator N → Piece N
+pub data Member (N : Type 0) : Type 0 where
+  operand : Term N → Member N
+  operator : Operator N → Member N
 
--- the pieces alternate as they must from a place on where an operand is expected, or isn't: prefix operators, an operand, postfix
+-- the members alternate as they must from a place on where an operand is expected, or isn't: prefix operators, an operand, postfix
 -- operators, then an infix operator and the same again
-abbrev pub alternates : {N : Type 0} → Bool → List (Piece N) → Bool
+abbrev pub alternates : {N : Type 0} → Bool → List (Member N) → Bool
 alternates expected [] = not expected
 alternates expected (operand t ∷ ps) = expected && alternates false ps
 alternates expected (operator o ∷ ps) =
     if is_prefix o.kind then expected && alternates true ps else not expected && alternates (is_infix o.kind) ps
 
-abbrev pub is_row : {N : Type 0} → List (Piece N) → Bool
+abbrev pub is_row : {N : Type 0} → List (Member N) → Bool
 is_row ps = alternates true ps
 
 -- the greatest priority that an operand may have on the left, and on the right
@@ -35,32 +35,32 @@ abbrev pub right_bound : {N : Type 0} → Operator N → ℕ
 right_bound o = if is_y_right o.kind then o.priority else o.priority - 1
 
 -- the highest priority of an operator in a row; 0 where there is none
-abbrev pub top : {N : Type 0} → List (Piece N) → ℕ
+abbrev pub top : {N : Type 0} → List (Member N) → ℕ
 top [] = 0
 top (operand t ∷ ps) = top ps
 top (operator o ∷ ps) = max o.priority (top ps)
 
 -- a row that is split at one of its operators
 pub record Split (N : Type 0) : Type 0 where
-  pub before : List (Piece N)
+  pub before : List (Member N)
   pub root : Operator N
-  pub after : List (Piece N)
+  pub after : List (Member N)
 
-abbrev pub split_at : {N : Type 0} → List (Piece N) → Operator N → List (Piece N) → Split N
+abbrev pub split_at : {N : Type 0} → List (Member N) → Operator N → List (Member N) → Split N
 split_at before root after = record { before = before; root = root; after = after }
 
-abbrev pub behind : {N : Type 0} → Piece N → Split N → Split N
+abbrev pub behind : {N : Type 0} → Member N → Split N → Split N
 behind p s = record { before = p ∷ s.before; root = s.root; after = s.after }
 
 -- at the first operator of a priority from the left
-abbrev pub leftmost : {N : Type 0} → ℕ → List (Piece N) → Option (Split N)
+abbrev pub leftmost : {N : Type 0} → ℕ → List (Member N) → Option (Split N)
 leftmost n [] = None
 leftmost n (operand t ∷ ps) = option_map (behind (operand t)) (leftmost n ps)
 leftmost n (operator o ∷ ps) =
     if o.priority == n then Some (split_at [] o ps) else option_map (behind (operator o)) (leftmost n ps)
 
 -- at the last one
-abbrev pub rightmost : {N : Type 0} → ℕ → List (Piece N) → Option (Split N)
+abbrev pub rightmost : {N : Type 0} → ℕ → List (Member N) → Option (Split N)
 rightmost n [] = None
 rightmost n (operand t ∷ ps) = option_map (behind (operand t)) (rightmost n ps)
 rightmost n (operator o ∷ ps) =
@@ -81,10 +81,10 @@ root_among (Some l) (Some r) =
     if is_y_left r.root.kind then Some r else None
 root_among _ _ = None
 
-abbrev pub root : {N : Type 0} → List (Piece N) → Option (Split N)
+abbrev pub root : {N : Type 0} → List (Member N) → Option (Split N)
 root ps = root_among (leftmost (top ps) ps) (rightmost (top ps) ps)
 
-abbrev pub is_empty : {N : Type 0} → List (Piece N) → Bool
+abbrev pub is_empty : {N : Type 0} → List (Member N) → Bool
 is_empty [] = true
 is_empty (p ∷ ps) = false
 
@@ -104,9 +104,9 @@ joined s left right =
 abbrev pub joined_within : {N : Type 0} → ℕ → Split N → Option (Term N) → Option (Term N) → Option (Term N)
 joined_within bound s left right = if nat_le s.root.priority bound then joined s left right else None
 
--- of a row of at most so many pieces: a single operand, which has priority 0; or the root within the bound, and the two sides in
+-- of a row of at most so many members: a single operand, which has priority 0; or the root within the bound, and the two sides in
 -- the same way, each within its bound
-unfoldable pub tree_of : {N : Type 0} → ℕ → ℕ → List (Piece N) → Option (Term N)
+unfoldable pub tree_of : {N : Type 0} → ℕ → ℕ → List (Member N) → Option (Term N)
 tree_of zero bound ps = None
 tree_of (suc n) bound (operand t ∷ []) = Some t
 tree_of (suc n) bound ps =
@@ -115,9 +115,9 @@ tree_of (suc n) bound ps =
     (root ps)
 
 -- the tree of a row within a bound; None where the row is refused
-abbrev pub tree : {N : Type 0} → ℕ → List (Piece N) → Option (Term N)
+abbrev pub tree : {N : Type 0} → ℕ → List (Member N) → Option (Term N)
 tree bound ps = tree_of (length ps) bound ps
 
 -- the row is refused within every bound
-abbrev pub HasNoTree : List (Piece ℕ) → Type 0
+abbrev pub HasNoTree : List (Member ℕ) → Type 0
 HasNoTree ps = (bound : ℕ) → tree bound ps ≡ None

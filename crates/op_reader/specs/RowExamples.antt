@@ -3,69 +3,69 @@ use Rattle.std.specs.Prelude.{◌≡◌, ℕ, List, [], ◌∷◌, Option, Some,
 use Rattle.op_logic.specs.Term.{Term, atom}
 use Rattle.op_term.specs.declared.ops.OpKind.{OpKind}
 use Rattle.op_term.specs.declared.ops.OpKind.TheVariants.{Xfx, Xfy, Yfx, Fy, Fx, Xf, Yf}
-use Rattle.op_reader.specs.Row.{Piece, operand, operator, is_row, with_one, with_two, tree, tree_of}
+use Rattle.op_reader.specs.Row.{Member, operand, operator, is_row, with_one, with_two, tree, tree_of}
 
 abbrev Name : Type 0
 Name = List ℕ
 
-abbrev op : Name → ℕ → OpKind → Piece Name
+abbrev op : Name → ℕ → OpKind → Member Name
 op name priority kind = operator (record { name = name; priority = priority; kind = kind })
 
-abbrev read : List (Piece Name) → Option (Term Name)
+abbrev read : List (Member Name) → Option (Term Name)
 read ps = tree 1200 ps
 
-abbrev neck : Piece Name
+abbrev neck : Member Name
 neck = op (codes ":-") 1200 Xfx
 
-abbrev directive : Piece Name
+abbrev directive : Member Name
 directive = op (codes ":-") 1200 Fx
 
-abbrev comma : Piece Name
+abbrev comma : Member Name
 comma = op (codes ",") 1000 Xfy
 
-abbrev negation : Piece Name
+abbrev negation : Member Name
 negation = op (codes "\\+") 900 Fy
 
-abbrev eq : Piece Name
+abbrev eq : Member Name
 eq = op (codes "=") 700 Xfx
 
-abbrev plus : Piece Name
+abbrev plus : Member Name
 plus = op (codes "+") 500 Yfx
 
-abbrev minus : Piece Name
+abbrev minus : Member Name
 minus = op (codes "-") 500 Yfx
 
-abbrev times : Piece Name
+abbrev times : Member Name
 times = op (codes "*") 400 Yfx
 
-abbrev neg : Piece Name
+abbrev neg : Member Name
 neg = op (codes "-") 200 Fy
 
-abbrev hat : Piece Name
+abbrev hat : Member Name
 hat = op (codes "^") 200 Xfy
 
-abbrev power : Piece Name
+abbrev power : Member Name
 power = op (codes "**") 200 Xfx
 
-abbrev own_right : Piece Name
+abbrev own_right : Member Name
 own_right = op (codes "r") 500 Xfy
 
-abbrev own_before : Piece Name
+abbrev own_before : Member Name
 own_before = op (codes "p") 500 Fy
 
-abbrev own_before_x : Piece Name
+abbrev own_before_x : Member Name
 own_before_x = op (codes "q") 500 Fx
 
-abbrev own_behind : Piece Name
+abbrev own_behind : Member Name
 own_behind = op (codes "s") 500 Yf
 
-abbrev own_behind_x : Piece Name
+abbrev own_behind_x : Member Name
 own_behind_x = op (codes "z") 500 Xf
 
-abbrev own_both : Piece Name
+abbrev own_both : Member Name
 own_both = op (codes "n") 500 Xfx
 
-abbrev own_low : Piece Name
+abbrev own_low : Member Name
 own_low = op (codes "k") 100 Yf
 
 abbrev a : Term Name
@@ -336,7 +336,7 @@ pub above_its_bound : tree 699 (operand a ∷ eq ∷ operand b ∷ []) ≡ None
 unfolding tree_of
 above_its_bound = refl
 
--- pieces that alternate, and that don't
+-- members that alternate, and that don't
 pub a_row : is_row (neg ∷ neg ∷ operand a ∷ own_behind ∷ own_behind ∷ eq ∷ negation ∷ operand b ∷ []) ≡ true
 a_row = refl
 

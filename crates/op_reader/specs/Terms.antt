@@ -4,7 +4,7 @@ use Rattle.std.specs.Prelude.{ℕ, pos, List, [], ◌∷◌, Option, Some, None,
 use Rattle.op_logic.specs.Term.{Term, int, node, atom, Args, no_args, arg}
 use Rattle.op_reader.specs.declared.bracket.Bracket.{Bracket}
 use Rattle.op_reader.specs.declared.bracket.Bracket.TheVariants.{Round, Square, Curly}
-use Rattle.op_reader.specs.Row.{Piece, operand as an_operand, operator as an_operator, tree}
+use Rattle.op_reader.specs.Row.{Member, operand as an_operand, operator as an_operator, tree}
 use Rattle.op_reader.specs.Words.{list_of}
 use Rattle.op_reader.specs.Roles.{Rows, done, separator, tail, operator, operand, too_great, compound, bracketed}
 
@@ -19,12 +19,12 @@ known = record { dot = codes "."; nil = codes "[]"; braces = codes "{}" }
 
 -- a row, and the terms of the rows behind it up to the end of the part, with a list's tail
 pub record ReadRows (N : Type 0) : Type 0 where
-  pub row : List (Piece N)
+  pub row : List (Member N)
   pub rest : List (Term N)
   pub tail : Option (Term N)
 
-abbrev pub with_piece : {N : Type 0} → Piece N → ReadRows N → ReadRows N
-with_piece p r = record { row = p ∷ r.row; rest = r.rest; tail = r.tail }
+abbrev pub with_member : {N : Type 0} → Member N → ReadRows N → ReadRows N
+with_member p r = record { row = p ∷ r.row; rest = r.rest; tail = r.tail }
 
 abbrev pub args_of : {N : Type 0} → List (Term N) → Args N
 args_of [] = no_args
@@ -48,16 +48,16 @@ bracketed_of k Curly r = option_map (λ t. node k.braces (arg t no_args)) (tree 
 
 -- a finished term, as an operand of the row behind it
 abbrev pub as_operand : {N : Type 0} → Option (Term N) → Option (ReadRows N) → Option (ReadRows N)
-as_operand t r = option_and_then (λ t. option_map (with_piece (an_operand t)) r) t
+as_operand t r = option_and_then (λ t. option_map (with_member (an_operand t)) r) t
 
 -- None where a row has no tree. An integer that is too great stands as 0, since no term with it is read
 abbrev pub read_rows : {N : Type 0} → Known N → Rows N → Option (ReadRows N)
 read_rows k done = Some (record { row = []; rest = []; tail = None })
 read_rows k (separator rs) = option_and_then separated (read_rows k rs)
 read_rows k (tail rs) = option_and_then tailed (read_rows k rs)
-read_rows k (operator o rs) = option_map (with_piece (an_operator o)) (read_rows k rs)
-read_rows k (operand t rs) = option_map (with_piece (an_operand t)) (read_rows k rs)
-read_rows k (too_great place rs) = option_map (with_piece (an_operand (int (pos 0)))) (read_rows k rs)
+read_rows k (operator o rs) = option_map (with_member (an_operator o)) (read_rows k rs)
+read_rows k (operand t rs) = option_map (with_member (an_operand t)) (read_rows k rs)
+read_rows k (too_great place rs) = option_map (with_member (an_operand (int (pos 0)))) (read_rows k rs)
 read_rows k (compound f inner rs) = as_operand (option_and_then (compound_of f) (read_rows k inner)) (read_rows k rs)
 read_rows k (bracketed b inner rs) = as_operand (option_and_then (bracketed_of k b) (read_rows k inner)) (read_rows k rs)
 

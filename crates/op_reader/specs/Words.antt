@@ -25,7 +25,7 @@ use Rattle.op_reader.specs.Row.{Operator}
 -- operand by itself; an integer that only a - before it could make one of 64 bits
 pub data AsOperand (N : Type 0) : Type 0 where
   functor : N → AsOperand N
-  sign : Term N → AsOperand N
+  minus : Term N → AsOperand N
   prefix : Operator N → AsOperand N
   plain : Term N → AsOperand N
   excess : AsOperand N
@@ -180,7 +180,7 @@ bare_name table text name ts =
     ]
 
 abbrev pub signed_or_bare : Option ℤ → AsOperand (List ℕ) → AsOperand (List ℕ)
-signed_or_bare (Some i) bare = sign (int i)
+signed_or_bare (Some i) bare = minus (int i)
 signed_or_bare None bare = bare
 
 -- a name before these tokens: a functor where arguments follow, the - of a negative number, else a name by itself

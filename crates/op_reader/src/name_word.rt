@@ -158,7 +158,7 @@ pub(crate) fn as_operand(
         return Ok(AsOperand::Functor(sym));
     }
     if let Some(number) = negative(bytes, token, rest) {
-        return Ok(AsOperand::Sign(nodes.int(number)?));
+        return Ok(AsOperand::Minus(nodes.int(number)?));
     }
     bare_name(alloc, ops, bytes, symbols, nodes, name, sym, rest)
 }

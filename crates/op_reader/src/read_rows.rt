@@ -5,14 +5,14 @@ ghost use Rattle.op_logic.specs.Names.{name_at};
 ghost use Rattle.op_reader.specs.Row.{tree};
 ghost use Rattle.op_reader.specs.Words.{list_of};
 ghost use Rattle.op_reader.specs.Terms.{separated as the_separated, tailed as the_tailed, compound_of as the_compound_of};
-ghost use Rattle.op_reader.specs.Terms.{bracketed_of as the_bracketed_of, as_operand as the_as_operand, with_piece};
+ghost use Rattle.op_reader.specs.Terms.{bracketed_of as the_bracketed_of, as_operand as the_as_operand, with_member};
 ghost use Rattle.op_reader.specs.inner.RoleLists.{View, node_in};
-ghost use Rattle.op_reader.specs.inner.Pieces.{PieceBelow};
-ghost use Rattle.op_reader.specs.inner.ReadRows.{Extends, row_in, nodes_in, rows_in, known_in, RowsBelow, piece_in};
+ghost use Rattle.op_reader.specs.inner.Members.{MemberBelow};
+ghost use Rattle.op_reader.specs.inner.ReadRows.{Extends, row_in, nodes_in, rows_in, known_in, RowsBelow, member_in};
 
 use crate::bracket::Bracket;
 use crate::list_node::list_node;
-use crate::piece::Piece;
+use crate::member::Member;
 use crate::row_node::row_node;
 use op_base::Memory;
 use op_term::{Builder, Sym};
@@ -31,7 +31,7 @@ pub(crate) struct ListNames {
 /// behind it. They have failed where one of them has no tree.
 #[derive(Drop)]
 pub(crate) struct ReadRows {
-    pub row: Vec<Piece>,
+    pub row: Vec<Member>,
     pub rest: Vec<u64>,
     pub tail: Option<u64>,
     pub failed: bool,
@@ -41,23 +41,23 @@ pub(crate) struct ReadRows {
 pub(crate) fn tree_node(
     alloc: Global,
     nodes: &mut Builder,
-    row: Vec<Piece>,
+    row: Vec<Member>,
     bound: u32,
 ) -> Result<Option<u64>, Memory>
-    requires { All (PieceBelow (length nodes.old)) row.items }
+    requires { All (MemberBelow (length nodes.old)) row.items }
     ensures term { IfOk result (λ found. (v : View) → Extends v nodes.new
         → tree bound (row_in v row.items) ≡ option_map (node_in v) found) }
     ensures there { IfOk result (λ found. IfSome found (λ at. at < length nodes.new)) }
     ensures kept { take (length nodes.old) nodes.new ≡ nodes.old }
 {
-    let mut pieces = row;
-    pieces.reverse();
-    let found = row_node(alloc, nodes, &pieces, bound)?;
+    let mut members = row;
+    members.reverse();
+    let found = row_node(alloc, nodes, &members, bound)?;
     Ok(found)
 }
 
 impl ReadRows {
-    /// No pieces, and no rows behind them.
+    /// No members, and no rows behind them.
     pub(crate) fn new(alloc: Global) -> ReadRows
         ensures empty { (v : View) → rows_in v result ≡ Some (record { row = []; rest = []; tail = None }) }
         ensures below { (n : ℕ) → RowsBelow n result }
@@ -71,12 +71,12 @@ impl ReadRows {
     }
 }
 
-/// Puts a piece in front of the row.
-pub(crate) fn add_piece(rows: &mut ReadRows, piece: Piece) -> Result<(), Memory>
-    ensures added { OnOk result ((v : View) → rows_in v rows.new ≡ option_map (with_piece (piece_in v piece)) (rows_in v rows.old)) }
-    ensures below { OnOk result ((n : ℕ) → PieceBelow n piece → RowsBelow n rows.old → RowsBelow n rows.new) }
+/// Puts a member in front of the row.
+pub(crate) fn add_member(rows: &mut ReadRows, member: Member) -> Result<(), Memory>
+    ensures added { OnOk result ((v : View) → rows_in v rows.new ≡ option_map (with_member (member_in v member)) (rows_in v rows.old)) }
+    ensures below { OnOk result ((n : ℕ) → MemberBelow n member → RowsBelow n rows.old → RowsBelow n rows.new) }
 {
-    rows.row.push(piece)?;
+    rows.row.push(member)?;
     Ok(())
 }
 
@@ -87,7 +87,7 @@ pub(crate) fn add_operand(rows: &mut ReadRows, found: Option<u64>) -> Result<(),
 {
     match found {
         Some(node) => {
-            rows.row.push(Piece::Operand(node))?;
+            rows.row.push(Member::Operand(node))?;
             Ok(())
         }
         None => {

@@ -80,7 +80,7 @@ fn on_operand(kind: RowKind, word: Word) -> Step
     match word {
         Word::Opened(_, bracket) => Step::Enter(Role::Bracketed(bracket), inside(bracket)),
         Word::Other(_, AsOperand::Functor(name), _) => Step::Skip(Expected::Arguments(name)),
-        Word::Other(_, AsOperand::Sign(node), _) => {
+        Word::Other(_, AsOperand::Minus(node), _) => {
             Step::On(Role::Operand(node), kind, Expected::Number)
         }
         Word::Other(_, AsOperand::Prefix(operator), _) => {

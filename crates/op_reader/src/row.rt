@@ -3,7 +3,7 @@ ghost use Rattle.std.specs.Prelude.{IfSome};
 ghost use Rattle.op_logic.specs.Term.{Term as SpecTerm};
 ghost use Rattle.op_term.specs.Ops.{is_prefix, is_infix, is_postfix, is_y_left, is_y_right};
 ghost use Rattle.op_term.specs.Places.{term_at};
-ghost use Rattle.op_reader.specs.Row.{Piece, operand, operator};
+ghost use Rattle.op_reader.specs.Row.{Member, operand, operator};
 ghost use Rattle.op_reader.specs.inner.Spine.{whole_priority};
 ghost use Rattle.op_reader.specs.inner.RowState.{BranchesBelow};
 ghost use Rattle.op_reader.specs.inner.Adding.{last_is_below, whole_term, spine_at, IsSameTo, IsClosed};
@@ -28,7 +28,7 @@ struct Part {
     priority: u32,
 }
 
-/// A row of operands and operators that is taken piece by piece from the left. It holds the operators on the right side of the
+/// A row of operands and operators that is taken member by member from the left. It holds the operators on the right side of the
 /// tree so far, from the root down; what is left of them is finished, and stands in a builder. After `Memory` nothing is said of it.
 #[derive(Drop)]
 pub struct Row {
@@ -138,11 +138,11 @@ impl Model for Row {
 }
 
 impl Row {
-    ghost use Rattle.op_reader.specs.inner.RowState.{no_pieces, expects_operand, operator_of, Stands, AreBelow, IsTreeOf};
+    ghost use Rattle.op_reader.specs.inner.RowState.{no_members, expects_operand, operator_of, Stands, AreBelow, IsTreeOf};
 
-    /// No pieces.
+    /// No members.
     pub fn new(alloc: Global) -> Row
-        ensures empty { result ≡ no_pieces }
+        ensures empty { result ≡ no_members }
         ensures there { (n : ℕ) → AreBelow n result }
         ensures stands { (ts : List (SpecTerm ℕ)) → Stands ts [] result }
     {
@@ -158,7 +158,7 @@ impl Row {
         requires { expects_operand self.old ≡ true }
         ensures expects { expects_operand self.new ≡ false }
         ensures there { (n : ℕ) → node < n → AreBelow n self.old → AreBelow n self.new }
-        ensures stands { (ts : List (SpecTerm ℕ)) (ps : List (Piece ℕ)) → Stands ts ps self.old
+        ensures stands { (ts : List (SpecTerm ℕ)) (ps : List (Member ℕ)) → Stands ts ps self.old
             → Stands ts (ps ++ operand (term_at ts node) ∷ []) self.new }
     {
         self.last = Some(Part { node, priority: 0 });
@@ -171,7 +171,7 @@ impl Row {
         requires priority { 0 < meaning.priority }
         ensures expects { OnOk result (expects_operand self.new ≡ true) }
         ensures there { OnOk result ((n : ℕ) → AreBelow n self.old → AreBelow n self.new) }
-        ensures stands { OnOk result ((ts : List (SpecTerm ℕ)) (ps : List (Piece ℕ)) → Stands ts ps self.old
+        ensures stands { OnOk result ((ts : List (SpecTerm ℕ)) (ps : List (Member ℕ)) → Stands ts ps self.old
             → Stands ts (ps ++ operator (operator_of name.0 meaning) ∷ []) self.new) }
     {
         if self.is_refused {
@@ -197,7 +197,7 @@ impl Row {
         requires there { AreBelow (length nodes.old) self.old }
         ensures expects { OnOk result (expects_operand self.new ≡ true) }
         ensures there { OnOk result (AreBelow (length nodes.new) self.new) }
-        ensures stands { OnOk result ((ps : List (Piece ℕ)) → Stands nodes.old ps self.old
+        ensures stands { OnOk result ((ps : List (Member ℕ)) → Stands nodes.old ps self.old
             → Stands nodes.new (ps ++ operator (operator_of name.0 meaning) ∷ []) self.new) }
         ensures kept { take (length nodes.old) nodes.new ≡ nodes.old }
     {
@@ -234,7 +234,7 @@ impl Row {
         requires there { AreBelow (length nodes.old) self.old }
         ensures expects { OnOk result (expects_operand self.new ≡ false) }
         ensures there { OnOk result (AreBelow (length nodes.new) self.new) }
-        ensures stands { OnOk result ((ps : List (Piece ℕ)) → Stands nodes.old ps self.old
+        ensures stands { OnOk result ((ps : List (Member ℕ)) → Stands nodes.old ps self.old
             → Stands nodes.new (ps ++ operator (operator_of name.0 meaning) ∷ []) self.new) }
         ensures kept { take (length nodes.old) nodes.new ≡ nodes.old }
     {
@@ -262,10 +262,10 @@ impl Row {
     pub fn finish(&mut self, nodes: &mut Builder, bound: u32) -> Result<Option<u64>, Memory>
         requires expected { expects_operand self.old ≡ false }
         requires there { AreBelow (length nodes.old) self.old }
-        ensures tree { IfOk result (λ found. (ps : List (Piece ℕ)) → Stands nodes.old ps self.old → IsTreeOf nodes.new bound ps found) }
+        ensures tree { IfOk result (λ found. (ps : List (Member ℕ)) → Stands nodes.old ps self.old → IsTreeOf nodes.new bound ps found) }
         ensures there { IfOk result (λ found. IfSome found (λ at. at < length nodes.new)) }
         ensures kept { take (length nodes.old) nodes.new ≡ nodes.old }
-        ensures empty { OnOk result (self.new ≡ no_pieces) }
+        ensures empty { OnOk result (self.new ≡ no_members) }
     {
         let Some(part) = self.last else {
             unreachable!();

@@ -1,11 +1,11 @@
 ghost use Rattle.std.specs.Prelude.{◌≡◌, ◌<◌, ℕ, List, [], All, true, length, take, map, option_map, IfOk, IfSome, OnOk};
 ghost use Rattle.op_term.specs.Ops.{is_prefix as the_is_prefix, is_infix as the_is_infix, is_postfix as the_is_postfix};
 ghost use Rattle.op_term.specs.Places.{term_at};
-ghost use Rattle.op_reader.specs.Row.{tree, is_row, alternates, Piece as SpecPiece};
-ghost use Rattle.op_reader.specs.inner.RowState.{expects_operand, AreBelow, Stands, no_pieces};
-ghost use Rattle.op_reader.specs.inner.Pieces.{piece_at, PieceBelow, TakesPiece, IsClass};
+ghost use Rattle.op_reader.specs.Row.{tree, is_row, alternates, Member as SpecMember};
+ghost use Rattle.op_reader.specs.inner.RowState.{expects_operand, AreBelow, Stands, no_members};
+ghost use Rattle.op_reader.specs.inner.Members.{member_at, MemberBelow, TakesMember, IsClass};
 
-use crate::piece::Piece;
+use crate::member::Member;
 use crate::row::Row;
 use op_base::Memory;
 use op_term::{Builder, OpKind};
@@ -29,28 +29,28 @@ fn class_of(kind: OpKind) -> Class
     }
 }
 
-// Takes the next piece, where it may stand, and says whether an operand comes next.
-fn take_piece(
+// Takes the next member, where it may stand, and says whether an operand comes next.
+fn take_member(
     row: &mut Row,
     nodes: &mut Builder,
-    piece: Piece,
+    member: Member,
     expected: bool,
 ) -> Result<Option<bool>, Memory>
-    requires piece { PieceBelow (length nodes.old) piece }
+    requires member { MemberBelow (length nodes.old) member }
     requires expected { expects_operand row.old ≡ expected }
     requires there { AreBelow (length nodes.old) row.old }
-    ensures takes { IfOk result (TakesPiece nodes.old piece expected row.old nodes.new row.new) }
+    ensures takes { IfOk result (TakesMember nodes.old member expected row.old nodes.new row.new) }
     ensures kept { take (length nodes.old) nodes.new ≡ nodes.old }
 {
-    match piece {
-        Piece::Operand(node) => {
+    match member {
+        Member::Operand(node) => {
             if !expected {
                 return Ok(None);
             }
             row.operand(node);
             Ok(Some(false))
         }
-        Piece::Operator(operator) => match class_of(operator.meaning.kind) {
+        Member::Operator(operator) => match class_of(operator.meaning.kind) {
             Class::Prefix => {
                 if !expected {
                     return Ok(None);
@@ -80,18 +80,18 @@ fn take_piece(
 pub(crate) fn row_node(
     alloc: Global,
     nodes: &mut Builder,
-    pieces: &[Piece],
+    members: &[Member],
     bound: u32,
 ) -> Result<Option<u64>, Memory>
-    requires { All (PieceBelow (length nodes.old)) pieces.now }
-    ensures tree { IfOk result (λ found. tree bound (map (piece_at nodes.old) pieces.now) ≡ option_map (term_at nodes.new) found) }
+    requires { All (MemberBelow (length nodes.old)) members.now }
+    ensures tree { IfOk result (λ found. tree bound (map (member_at nodes.old) members.now) ≡ option_map (term_at nodes.new) found) }
     ensures there { IfOk result (λ found. IfSome found (λ at. at < length nodes.new)) }
     ensures kept { take (length nodes.old) nodes.new ≡ nodes.old }
 {
     let mut row = Row::new(alloc);
     let mut expected = true;
-    for piece in pieces {
-        match take_piece(&mut row, nodes, *piece, expected)? {
+    for member in members {
+        match take_member(&mut row, nodes, *member, expected)? {
             Some(next) => expected = next,
             None => return Ok(None),
         }

@@ -6,8 +6,8 @@ ghost use Rattle.op_reader.specs.inner.ReadRows.{Extends, rows_in, known_in, Row
 
 use crate::bracket::Bracket;
 use crate::enclosed::{bracketed_of, compound_of, term_of_rows};
-use crate::piece::Piece;
-use crate::read_rows::{ListNames, ReadRows, add_operand, add_piece, make_tail, separate};
+use crate::member::Member;
+use crate::read_rows::{ListNames, ReadRows, add_member, add_operand, make_tail, separate};
 use crate::role::Role;
 use op_base::Memory;
 use op_term::{Builder, Sym};
@@ -96,7 +96,7 @@ fn open_bracket(
 }
 
 // An integer that is too great stands as 0.
-fn number_piece(nodes: &mut Builder, pending: &mut Pending, place: u64) -> Result<(), Memory>
+fn number_member(nodes: &mut Builder, pending: &mut Pending, place: u64) -> Result<(), Memory>
     requires { PendingBelow (length nodes.old) pending.old }
     ensures reads { OnOk result ((v : View) (names : ListNames) (l : Layers) → Extends v nodes.new → Reads v names pending.old l
         → Reads v names pending.new (with_role v (Role.Excess place) l)) }
@@ -105,7 +105,7 @@ fn number_piece(nodes: &mut Builder, pending: &mut Pending, place: u64) -> Resul
 {
     let _place = place;
     let node = nodes.int(0)?;
-    add_piece(&mut pending.inner, Piece::Operand(node))?;
+    add_member(&mut pending.inner, Member::Operand(node))?;
     Ok(())
 }
 
@@ -127,9 +127,9 @@ fn take_role(
     match role {
         Role::Separator => separate(alloc, nodes, &mut pending.inner),
         Role::Tail => make_tail(alloc, nodes, &mut pending.inner),
-        Role::Operator(operator) => add_piece(&mut pending.inner, Piece::Operator(operator)),
-        Role::Operand(node) => add_piece(&mut pending.inner, Piece::Operand(node)),
-        Role::Excess(place) => number_piece(nodes, pending, place),
+        Role::Operator(operator) => add_member(&mut pending.inner, Member::Operator(operator)),
+        Role::Operand(node) => add_member(&mut pending.inner, Member::Operand(node)),
+        Role::Excess(place) => number_member(nodes, pending, place),
         Role::Compound(name) => open_compound(alloc, nodes, pending, name),
         Role::Bracketed(bracket) => open_bracket(alloc, nodes, known, pending, bracket),
         Role::Closed => push(alloc, pending),

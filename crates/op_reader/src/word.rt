@@ -17,7 +17,7 @@ pub(crate) enum AsOperand {
     /// A name whose arguments follow.
     Functor(Sym),
     /// The `-` of a negative number, with that number.
-    Sign(u64),
+    Minus(u64),
     Prefix(Operator),
     Plain(u64),
     /// An integer that only a `-` before it could make one of 64 bits.

@@ -15,7 +15,7 @@ use Rattle.op_writer.specs.declared.bound.Bound.{Bound}
 use Rattle.op_writer.specs.declared.notation.Notation.{Notation}
 use Rattle.op_writer.specs.declared.notation.Notation.TheVariants.{List as Listed, Braces, Infix, Prefix as Before, Postfix as Behind}
 use Rattle.op_writer.specs.declared.notation.Notation.TheVariants.{Functional}
-use Rattle.op_writer.specs.Pieces.{Piece}
+use Rattle.op_writer.specs.Fragments.{Fragment}
 use Rattle.op_writer.specs.Spelling.{name_text}
 use Rattle.op_writer.specs.Text.{Form, Place, within, named_form, compound_form, compound, functional, notation_of, letter_of, is_canonical}
 use Rattle.op_writer.specs.Text.{rest_of, sign, argument, rest}
@@ -63,7 +63,7 @@ pub letter-two : (w : Ways) (f : ℕ) (a b : Term ℕ) → letter w (node f (arg
 letter-two w f a b = no-letter (not (is_canonical w.style) && bytes_eq (name_at w.names f) (codes "$VAR"))
 
 -- rests that are no lists
-rest-other : (fs : List Form) (nt : Notation) (other : List Piece) → (nt ≡ Listed → ⊥)
+rest-other : (fs : List Form) (nt : Notation) (other : List Fragment) → (nt ≡ Listed → ⊥)
     → rest_of fs nt other ≡ sign (codes "|") ++ other ++ sign (codes "]")
 rest-other [] nt other h = refl
 rest-other (a ∷ []) nt other h = refl

@@ -16,16 +16,17 @@ use Rattle.op_writer.specs.declared.item.Lexeme.{Lexeme}
 use Rattle.op_writer.specs.declared.item.Lexeme.TheVariants.{Sign, Name}
 use Rattle.op_writer.specs.declared.item.Item.{Item}
 use Rattle.op_writer.specs.declared.item.Item.TheVariants.{Lexeme as Written, Term as Inside, Rest, Further}
-use Rattle.op_writer.specs.Pieces.{Piece, plain}
-use Rattle.op_writer.specs.Text.{within, rest, bracketed, fits, left_of, right_of, argument, infix_pieces, prefix_pieces, postfix_pieces}
+use Rattle.op_writer.specs.Fragments.{Fragment, plain}
+use Rattle.op_writer.specs.Text.{within, rest, bracketed, fits, left_of, right_of}
+use Rattle.op_writer.specs.Text.{argument, infix_fragments, prefix_fragments, postfix_fragments}
 use Rattle.op_writer.specs.Text.{compound_form, further, notation_of}
 use Rattle.op_writer.specs.inner.Stack
 use Rattle.op_writer.proofs.TermArguments.{compound-two, compound-one, compound-some, compound-of, drop-some, drop-none}
 use Rattle.op_writer.proofs.CompoundForms.{form-compound, functional-form, letter-two}
 
 module _ {P : Type 0} (term : P → Term ℕ) (w : Stack.Ways) (IsPlace : P → Type 0) where
-  abbrev pieces : List (Item P) → List Piece
-  pieces s = Stack.pieces term w s
+  abbrev fragments : List (Item P) → List Fragment
+  fragments s = Stack.fragments term w s
 
   abbrev weights : List (Item P) → ℕ
   weights s = Stack.weights term s
@@ -49,10 +50,10 @@ module _ {P : Type 0} (term : P → Term ℕ) (w : Stack.Ways) (IsPlace : P → 
   abbrev opened : Bool → List (Item P) → List (Item P)
   opened b s = cond b (sign_item 40 ∷ s) s
 
-  opened-pieces : (b : Bool) (ps : List Piece) (s old : List (Item P)) → pieces s ≡ ps ++ pieces (closed b old)
-      → pieces (opened b s) ≡ bracketed b ps ++ pieces old
-  opened-pieces true ps s old h = ap (λ x. plain (40 ∷ []) ∷ x) (h ∙ sym (append_assoc ps (plain (41 ∷ []) ∷ []) (pieces old)))
-  opened-pieces false ps s old h = h
+  opened-fragments : (b : Bool) (ps : List Fragment) (s old : List (Item P)) → fragments s ≡ ps ++ fragments (closed b old)
+      → fragments (opened b s) ≡ bracketed b ps ++ fragments old
+  opened-fragments true ps s old h = ap (λ x. plain (40 ∷ []) ∷ x) (h ∙ sym (append_assoc ps (plain (41 ∷ []) ∷ []) (fragments old)))
+  opened-fragments false ps s old h = h
 
   opened-weights : (b : Bool) (k : ℕ) (s old : List (Item P)) → weights s ≤ k + weights (closed b old)
       → weights (opened b s) ≤ 2 + k + weights old
@@ -77,15 +78,15 @@ module _ {P : Type 0} (term : P → Term ℕ) (w : Stack.Ways) (IsPlace : P → 
   good-closed b s t e h = subst AreGood (sym e) (closed-good b s h)
 
   -- what stands in brackets or without replaces an item
-  enclosed : (b : Bool) (item : Item P) (ps : List Piece) (k : ℕ) (old s1 s4 s5 : List (Item P))
-      → s1 ≡ closed b old → s5 ≡ opened b s4 → pieces s4 ≡ ps ++ pieces s1 → weights s4 ≤ k + weights s1 → AreGood s4
-      → Stack.pieces_of term w item ≡ bracketed b ps → 2 + k < Stack.weight term item
+  enclosed : (b : Bool) (item : Item P) (ps : List Fragment) (k : ℕ) (old s1 s4 s5 : List (Item P))
+      → s1 ≡ closed b old → s5 ≡ opened b s4 → fragments s4 ≡ ps ++ fragments s1 → weights s4 ≤ k + weights s1 → AreGood s4
+      → Stack.fragments_of term w item ≡ bracketed b ps → 2 + k < Stack.weight term item
       → Replaces item old s5
   enclosed b item ps k old s1 s4 s5 e1 e5 p4 w4 g4 form less =
-      let p : pieces s4 ≡ ps ++ pieces (closed b old) = p4 ∙ ap (λ x. ps ++ pieces x) e1 in
+      let p : fragments s4 ≡ ps ++ fragments (closed b old) = p4 ∙ ap (λ x. ps ++ fragments x) e1 in
       let v : weights s4 ≤ k + weights (closed b old) = omega (arith, w4, ap weights e1) in
       record {
-        same = ap pieces e5 ∙ (opened-pieces b ps s4 old p ∙ ap (λ x. x ++ pieces old) (sym form));
+        same = ap fragments e5 ∙ (opened-fragments b ps s4 old p ∙ ap (λ x. x ++ fragments old) (sym form));
         less = omega (arith, opened-weights b k s4 old v, ap weights e5, less);
         good = subst AreGood (sym e5) (opened-good b s4 g4);
       }
@@ -108,7 +109,7 @@ module _ {P : Type 0} (term : P → Term ℕ) (w : Stack.Ways) (IsPlace : P → 
       → head (term at) ≡ Struct f 2 → term l ≡ nth_arg (args_of (term at)) 0 → term r ≡ nth_arg (args_of (term at)) 1
       → Stack.letter w (term at) f.0 ≡ None → notation_of w.ops w.style (name_at w.names f.0) 2 ≡ Infix m
       → b ≡ not (fits bound m) → s1 ≡ closed b old → s2 ≡ Inside r (right_of m) ∷ s1
-      → pieces s3 ≡ infix_pieces w.style (name_at w.names f.0) ++ pieces s2 → weights s3 ≤ 3 + weights s2 → AreGood s3
+      → fragments s3 ≡ infix_fragments w.style (name_at w.names f.0) ++ fragments s2 → weights s3 ≤ 3 + weights s2 → AreGood s3
       → s4 ≡ Inside l (left_of m) ∷ s3 → s5 ≡ opened b s4 → IsGoodPlace l
       → Replaces (Inside at bound) old s5
   infix-replaces at l r f bound m b old s1 s2 s3 s4 s5 h hl hr k n eb e1 e2 p3 w3 g3 e4 e5 gl =
@@ -116,14 +117,14 @@ module _ {P : Type 0} (term : P → Term ℕ) (w : Stack.Ways) (IsPlace : P → 
       let t = two-at at l r f h hl hr in
       let fl = Stack.form w (term l) (within (left_of m)) in
       let fr = Stack.form w (term r) (within (right_of m)) in
-      let ps = infix_pieces w.style name in
+      let ps = infix_fragments w.style name in
       let form : Stack.form w (term at) (within bound) ≡ bracketed b (fl ++ ps ++ fr) =
       form-compound w (term at) f.0 (term l) (arg (term r) no_args) (within bound) t k
       ∙ (ap (λ nt. compound_form w.style name (Stack.form w (term l) ∷ Stack.form w (term r) ∷ []) nt (within bound)) n
       ∙ ap (λ x. bracketed x (fl ++ ps ++ fr)) (sym eb)) in
-      let p4 : pieces s4 ≡ (fl ++ ps ++ fr) ++ pieces s1 =
-      ap pieces e4 ∙ (ap (λ x. fl ++ x) (p3 ∙ ap (λ x. ps ++ x) (ap pieces e2))
-      ∙ sym (append_assoc (fl ++ ps) fr (pieces s1) ∙ append_assoc fl ps (fr ++ pieces s1))) in
+      let p4 : fragments s4 ≡ (fl ++ ps ++ fr) ++ fragments s1 =
+      ap fragments e4 ∙ (ap (λ x. fl ++ x) (p3 ∙ ap (λ x. ps ++ x) (ap fragments e2))
+      ∙ sym (append_assoc (fl ++ ps) fr (fragments s1) ∙ append_assoc fl ps (fr ++ fragments s1))) in
       let work : Stack.work (term at) ≡ 10 + (Stack.work (term l) + 4 + (Stack.work (term r) + 4 + 0)) = ap Stack.work t in
       let a4 : weights s4 ≡ Stack.work (term l) + weights s3 = ap weights e4 in
       let a2 : weights s2 ≡ Stack.work (term r) + weights s1 = ap weights e2 in
@@ -135,19 +136,20 @@ module _ {P : Type 0} (term : P → Term ℕ) (w : Stack.Ways) (IsPlace : P → 
       → head (term at) ≡ Struct f 1 → term r ≡ nth_arg (args_of (term at)) 0
       → Stack.letter w (term at) f.0 ≡ None → notation_of w.ops w.style (name_at w.names f.0) 1 ≡ Before m
       → b ≡ not (fits bound m) → s1 ≡ closed b old → s2 ≡ Inside r (right_of m) ∷ s1
-      → pieces s3 ≡ prefix_pieces w.style (name_at w.names f.0) ++ pieces s2 → weights s3 ≤ 3 + weights s2 → AreGood s3
+      → fragments s3 ≡ prefix_fragments w.style (name_at w.names f.0) ++ fragments s2 → weights s3 ≤ 3 + weights s2 → AreGood s3
       → s5 ≡ opened b s3
       → Replaces (Inside at bound) old s5
   prefix-replaces at r f bound m b old s1 s2 s3 s5 h hr k n eb e1 e2 p3 w3 g3 e5 =
       let name = name_at w.names f.0 in
       let t = one-at at r f h hr in
       let fr = Stack.form w (term r) (within (right_of m)) in
-      let ps = prefix_pieces w.style name in
+      let ps = prefix_fragments w.style name in
       let form : Stack.form w (term at) (within bound) ≡ bracketed b (ps ++ fr) =
       form-compound w (term at) f.0 (term r) no_args (within bound) t k
       ∙ (ap (λ nt. compound_form w.style name (Stack.form w (term r) ∷ []) nt (within bound)) n
       ∙ ap (λ x. bracketed x (ps ++ fr)) (sym eb)) in
-      let p : pieces s3 ≡ (ps ++ fr) ++ pieces s1 = p3 ∙ (ap (λ x. ps ++ x) (ap pieces e2) ∙ sym (append_assoc ps fr (pieces s1))) in
+      let p : fragments s3 ≡ (ps ++ fr) ++ fragments s1 = p3 ∙ (ap (λ x. ps ++ x) (ap fragments e2) ∙ sym (append_assoc ps fr
+      (fragments s1))) in
       let work : Stack.work (term at) ≡ 10 + (Stack.work (term r) + 4 + 0) = ap Stack.work t in
       let a2 : weights s2 ≡ Stack.work (term r) + weights s1 = ap weights e2 in
       enclosed b (Inside at bound) (ps ++ fr) (3 + Stack.work (term r)) old s1 s3 s5 e1 e5 p
@@ -164,13 +166,14 @@ module _ {P : Type 0} (term : P → Term ℕ) (w : Stack.Ways) (IsPlace : P → 
       let name = name_at w.names f.0 in
       let t = one-at at l f h hl in
       let fl = Stack.form w (term l) (within (left_of m)) in
-      let ps = postfix_pieces w.style name in
+      let ps = postfix_fragments w.style name in
       let form : Stack.form w (term at) (within bound) ≡ bracketed b (fl ++ ps) =
       form-compound w (term at) f.0 (term l) no_args (within bound) t k
       ∙ (ap (λ nt. compound_form w.style name (Stack.form w (term l) ∷ []) nt (within bound)) n
       ∙ ap (λ x. bracketed x (fl ++ ps)) (sym eb)) in
-      let p3 : pieces s3 ≡ ps ++ pieces s1 = ap pieces e3 ∙ ap (λ x. plain (32 ∷ []) ∷ x) (ap pieces e2) in
-      let p4 : pieces s4 ≡ (fl ++ ps) ++ pieces s1 = ap pieces e4 ∙ (ap (λ x. fl ++ x) p3 ∙ sym (append_assoc fl ps (pieces s1))) in
+      let p3 : fragments s3 ≡ ps ++ fragments s1 = ap fragments e3 ∙ ap (λ x. plain (32 ∷ []) ∷ x) (ap fragments e2) in
+      let p4 : fragments s4 ≡ (fl ++ ps) ++ fragments s1 = ap fragments e4 ∙ (ap (λ x. fl ++ x) p3 ∙ sym (append_assoc fl ps
+      (fragments s1))) in
       let work : Stack.work (term at) ≡ 10 + (Stack.work (term l) + 4 + 0) = ap Stack.work t in
       let a2 : weights s2 ≡ 1 + weights s1 = ap weights e2 in
       let a3 : weights s3 ≡ 1 + weights s2 = ap weights e3 in
@@ -202,9 +205,9 @@ module _ {P : Type 0} (term : P → Term ℕ) (w : Stack.Ways) (IsPlace : P → 
       let g2 : AreGood s2 = subst AreGood (sym e2) (ga, g1) in
       let g3 : AreGood s3 = subst AreGood (sym e3) (tt, g2) in
       record {
-        same = ap pieces e3 ∙ (ap (λ x. plain (123 ∷ []) ∷ x) (ap pieces e2 ∙ (ap (λ x. fa ++ pieces x) e1
-            ∙ sym (append_assoc fa (plain (125 ∷ []) ∷ []) (pieces old))))
-            ∙ ap (λ x. x ++ pieces old) (sym form));
+        same = ap fragments e3 ∙ (ap (λ x. plain (123 ∷ []) ∷ x) (ap fragments e2 ∙ (ap (λ x. fa ++ fragments x) e1
+            ∙ sym (append_assoc fa (plain (125 ∷ []) ∷ []) (fragments old))))
+            ∙ ap (λ x. x ++ fragments old) (sym form));
         less = omega (arith, a1, a2, a3, work);
         good = g3;
       }
@@ -231,9 +234,9 @@ module _ {P : Type 0} (term : P → Term ℕ) (w : Stack.Ways) (IsPlace : P → 
       let g2 : AreGood s2 = subst AreGood (sym e2) (gl, g1) in
       let g3 : AreGood s3 = subst AreGood (sym e3) (tt, g2) in
       record {
-        same = ap pieces e3 ∙ (ap (λ x. plain (91 ∷ []) ∷ x) (ap pieces e2 ∙ (ap (λ x. fl ++ pieces x) e1
-            ∙ sym (append_assoc fl fr (pieces old))))
-            ∙ ap (λ x. x ++ pieces old) (sym form));
+        same = ap fragments e3 ∙ (ap (λ x. plain (91 ∷ []) ∷ x) (ap fragments e2 ∙ (ap (λ x. fl ++ fragments x) e1
+            ∙ sym (append_assoc fl fr (fragments old))))
+            ∙ ap (λ x. x ++ fragments old) (sym form));
         less = omega (arith, a1, a2, a3, work);
         good = g3;
       }
@@ -260,9 +263,9 @@ module _ {P : Type 0} (term : P → Term ℕ) (w : Stack.Ways) (IsPlace : P → 
       let g2 : AreGood s2 = subst AreGood (sym e2) (gl, g1) in
       let g3 : AreGood s3 = subst AreGood (sym e3) (tt, g2) in
       record {
-        same = ap pieces e3 ∙ (ap (λ x. plain (44 ∷ []) ∷ x) (ap pieces e2 ∙ (ap (λ x. fl ++ pieces x) e1
-            ∙ sym (append_assoc fl fr (pieces old))))
-            ∙ ap (λ x. x ++ pieces old) (sym form));
+        same = ap fragments e3 ∙ (ap (λ x. plain (44 ∷ []) ∷ x) (ap fragments e2 ∙ (ap (λ x. fl ++ fragments x) e1
+            ∙ sym (append_assoc fl fr (fragments old))))
+            ∙ ap (λ x. x ++ fragments old) (sym form));
         less = omega (arith, a1, a2, a3, work);
         good = g3;
       }
@@ -280,9 +283,9 @@ module _ {P : Type 0} (term : P → Term ℕ) (w : Stack.Ways) (IsPlace : P → 
       let g2 : AreGood s2 = subst AreGood (sym e2) (ga, g1) in
       let g3 : AreGood s3 = subst AreGood (sym e3) (tt, g2) in
       record {
-        same = ap pieces e3 ∙ (ap (λ x. plain (124 ∷ []) ∷ x) (ap pieces e2 ∙ (ap (λ x. fa ++ pieces x) e1
-            ∙ sym (append_assoc fa (plain (93 ∷ []) ∷ []) (pieces old))))
-            ∙ ap (λ x. x ++ pieces old) (sym form));
+        same = ap fragments e3 ∙ (ap (λ x. plain (124 ∷ []) ∷ x) (ap fragments e2 ∙ (ap (λ x. fa ++ fragments x) e1
+            ∙ sym (append_assoc fa (plain (93 ∷ []) ∷ []) (fragments old))))
+            ∙ ap (λ x. x ++ fragments old) (sym form));
         less = omega (arith, a1, a2, a3);
         good = g3;
       }
@@ -320,10 +323,10 @@ module _ {P : Type 0} (term : P → Term ℕ) (w : Stack.Ways) (IsPlace : P → 
       let g3 : AreGood s3 = subst AreGood (sym e3) (tt, g2) in
       let g4 : AreGood s4 = subst AreGood (sym e4) (named.0, g3) in
       record {
-        same = ap pieces e4 ∙ (ap (λ x. plain (Stack.spelt w f.0) ∷ x) (ap pieces e3 ∙ ap (λ x. plain (40 ∷ []) ∷ x)
-            (ap pieces e2 ∙ (ap (λ x. fa (within argument) ++ pieces x) e1
-            ∙ sym (append_assoc (fa (within argument)) (further fs) (pieces old)))))
-            ∙ ap (λ x. x ++ pieces old) (sym form));
+        same = ap fragments e4 ∙ (ap (λ x. plain (Stack.spelt w f.0) ∷ x) (ap fragments e3 ∙ ap (λ x. plain (40 ∷ []) ∷ x)
+            (ap fragments e2 ∙ (ap (λ x. fa (within argument) ++ fragments x) e1
+            ∙ sym (append_assoc (fa (within argument)) (further fs) (fragments old)))))
+            ∙ ap (λ x. x ++ fragments old) (sym form));
         less = omega (arith, a1, a2, a3, a4, work);
         good = g4;
       }
@@ -350,9 +353,9 @@ module _ {P : Type 0} (term : P → Term ℕ) (w : Stack.Ways) (IsPlace : P → 
       let g2 : AreGood s2 = subst AreGood (sym e2) (ga, g1) in
       let g3 : AreGood s3 = subst AreGood (sym e3) (tt, g2) in
       record {
-        same = ap pieces e3 ∙ (ap (λ x. plain (44 ∷ []) ∷ x) (ap pieces e2 ∙ (ap (λ x. fa ++ pieces x) e1
-            ∙ sym (append_assoc fa (further fs) (pieces old))))
-            ∙ ap (λ x. x ++ pieces old) (sym form));
+        same = ap fragments e3 ∙ (ap (λ x. plain (44 ∷ []) ∷ x) (ap fragments e2 ∙ (ap (λ x. fa ++ fragments x) e1
+            ∙ sym (append_assoc fa (further fs) (fragments old))))
+            ∙ ap (λ x. x ++ fragments old) (sym form));
         less = omega (arith, a1, a2, a3, work);
         good = g3;
       }
@@ -367,19 +370,20 @@ module _ {P : Type 0} (term : P → Term ℕ) (w : Stack.Ways) (IsPlace : P → 
       let work : Stack.args_work (Stack.drop_args i (args_of (term at))) ≡ 0 = ap Stack.args_work t in
       let a1 : weights s1 ≡ 1 + weights old = ap weights e1 in
       record {
-        same = ap pieces e1 ∙ ap (λ x. x ++ pieces old) (sym form);
+        same = ap fragments e1 ∙ ap (λ x. x ++ fragments old) (sym form);
         less = omega (arith, a1, work);
         good = subst AreGood (sym e1) (tt, g);
       }
 
-  -- one piece
-  pub piece-replaces : (at : P) (bound : Bound) (t : Lexeme) (old s1 : List (Item P))
-      → Stack.form w (term at) (within bound) ≡ Stack.piece_of w t ∷ [] → 1 < Stack.work (term at) → Stack.IsGoodLexeme (length w.names) t
+  -- one fragment
+  pub fragment-replaces : (at : P) (bound : Bound) (t : Lexeme) (old s1 : List (Item P))
+      → Stack.form w (term at) (within bound) ≡ Stack.fragment_of w t ∷ [] → 1 < Stack.work (term at) → Stack.IsGoodLexeme
+      (length w.names) t
       → s1 ≡ Written t ∷ old → AreGood old → Replaces (Inside at bound) old s1
-  piece-replaces at bound t old s1 form l gt e1 g =
+  fragment-replaces at bound t old s1 form l gt e1 g =
       let a1 : weights s1 ≡ 1 + weights old = ap weights e1 in
       record {
-        same = ap pieces e1 ∙ ap (λ x. x ++ pieces old) (sym form);
+        same = ap fragments e1 ∙ ap (λ x. x ++ fragments old) (sym form);
         less = omega (arith, a1, l);
         good = subst AreGood (sym e1) (gt, g);
       }

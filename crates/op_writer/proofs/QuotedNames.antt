@@ -11,7 +11,7 @@ use Rattle.std.proofs.Math.Seq.{get_or-append_seam}
 use Rattle.op_writer.specs.declared.edge.Edge.{Edge}
 use Rattle.op_writer.specs.declared.edge.Edge.TheVariants.{Other, Prefix}
 use Rattle.op_writer.specs.Cut.{front_of}
-use Rattle.op_writer.specs.Pieces.{edge_of, edge_at, prefix_edge}
+use Rattle.op_writer.specs.Fragments.{edge_of, edge_at, prefix_edge}
 use Rattle.op_writer.specs.Spelling.{escaped, quoted}
 use Rattle.op_writer.proofs.TextFronts.{front-again, front-full}
 

@@ -4,7 +4,7 @@ use Rattle.std.proofs.lemmas.List.{take-append-le, take_all, length-take, append
 use Rattle.std.proofs.Math.Seq.{take-append-add}
 use Rattle.op_writer.specs.declared.edge.Edge.{Edge}
 use Rattle.op_writer.specs.Cut.{front_of}
-use Rattle.op_writer.specs.Pieces.{Piece, set_apart, text_of, edge_behind, spaced}
+use Rattle.op_writer.specs.Fragments.{Fragment, set_apart, text_of, edge_behind, spaced}
 
 pub front-within : (n : ℕ) (t : List ℕ) → length (front_of n t) ≤ 1 + n
 front-within n t = omega (arith, length-take (1 + n) t)
@@ -37,11 +37,11 @@ front-whole n b t e l = e ∙ take_all (1 + n) t (omega (arith, l, ap length e, 
 pub front-longer : (n : ℕ) (b t : List ℕ) → b ≡ front_of n t → n < length b → n < length t
 front-longer n b t e l = omega (arith, l, ap length e, length-take (1 + n) t)
 
--- a piece is added
-pub front-piece : (n : ℕ) (old new : List ℕ) (before behind : Edge) (p : Piece) (ps : List Piece)
+-- a fragment is added
+pub front-fragment : (n : ℕ) (old new : List ℕ) (before behind : Edge) (p : Fragment) (ps : List Fragment)
     → new ≡ front_of n (old ++ set_apart before (text_of p)) → behind ≡ edge_behind before p
     → front_of n (new ++ spaced behind ps) ≡ front_of n (old ++ spaced before (p ∷ ps))
-front-piece n old new before behind p ps h e =
+front-fragment n old new before behind p ps h e =
     ap (λ (x : List ℕ). front_of n (x ++ spaced behind ps)) h
     ∙ (front-again n (old ++ set_apart before (text_of p)) (spaced behind ps)
     ∙ (ap (front_of n) (append_assoc old (set_apart before (text_of p)) (spaced behind ps))

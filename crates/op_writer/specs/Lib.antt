@@ -1,6 +1,6 @@
 pub mod Cut
 pub mod Examples
-pub mod Pieces
+pub mod Fragments
 pub mod Spelling
 pub mod Text
 pub mod inner

@@ -15,7 +15,7 @@ use Rattle.op_writer.specs.declared.notation.Notation.TheVariants.{List as Liste
 use Rattle.op_writer.specs.declared.notation.Notation.TheVariants.{Functional}
 use Rattle.op_writer.specs.declared.edge.Edge.TheVariants.{Other}
 use Rattle.op_writer.specs.Spelling.{is_symbolic, name_text}
-use Rattle.op_writer.specs.Pieces.{Piece, plain, prefix_operator, spaced}
+use Rattle.op_writer.specs.Fragments.{Fragment, plain, prefix_operator, spaced}
 
 -- whether a term whose operator has this priority and kind stands without brackets where a bound is: of equal priority alone on the left
 -- side where both are yfx or yf, and on the right side where both are xfy or fy
@@ -45,37 +45,37 @@ pub data Place : Type 0 where
   within : Bound → Place
   rest : Place
 
-abbrev pub sign : List ℕ → List Piece
+abbrev pub sign : List ℕ → List Fragment
 sign t = plain t ∷ []
 
-abbrev pub bracketed : Bool → List Piece → List Piece
+abbrev pub bracketed : Bool → List Fragment → List Fragment
 bracketed b ps = if b then sign (codes "(") ++ ps ++ sign (codes ")") else ps
 
 abbrev pub is_operator : Table → List ℕ → Bool
 is_operator ops f = is_some (prefix_in ops f) || is_some (infix_in ops f) || is_some (postfix_in ops f)
 
 -- an atom: an operator stands in brackets where it is an operand
-abbrev pub atom_pieces : Table → Style → List ℕ → Bound → List Piece
-atom_pieces ops style f bound = bracketed (is_operand bound && is_operator ops f) (sign (name_text style f))
+abbrev pub atom_fragments : Table → Style → List ℕ → Bound → List Fragment
+atom_fragments ops style f bound = bracketed (is_operand bound && is_operator ops f) (sign (name_text style f))
 
 -- an infix operator: the comma is written as it is in every style, and , and ; and what is written in symbol characters alone
 -- have no spaces of their own; every other one stands between two spaces, also one with an empty name or in quotes
-abbrev pub infix_pieces : Style → List ℕ → List Piece
-infix_pieces style f =
+abbrev pub infix_fragments : Style → List ℕ → List Fragment
+infix_fragments style f =
     if bytes_eq f (codes ",") then sign f else
     if bytes_eq f (codes ";") || is_symbolic (name_text style f) then sign (name_text style f) else
     sign (codes " ") ++ sign (name_text style f) ++ sign (codes " ")
 
 -- a prefix operator: what is written in symbol characters alone has no space of its own; every other one has a space behind it, also one
 -- with an empty name or in quotes
-abbrev pub prefix_pieces : Style → List ℕ → List Piece
-prefix_pieces style f =
+abbrev pub prefix_fragments : Style → List ℕ → List Fragment
+prefix_fragments style f =
     if is_symbolic (name_text style f) then prefix_operator (name_text style f) ∷ [] else
     sign (name_text style f) ++ sign (codes " ")
 
 -- a postfix operator always has a space before it, also one of symbol characters
-abbrev pub postfix_pieces : Style → List ℕ → List Piece
-postfix_pieces style f = sign (codes " ") ++ sign (name_text style f)
+abbrev pub postfix_fragments : Style → List ℕ → List Fragment
+postfix_fragments style f = sign (codes " ") ++ sign (name_text style f)
 
 -- what a term of a name and so many arguments is written in: lists and braces in every style, operators in those but the canonical;
 -- where a name is both prefix and postfix, the prefix form
@@ -126,50 +126,50 @@ letter_text n = (65 + n % 26) ∷ (if nat_lt n 26 then [] else decimal (n / 26))
 
 -- what a part comes to at a place
 abbrev pub Form : Type 0
-Form = Place → List Piece
+Form = Place → List Fragment
 
 -- further arguments, each behind a comma, and the bracket
-abbrev pub further : List Form → List Piece
+abbrev pub further : List Form → List Fragment
 further [] = sign (codes ")")
 further (f ∷ fs) = sign (codes ",") ++ f (within argument) ++ further fs
 
 -- functional notation: the name, and directly behind it the arguments in brackets, with a comma and no space between two; a name without
 -- arguments stands alone
-abbrev pub functional : List ℕ → List Form → List Piece
+abbrev pub functional : List ℕ → List Form → List Fragment
 functional name [] = sign name
 functional name (f ∷ fs) = sign name ++ sign (codes "(") ++ f (within argument) ++ further fs
 
 -- a compound within a bound; operands are within their operator's bounds, and brackets stand round where its priority passes the bound
-abbrev pub compound : Style → List ℕ → List Form → Bound → Notation → List Piece
+abbrev pub compound : Style → List ℕ → List Form → Bound → Notation → List Fragment
 -- a list: its first element within 999, and the rest, in square brackets
 compound style f (a ∷ b ∷ []) bound Listed = sign (codes "[") ++ a (within argument) ++ b rest
 -- an infix operator between its operands
 compound style f (a ∷ b ∷ []) bound (Infix m) =
-    bracketed (not (fits bound m)) (a (within (left_of m)) ++ infix_pieces style f ++ b (within (right_of m)))
+    bracketed (not (fits bound m)) (a (within (left_of m)) ++ infix_fragments style f ++ b (within (right_of m)))
 -- a term in braces, within 1200
 compound style f (a ∷ []) bound Braces = sign (codes "{") ++ a (within (Whole 1200)) ++ sign (codes "}")
 -- a prefix operator before its operand
-compound style f (a ∷ []) bound (Before m) = bracketed (not (fits bound m)) (prefix_pieces style f ++ a (within (right_of m)))
+compound style f (a ∷ []) bound (Before m) = bracketed (not (fits bound m)) (prefix_fragments style f ++ a (within (right_of m)))
 -- a postfix operator behind its operand
-compound style f (a ∷ []) bound (Behind m) = bracketed (not (fits bound m)) (a (within (left_of m)) ++ postfix_pieces style f)
+compound style f (a ∷ []) bound (Behind m) = bracketed (not (fits bound m)) (a (within (left_of m)) ++ postfix_fragments style f)
 -- every other compound: functional notation, in any bound
 compound style f fs bound notation = functional (name_text style f) fs
 
 -- the rest of a list: a further element behind a comma, the end, or another term behind a bar
-abbrev pub rest_of : List Form → Notation → List Piece → List Piece
+abbrev pub rest_of : List Form → Notation → List Fragment → List Fragment
 rest_of (a ∷ b ∷ []) Listed other = sign (codes ",") ++ a (within argument) ++ b rest
 rest_of fs notation other = sign (codes "|") ++ other ++ sign (codes "]")
 
--- what is written in one piece, and never in brackets: a variable, an integer, a letter; as the rest of a list it stands behind a bar
+-- what is written in one fragment, and never in brackets: a variable, an integer, a letter; as the rest of a list it stands behind a bar
 abbrev pub leaf : List ℕ → Form
 leaf t (within bound) = sign t
 leaf t rest = sign (codes "|") ++ sign t ++ sign (codes "]")
 
 -- an atom; as the rest of a list [] ends it, and every other atom stands behind a bar as an argument does
 abbrev pub atom_form : Table → Style → List ℕ → Form
-atom_form ops style f (within bound) = atom_pieces ops style f bound
+atom_form ops style f (within bound) = atom_fragments ops style f bound
 atom_form ops style f rest =
-    if bytes_eq f (codes "[]") then sign (codes "]") else sign (codes "|") ++ atom_pieces ops style f argument ++ sign (codes "]")
+    if bytes_eq f (codes "[]") then sign (codes "]") else sign (codes "|") ++ atom_fragments ops style f argument ++ sign (codes "]")
 
 -- a compound within a bound, or as the rest of a list
 abbrev pub compound_form : Style → List ℕ → List Form → Notation → Form

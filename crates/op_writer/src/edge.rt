@@ -1,5 +1,5 @@
 ghost use Rattle.std.specs.Prelude.{◌≡◌, if◌then◌else◌};
-ghost use Rattle.op_writer.specs.Pieces.{edge_at, edge_of, prefix_edge, is_apart as apart};
+ghost use Rattle.op_writer.specs.Fragments.{edge_at, edge_of, prefix_edge, is_apart as apart};
 
 use op_base::characters::{is_digit, is_symbol, is_word};
 
@@ -26,11 +26,11 @@ impl Edge {
         }
     }
 
-    /// How a text ends behind a further piece.
-    pub fn behind(self, piece: &[u8]) -> Edge
-        ensures { result ≡ edge_of self piece.now }
+    /// How a text ends behind a further fragment.
+    pub fn behind(self, fragment: &[u8]) -> Edge
+        ensures { result ≡ edge_of self fragment.now }
     {
-        match piece.last() {
+        match fragment.last() {
             Some(byte) => Edge::at(*byte),
             None => self,
         }
@@ -54,7 +54,7 @@ impl Edge {
         if is_prefix { Edge::Prefix } else { Edge::Other }
     }
 
-    /// Whether a space stands before a piece that begins with a byte.
+    /// Whether a space stands before a fragment that begins with a byte.
     pub fn is_apart(self, byte: u8) -> bool
         ensures { result ≡ apart self byte }
     {

@@ -3,9 +3,9 @@ ghost use Rattle.op_logic.specs.Term.{args_of, arity};
 ghost use Rattle.op_logic.specs.Names.{name_at};
 ghost use Rattle.op_term.specs.Head.{head};
 ghost use Rattle.op_term.specs.declared.node.Node.TheVariants.{Atom as atom, Struct as struct};
-ghost use Rattle.op_writer.specs.Text.{notation_of, infix_pieces, prefix_pieces};
+ghost use Rattle.op_writer.specs.Text.{notation_of, infix_fragments, prefix_fragments};
 ghost use Rattle.op_writer.specs.Spelling.{is_symbolic as symbolic, name_text};
-ghost use Rattle.op_writer.specs.inner.Stack.{Replaces, AreGood, IsGoodPlace, ways_of, pieces, weights, letter};
+ghost use Rattle.op_writer.specs.inner.Stack.{Replaces, AreGood, IsGoodPlace, ways_of, fragments, weights, letter};
 ghost use Rattle.op_writer.specs.declared.item.Item.TheVariants.{Term as whole_item, Rest as rest_item, Further as further_item};
 ghost use Rattle.op_writer.specs.declared.notation.Notation.TheVariants.{Infix as infix_notation, Prefix as prefix_notation};
 ghost use Rattle.op_writer.specs.declared.notation.Notation.TheVariants.{Postfix as postfix_notation, List as list_notation};
@@ -62,9 +62,9 @@ fn infix_name<T: Tree>(
 ) -> Result<(), Memory>
     requires named { name.0 < length setting.now.symbols.now }
     requires good { AreGood (T.term tree.now) (T.IsPlace tree.now) (length setting.now.symbols.now) (reverse stack.old.items) }
-    ensures pieces { OnOk result (pieces (T.term tree.now) (ways_of setting.now) (reverse stack.new.items)
-        ≡ infix_pieces setting.now.style (name_at setting.now.symbols.now name.0)
-        ++ pieces (T.term tree.now) (ways_of setting.now) (reverse stack.old.items)) }
+    ensures fragments { OnOk result (fragments (T.term tree.now) (ways_of setting.now) (reverse stack.new.items)
+        ≡ infix_fragments setting.now.style (name_at setting.now.symbols.now name.0)
+        ++ fragments (T.term tree.now) (ways_of setting.now) (reverse stack.old.items)) }
     ensures weights { OnOk result (weights (T.term tree.now) (reverse stack.new.items)
         ≤ 3 + weights (T.term tree.now) (reverse stack.old.items)) }
     ensures good { OnOk result (AreGood (T.term tree.now) (T.IsPlace tree.now) (length setting.now.symbols.now) (reverse stack.new.items)) }
@@ -88,9 +88,9 @@ fn prefix_name<T: Tree>(
 ) -> Result<(), Memory>
     requires named { name.0 < length setting.now.symbols.now }
     requires good { AreGood (T.term tree.now) (T.IsPlace tree.now) (length setting.now.symbols.now) (reverse stack.old.items) }
-    ensures pieces { OnOk result (pieces (T.term tree.now) (ways_of setting.now) (reverse stack.new.items)
-        ≡ prefix_pieces setting.now.style (name_at setting.now.symbols.now name.0)
-        ++ pieces (T.term tree.now) (ways_of setting.now) (reverse stack.old.items)) }
+    ensures fragments { OnOk result (fragments (T.term tree.now) (ways_of setting.now) (reverse stack.new.items)
+        ≡ prefix_fragments setting.now.style (name_at setting.now.symbols.now name.0)
+        ++ fragments (T.term tree.now) (ways_of setting.now) (reverse stack.old.items)) }
     ensures weights { OnOk result (weights (T.term tree.now) (reverse stack.new.items)
         ≤ 3 + weights (T.term tree.now) (reverse stack.old.items)) }
     ensures good { OnOk result (AreGood (T.term tree.now) (T.IsPlace tree.now) (length setting.now.symbols.now) (reverse stack.new.items)) }

@@ -1,7 +1,7 @@
 use crate::bound::Bound;
 use op_term::Sym;
 
-/// What is written as one piece.
+/// What is written as one fragment.
 #[derive(Clone, Copy)]
 pub enum Lexeme {
     /// A bracket, a comma, a bar or a space.
@@ -15,7 +15,7 @@ pub enum Lexeme {
     Letter(u64),
 }
 
-/// What is left to write: a piece, a term within a bound, a term as the rest of a list, or the arguments of a compound from an index on.
+/// What is left to write: a fragment, a term within a bound, a term as the rest of a list, or the arguments of a compound from an index on.
 #[derive(Clone, Copy)]
 pub enum Item<P> {
     Lexeme(Lexeme),

@@ -1,9 +1,9 @@
 ghost use Rattle.std.specs.Prelude.{◌≡◌, ◌≤◌, ◌<◌, ◌+◌, ◌++◌, ◌∷◌, [], length, reverse, MatchOption, OnOk, IfOk};
 ghost use Rattle.op_writer.specs.Cut.{front_of};
-ghost use Rattle.op_writer.specs.Pieces.{spaced};
+ghost use Rattle.op_writer.specs.Fragments.{spaced};
 ghost use Rattle.op_writer.specs.Text.{text_in};
 ghost use Rattle.op_logic.specs.Names.{named};
-ghost use Rattle.op_writer.specs.inner.Stack.{AreGood, IsGood, IsGoodPlace, ways_of, pieces, pieces_of, weights, weight};
+ghost use Rattle.op_writer.specs.inner.Stack.{AreGood, IsGood, IsGoodPlace, ways_of, fragments, fragments_of, weights, weight};
 
 use crate::bound::Bound;
 use crate::item::Item;
@@ -23,7 +23,7 @@ fn take<P: Copy>(stack: &mut Vec<Item<P>>) -> Option<Item<P>>
     stack.pop()
 }
 
-// Writes a piece, or puts the items of a term in its place.
+// Writes a fragment, or puts the items of a term in its place.
 fn step<T: Tree>(
     setting: &Setting<'_>,
     tree: &T,
@@ -35,10 +35,10 @@ fn step<T: Tree>(
     requires item { IsGood (T.term tree.now) (T.IsPlace tree.now) (length setting.now.symbols.now) item }
     requires good { AreGood (T.term tree.now) (T.IsPlace tree.now) (length setting.now.symbols.now) (reverse stack.old.items) }
     ensures same { OnOk result (front_of written.old.front.limit (written.new.front.bytes
-        ++ spaced written.new.edge (pieces (T.term tree.now) (ways_of setting.now) (reverse stack.new.items)))
+        ++ spaced written.new.edge (fragments (T.term tree.now) (ways_of setting.now) (reverse stack.new.items)))
         ≡ front_of written.old.front.limit (written.old.front.bytes
-        ++ spaced written.old.edge (pieces_of (T.term tree.now) (ways_of setting.now) item
-        ++ pieces (T.term tree.now) (ways_of setting.now) (reverse stack.old.items)))) }
+        ++ spaced written.old.edge (fragments_of (T.term tree.now) (ways_of setting.now) item
+        ++ fragments (T.term tree.now) (ways_of setting.now) (reverse stack.old.items)))) }
     ensures within { OnOk result (length written.new.front.bytes ≤ 1 + written.old.front.limit) }
     ensures limit { written.new.front.limit ≡ written.old.front.limit }
     ensures less { OnOk result (weights (T.term tree.now) (reverse stack.new.items)

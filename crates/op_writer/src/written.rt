@@ -1,9 +1,9 @@
 ghost use Rattle.std.specs.Prelude.{◌≡◌, ◌≤◌, ◌<◌, ◌++◌, ◌∷◌, [], List, OnOk, IfOk, length, nat_lt, codes, decimal, if◌then◌else◌};
 ghost use Rattle.op_logic.specs.Names.{name_at};
 ghost use Rattle.op_writer.specs.Cut.{front_of};
-ghost use Rattle.op_writer.specs.Pieces.{edge_of, prefix_edge, set_apart, text_of, edge_behind};
+ghost use Rattle.op_writer.specs.Fragments.{edge_of, prefix_edge, set_apart, text_of, edge_behind};
 ghost use Rattle.op_writer.specs.Spelling.{name_text, quoted};
-ghost use Rattle.op_writer.specs.inner.Stack.{piece_of, IsGoodLexeme, ways_of};
+ghost use Rattle.op_writer.specs.inner.Stack.{fragment_of, IsGoodLexeme, ways_of};
 ghost use Rattle.op_writer.specs.Text.{letter_text as the_letter};
 
 use crate::edge::Edge;
@@ -17,7 +17,7 @@ use op_base::Memory;
 use op_desk::Bytes;
 use std::alloc::Global;
 
-/// The front of a text that grows piece by piece, and how the text ends there.
+/// The front of a text that grows fragment by fragment, and how the text ends there.
 #[derive(Drop)]
 pub struct Written {
     alloc: Global,
@@ -63,35 +63,35 @@ impl Written {
         self.front.bytes
     }
 
-    // A piece, set apart where it has to be.
-    fn add(&mut self, piece: &[u8]) -> Result<(), Memory>
+    // A fragment, set apart where it has to be.
+    fn add(&mut self, fragment: &[u8]) -> Result<(), Memory>
         requires room { length self.old.front.bytes ≤ self.old.front.limit }
         ensures bytes { OnOk result (self.new.front.bytes ≡ front_of self.old.front.limit
-            (self.old.front.bytes ++ set_apart self.old.edge piece.now)) }
+            (self.old.front.bytes ++ set_apart self.old.edge fragment.now)) }
         ensures limit { self.new.front.limit ≡ self.old.front.limit }
         ensures edge { self.new.edge ≡ self.old.edge }
     {
-        if !piece.is_empty() && self.edge.is_apart(piece[0]) {
+        if !fragment.is_empty() && self.edge.is_apart(fragment[0]) {
             self.front.add(b" ")?;
             if self.front.is_full() {
                 return Ok(());
             }
         }
-        self.front.add(piece)
+        self.front.add(fragment)
     }
 
-    fn piece(&mut self, piece: &[u8], is_prefix: bool) -> Result<(), Memory>
+    fn fragment(&mut self, fragment: &[u8], is_prefix: bool) -> Result<(), Memory>
         requires room { length self.old.front.bytes ≤ self.old.front.limit }
         ensures bytes { OnOk result (self.new.front.bytes ≡ front_of self.old.front.limit
-            (self.old.front.bytes ++ set_apart self.old.edge piece.now)) }
+            (self.old.front.bytes ++ set_apart self.old.edge fragment.now)) }
         ensures limit { self.new.front.limit ≡ self.old.front.limit }
-        ensures edge { OnOk result (self.new.edge ≡ (if is_prefix then prefix_edge piece.now else edge_of self.old.edge piece.now)) }
+        ensures edge { OnOk result (self.new.edge ≡ (if is_prefix then prefix_edge fragment.now else edge_of self.old.edge fragment.now)) }
     {
-        self.add(piece)?;
+        self.add(fragment)?;
         self.edge = if is_prefix {
-            Edge::of_prefix(piece)
+            Edge::of_prefix(fragment)
         } else {
-            self.edge.behind(piece)
+            self.edge.behind(fragment)
         };
         Ok(())
     }
@@ -121,7 +121,7 @@ impl Written {
         if has_quotes(style, name) {
             self.quoted_name(name, is_prefix)
         } else {
-            self.piece(name.as_bytes(), is_prefix)
+            self.fragment(name.as_bytes(), is_prefix)
         }
     }
 
@@ -135,7 +135,7 @@ impl Written {
         let mut text = Bytes::new(self.alloc);
         text.append(b"_")?;
         text.append(Buffer::new().format(n).as_bytes())?;
-        self.piece(text.as_slice(), false)
+        self.fragment(text.as_slice(), false)
     }
 
     fn letter(&mut self, n: u64) -> Result<(), Memory>
@@ -146,24 +146,24 @@ impl Written {
         ensures edge { OnOk result (self.new.edge ≡ edge_of self.old.edge (the_letter n)) }
     {
         let text = letter_text(self.alloc, n)?;
-        self.piece(text.as_slice(), false)
+        self.fragment(text.as_slice(), false)
     }
 
-    /// Adds a piece.
+    /// Adds a fragment.
     pub fn lexeme(&mut self, setting: &Setting<'_>, lexeme: Lexeme) -> Result<(), Memory>
         requires named { IsGoodLexeme (length setting.now.symbols.now) lexeme }
         requires room { length self.old.front.bytes ≤ self.old.front.limit }
         ensures bytes { OnOk result (self.new.front.bytes ≡ front_of self.old.front.limit
-            (self.old.front.bytes ++ set_apart self.old.edge (text_of (piece_of (ways_of setting.now) lexeme)))) }
+            (self.old.front.bytes ++ set_apart self.old.edge (text_of (fragment_of (ways_of setting.now) lexeme)))) }
         ensures limit { self.new.front.limit ≡ self.old.front.limit }
-        ensures edge { OnOk result (self.new.edge ≡ edge_behind self.old.edge (piece_of (ways_of setting.now) lexeme)) }
+        ensures edge { OnOk result (self.new.edge ≡ edge_behind self.old.edge (fragment_of (ways_of setting.now) lexeme)) }
     {
         match lexeme {
-            Lexeme::Sign(byte) => self.piece(&[byte], false),
+            Lexeme::Sign(byte) => self.fragment(&[byte], false),
             Lexeme::Name(name) => self.name(setting.style, setting.symbols.name_of(name), false),
             Lexeme::Prefix(name) => self.name(setting.style, setting.symbols.name_of(name), true),
             Lexeme::Var(n) => self.variable(n),
-            Lexeme::Int(i) => self.piece(Buffer::new().format(i).as_bytes(), false),
+            Lexeme::Int(i) => self.fragment(Buffer::new().format(i).as_bytes(), false),
             Lexeme::Letter(n) => self.letter(n),
         }
     }

@@ -5,17 +5,17 @@ use Rattle.op_logic.specs.Names.{name_at, named}
 use Rattle.op_term.specs.Places.{term_at}
 use Rattle.op_reader.specs.declared.row_kind.RowKind.{RowKind}
 use Rattle.op_reader.specs.declared.row_kind.RowKind.TheVariants.{Clause}
-use Rattle.op_reader.specs.declared.word.Operator.{Operator as OperatorHeld}
-use Rattle.op_reader.specs.declared.word.AsOperand.{AsOperand as AsOperandHeld}
-use Rattle.op_reader.specs.declared.word.AsOperand.TheVariants.{Functor, Sign, Prefix, Plain, Excess as ExcessHeld}
-use Rattle.op_reader.specs.declared.word.AsOperator.{AsOperator as AsOperatorHeld}
+use Rattle.op_reader.specs.declared.word.Operator.{Operator as DeclaredOperator}
+use Rattle.op_reader.specs.declared.word.AsOperand.{AsOperand as DeclaredAsOperand}
+use Rattle.op_reader.specs.declared.word.AsOperand.TheVariants.{Functor, Minus, Prefix, Plain, Excess as DeclaredExcess}
+use Rattle.op_reader.specs.declared.word.AsOperator.{AsOperator as DeclaredAsOperator}
 use Rattle.op_reader.specs.declared.word.AsOperator.TheVariants.{Joins, Misplaced}
-use Rattle.op_reader.specs.declared.word.Word.{Word as WordHeld}
-use Rattle.op_reader.specs.declared.word.Word.TheVariants.{Opened, Closed as ClosedHeld, Comma, Bar, Other}
+use Rattle.op_reader.specs.declared.word.Word.{Word as DeclaredWord}
+use Rattle.op_reader.specs.declared.word.Word.TheVariants.{Opened, Closed as DeclaredClosed, Comma, Bar, Other}
 use Rattle.op_reader.specs.declared.role.Role.{Role}
 use Rattle.op_reader.specs.declared.role.Role.TheVariants.{Separator, Tail, Operator as AnOperator, Operand, Excess, Compound, Bracketed}
 use Rattle.op_reader.specs.declared.role.Role.TheVariants.{Closed}
-use Rattle.op_reader.specs.declared.roles.Expected.{Expected as ExpectedHeld}
+use Rattle.op_reader.specs.declared.roles.Expected.{Expected as DeclaredExpected}
 use Rattle.op_reader.specs.declared.roles.Expected.TheVariants.{Operand as ExpectsOperand, Operator as ExpectsOperator}
 use Rattle.op_reader.specs.declared.roles.Expected.TheVariants.{Arguments as ExpectsArguments, Number}
 use Rattle.op_reader.specs.declared.roles.Step.{Step}
@@ -24,7 +24,7 @@ use Rattle.op_reader.specs.declared.roles.Spot.{Spot}
 use Rattle.op_reader.specs.declared.roles.Roles.{Roles}
 use Rattle.op_reader.specs.declared.roles.Roles.TheVariants.{Given, Refused as RolesRefused}
 use Rattle.op_reader.specs.Row.{Operator}
-use Rattle.op_reader.specs.Words.{AsOperand, functor, sign, prefix, plain, excess, AsOperator, joins, misplaced, Word, opened, closed}
+use Rattle.op_reader.specs.Words.{AsOperand, functor, minus, prefix, plain, excess, AsOperator, joins, misplaced, Word, opened, closed}
 use Rattle.op_reader.specs.Words.{comma, bar, word}
 use Rattle.op_reader.specs.Roles.{none, Levels, Level, levels_of, with_word, Rows, done, separator, tail, operator, operand, too_great}
 use Rattle.op_reader.specs.Roles.{compound, bracketed, Expected, an_operand, an_operator, arguments_of, a_number, roles, clause_roles}
@@ -40,23 +40,23 @@ view names terms = record { names = names; terms = terms }
 abbrev pub node_in : View → ℕ → Term (List ℕ)
 node_in v n = named v.names (term_at v.terms n)
 
-abbrev pub operator_in : View → OperatorHeld → Operator (List ℕ)
+abbrev pub operator_in : View → DeclaredOperator → Operator (List ℕ)
 operator_in v o = record { name = name_at v.names o.name.0; priority = o.meaning.priority; kind = o.meaning.kind }
 
-abbrev pub as_operand_in : View → AsOperandHeld → AsOperand (List ℕ)
+abbrev pub as_operand_in : View → DeclaredAsOperand → AsOperand (List ℕ)
 as_operand_in v (Functor f) = functor (name_at v.names f.0)
-as_operand_in v (Sign n) = sign (node_in v n)
+as_operand_in v (Minus n) = minus (node_in v n)
 as_operand_in v (Prefix o) = prefix (operator_in v o)
 as_operand_in v (Plain n) = plain (node_in v n)
-as_operand_in v ExcessHeld = excess
+as_operand_in v DeclaredExcess = excess
 
-abbrev pub as_operator_in : View → AsOperatorHeld → AsOperator (List ℕ)
+abbrev pub as_operator_in : View → DeclaredAsOperator → AsOperator (List ℕ)
 as_operator_in v (Joins o) = joins (operator_in v o)
 as_operator_in v Misplaced = misplaced
 
-abbrev pub word_in : View → WordHeld → Word (List ℕ)
+abbrev pub word_in : View → DeclaredWord → Word (List ℕ)
 word_in v (Opened place b) = opened place b
-word_in v (ClosedHeld place) = closed place
+word_in v (DeclaredClosed place) = closed place
 word_in v (Comma place o) = comma place (as_operator_in v o)
 word_in v (Bar place) = bar place
 word_in v (Other place a o) = word place (as_operand_in v a) (as_operator_in v o)
@@ -97,7 +97,7 @@ rows_of v ms = (with_roles v ms no_layers).inner
 
 -- the roles of the words that are left
 
-abbrev pub expected_in : View → ExpectedHeld → Expected (List ℕ)
+abbrev pub expected_in : View → DeclaredExpected → Expected (List ℕ)
 expected_in v ExpectsOperand = an_operand
 expected_in v ExpectsOperator = an_operator
 expected_in v (ExpectsArguments f) = arguments_of (name_at v.names f.0)
@@ -140,7 +140,7 @@ left_by v c cs Leave l = on_layers (with_role v Closed) (roles_left (outermost c
 left_by v c cs (Refused place) l = Err place
 
 -- the step is that of the word
-abbrev pub IsStep : RowKind → ExpectedHeld → WordHeld → Step → Type 0
+abbrev pub IsStep : RowKind → DeclaredExpected → DeclaredWord → Step → Type 0
 IsStep c e w s =
     (v : View) (cs : List RowKind) (l : Levels (List ℕ)) →
     roles_left c cs (expected_in v e) (with_word (word_in v w) l) ≡ left_by v c cs s l
@@ -156,14 +156,14 @@ pub record IsLeft (before after : Spot) : Type 0 where
   pub expected : after.expected ≡ ExpectsOperator
 
 -- a word's role joins, or the word can't stand there: in either case with whatever words behind it
-abbrev pub Advances : Spot → List Role → WordHeld → Spot → List Role → Option ℕ → Type 0
+abbrev pub Advances : Spot → List Role → DeclaredWord → Spot → List Role → Option ℕ → Type 0
 Advances before ms w after ns None =
     (v : View) (l : Levels (List ℕ)) →
     on_layers (with_roles v ms) (left_at v before (with_word (word_in v w) l)) ≡ on_layers (with_roles v ns) (left_at v after l)
 Advances before ms w after ns (Some place) = (v : View) (l : Levels (List ℕ)) → left_at v before (with_word (word_in v w) l) ≡ Err place
 
 -- no words are left
-abbrev pub IsEnded : ExpectedHeld → List Role → ℕ → Roles → Type 0
+abbrev pub IsEnded : DeclaredExpected → List Role → ℕ → Roles → Type 0
 IsEnded e ms stop (Given ns) = (e ≡ ExpectsOperator) × (ns.items ≡ ms)
 IsEnded e ms stop (RolesRefused place) = (v : View) (c : RowKind) → roles c (expected_in v e) none stop ≡ Err place
 
@@ -177,12 +177,12 @@ StepBelow n (On m c e) = RoleBelow n m
 StepBelow n (Enter m c) = RoleBelow n m
 StepBelow n s = Unit {0}
 
-abbrev pub OperandBelow : ℕ → AsOperandHeld → Type 0
-OperandBelow n (Sign m) = m < n
+abbrev pub OperandBelow : ℕ → DeclaredAsOperand → Type 0
+OperandBelow n (Minus m) = m < n
 OperandBelow n (Plain m) = m < n
 OperandBelow n a = Unit {0}
 
-abbrev pub WordBelow : ℕ → WordHeld → Type 0
+abbrev pub WordBelow : ℕ → DeclaredWord → Type 0
 WordBelow n (Other place a o) = OperandBelow n a
 WordBelow n w = Unit {0}
 
@@ -191,7 +191,7 @@ RolesBelow n (Given ms) = All (RoleBelow n) ms.items
 RolesBelow n (RolesRefused place) = Unit {0}
 
 -- the roles of a clause's words, where its brackets match
-abbrev pub HasRoles : ℕ → List WordHeld → Roles → Type 0
+abbrev pub HasRoles : ℕ → List DeclaredWord → Roles → Type 0
 HasRoles stop ws (Given ms) =
     (v : View) → (levels_of stop (map (word_in v) ws)).outer ≡ [] →
     (clause_roles stop (map (word_in v) ws) ≡ Ok (rows_of v ms.items)) × ((with_roles v ms.items no_layers).outer ≡ [])

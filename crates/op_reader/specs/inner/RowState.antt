@@ -1,10 +1,10 @@
--- The state of a row that is taken from the left: what is known of its pieces so far.
+-- The state of a row that is taken from the left: what is known of its members so far.
 use Rattle.std.specs.Prelude.{◌≡◌, ◌<◌, ℕ, map, Bool, true, false, if◌then◌else◌, List, [], ◌∷◌, ◌++◌, Option, Some, None, option_map}
 use Rattle.std.specs.Option.{MatchOption, IfSome}
 use Rattle.op_logic.specs.Term.{Term}
 use Rattle.op_term.specs.Places.{term_at}
 use Rattle.op_term.specs.declared.ops.Meaning.{Meaning}
-use Rattle.op_reader.specs.Row.{Piece, operand, Operator, tree}
+use Rattle.op_reader.specs.Row.{Member, operand, Operator, tree}
 use Rattle.op_reader.specs.inner.Spine.{Arm, Spine, spine}
 use Rattle.op_reader.specs.declared.row.Branch.{Branch}
 use Rattle.op_reader.specs.declared.row.Part.{Part}
@@ -16,9 +16,9 @@ pub record RowState : Type 0 where
   pub last : Option Part
   pub is_refused : Bool
 
--- no pieces
-abbrev pub no_pieces : RowState
-no_pieces = record { branches = []; last = None; is_refused = false }
+-- no members
+abbrev pub no_members : RowState
+no_members = record { branches = []; last = None; is_refused = false }
 
 -- whether an operand comes next; else an operator, or the end
 abbrev pub expects_operand : RowState → Bool
@@ -35,9 +35,9 @@ abbrev pub row_spine : List (Term ℕ) → RowState → Term ℕ → ℕ → Opt
 row_spine ts row t priority =
     if row.is_refused then None else Some (record { arms = map (arm_of ts) row.branches; last = t; priority = priority })
 
--- the pieces so far are these: where an operator comes next, the state is their spine; where an operand comes next, it is
+-- the members so far are these: where an operator comes next, the state is their spine; where an operand comes next, it is
 -- their spine with whichever operand
-abbrev pub Stands : List (Term ℕ) → List (Piece ℕ) → RowState → Type 0
+abbrev pub Stands : List (Term ℕ) → List (Member ℕ) → RowState → Type 0
 Stands ts ps row =
     MatchOption row.last
     ((t : Term ℕ) → spine (ps ++ operand t ∷ []) ≡ row_spine ts row t 0)
@@ -53,5 +53,5 @@ pub record AreBelow (n : ℕ) (row : RowState) : Type 0 where
   pub last : IfSome row.last (λ part. part.node < n)
 
 -- a node with the row's tree, or none where the row is refused
-abbrev pub IsTreeOf : List (Term ℕ) → ℕ → List (Piece ℕ) → Option ℕ → Type 0
+abbrev pub IsTreeOf : List (Term ℕ) → ℕ → List (Member ℕ) → Option ℕ → Type 0
 IsTreeOf ts bound ps found = tree bound ps ≡ option_map (term_at ts) found

@@ -5,9 +5,9 @@ use Rattle.op_logic.specs.Term.{Term}
 use Rattle.op_token.specs.declared.token.Token.{Token}
 use Rattle.op_token.specs.declared.token.TokenKind.TheVariants.{QuotedName, Text}
 use Rattle.op_token.specs.Tokens.{IsPlain, IsQuoted, unquoted}
-use Rattle.op_reader.specs.declared.word.AsOperand.{AsOperand as AsOperandHeld}
-use Rattle.op_reader.specs.declared.word.AsOperator.{AsOperator as AsOperatorHeld}
-use Rattle.op_reader.specs.declared.word.Word.{Word as WordHeld}
+use Rattle.op_reader.specs.declared.word.AsOperand.{AsOperand as DeclaredAsOperand}
+use Rattle.op_reader.specs.declared.word.AsOperator.{AsOperator as DeclaredAsOperator}
+use Rattle.op_reader.specs.declared.word.Word.{Word as DeclaredWord}
 use Rattle.op_reader.specs.declared.words.Made.{Made}
 use Rattle.op_reader.specs.Words.{Source, words_of, words_from, variables_of, spelling, named_from, AsOperand, AsOperator, Word}
 use Rattle.op_reader.specs.inner.RoleLists.{View, OperandBelow, WordBelow, node_in, as_operand_in, as_operator_in, word_in}
@@ -22,16 +22,16 @@ pub record ShowsTerm (names : List (List ℕ)) (terms : List (Term ℕ)) (n : �
   pub there : n < length terms
   pub shown : (v : View) → IsLater v names terms → node_in v n ≡ t
 
-pub record ShowsOperand (names : List (List ℕ)) (terms : List (Term ℕ)) (a : AsOperandHeld) (b : AsOperand (List ℕ)) : Type 0 where
+pub record ShowsOperand (names : List (List ℕ)) (terms : List (Term ℕ)) (a : DeclaredAsOperand) (b : AsOperand (List ℕ)) : Type 0 where
   pub below : OperandBelow (length terms) a
   pub shown : (v : View) → IsLater v names terms → as_operand_in v a ≡ b
 
-pub record ShowsWord (names : List (List ℕ)) (terms : List (Term ℕ)) (w : WordHeld) (u : Word (List ℕ)) : Type 0 where
+pub record ShowsWord (names : List (List ℕ)) (terms : List (Term ℕ)) (w : DeclaredWord) (u : Word (List ℕ)) : Type 0 where
   pub below : WordBelow (length terms) w
   pub shown : (v : View) → IsLater v names terms → word_in v w ≡ u
 
 -- what a name is as an operator, where the code has the name's number
-abbrev pub ShowsOperator : List (List ℕ) → AsOperatorHeld → AsOperator (List ℕ) → Type 0
+abbrev pub ShowsOperator : List (List ℕ) → DeclaredAsOperator → AsOperator (List ℕ) → Type 0
 ShowsOperator names a b = (v : View) → take (length names) v.names ≡ names → as_operator_in v a ≡ b
 
 -- a token stands in a text, and what it spells is text too
@@ -55,12 +55,12 @@ pub record HasMet (names : List (List ℕ × ℕ)) (count : ℕ) (met : List (Li
   pub named : names ≡ named_from 0 met
   pub counted : count ≡ length met
 
-pub record ShowsWords (names : List (List ℕ)) (terms : List (Term ℕ)) (ws : List WordHeld) (us : List (Word (List ℕ))) : Type 0 where
+pub record ShowsWords (names : List (List ℕ)) (terms : List (Term ℕ)) (ws : List DeclaredWord) (us : List (Word (List ℕ))) : Type 0 where
   pub below : All (WordBelow (length terms)) ws
   pub shown : (v : View) → IsLater v names terms → map (word_in v) ws ≡ us
 
 -- the words of the tokens before a place, and the variables in them
-pub record Worded (s : Source) (ts : List Token) (at : ℕ) (names : List (List ℕ)) (made : Made) (held : List WordHeld) : Type 0 where
+pub record Worded (s : Source) (ts : List Token) (at : ℕ) (names : List (List ℕ)) (made : Made) (held : List DeclaredWord) : Type 0 where
   pub met : List (List ℕ)
   pub words : List (Word (List ℕ))
   pub shown : ShowsWords names made.nodes held words

@@ -2,7 +2,7 @@
 use Rattle.std.specs.Prelude.{ℕ, zero, suc, nat_le, length, Option, Some, None, option_map, option_and_then, if◌then◌else◌, List, [], ◌∷◌}
 use Rattle.op_logic.specs.Term.{Term}
 use Rattle.op_term.specs.Ops.{is_prefix, is_postfix}
-use Rattle.op_reader.specs.Row.{Piece, operand, Operator, Split, root, is_empty, left_bound, right_bound, with_one, tree_of}
+use Rattle.op_reader.specs.Row.{Member, operand, Operator, Split, root, is_empty, left_bound, right_bound, with_one, tree_of}
 
 -- an operator whose right operand goes on, with its left operand; a prefix operator has none
 pub record Arm (N : Type 0) : Type 0 where
@@ -42,8 +42,8 @@ led s left right =
     (if is_empty s.after then option_map (λ l. ended (with_one s.root.name l) s.root.priority) left else None) else
     option_and_then (λ l. option_map (under s.root (Some l)) right) left
 
--- of a row of at most so many pieces
-unfoldable pub spine_of : {N : Type 0} → ℕ → List (Piece N) → Option (Spine N)
+-- of a row of at most so many members
+unfoldable pub spine_of : {N : Type 0} → ℕ → List (Member N) → Option (Spine N)
 spine_of zero ps = None
 spine_of (suc n) (operand t ∷ []) = Some (ended t 0)
 spine_of (suc n) ps =
@@ -52,5 +52,5 @@ spine_of (suc n) ps =
     (root ps)
 
 -- None where the row has no tree within any bound
-abbrev pub spine : {N : Type 0} → List (Piece N) → Option (Spine N)
+abbrev pub spine : {N : Type 0} → List (Member N) → Option (Spine N)
 spine ps = spine_of (length ps) ps

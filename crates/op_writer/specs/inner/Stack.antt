@@ -14,7 +14,7 @@ use Rattle.op_writer.specs.declared.item.Lexeme.TheVariants.{Sign, Name, Prefix,
 use Rattle.op_writer.specs.declared.item.Item.{Item}
 use Rattle.op_writer.specs.declared.item.Item.TheVariants.{Lexeme as Written, Term as Whole, Rest, Further}
 use Rattle.op_writer.specs.Spelling.{name_text}
-use Rattle.op_writer.specs.Pieces.{Piece, plain, prefix_operator}
+use Rattle.op_writer.specs.Fragments.{Fragment, plain, prefix_operator}
 use Rattle.op_writer.specs.Text.{Form, form_of, forms_of, within, rest, further, letter_text, letter_of, sign, argument}
 
 -- what texts go by: the operators, the style, and the names
@@ -29,13 +29,13 @@ ways_of s = record { ops = s.ops.now; style = s.style; names = s.symbols.now }
 abbrev pub spelt : Ways → ℕ → List ℕ
 spelt w f = name_text w.style (name_at w.names f)
 
-abbrev pub piece_of : Ways → Lexeme → Piece
-piece_of w (Sign b) = plain (b ∷ [])
-piece_of w (Name f) = plain (spelt w f.0)
-piece_of w (Prefix f) = prefix_operator (spelt w f.0)
-piece_of w (Var n) = plain (codes "_" ++ decimal n)
-piece_of w (Int i) = plain (signed_decimal i)
-piece_of w (Letter n) = plain (letter_text n)
+abbrev pub fragment_of : Ways → Lexeme → Fragment
+fragment_of w (Sign b) = plain (b ∷ [])
+fragment_of w (Name f) = plain (spelt w f.0)
+fragment_of w (Prefix f) = prefix_operator (spelt w f.0)
+fragment_of w (Var n) = plain (codes "_" ++ decimal n)
+fragment_of w (Int i) = plain (signed_decimal i)
+fragment_of w (Letter n) = plain (letter_text n)
 
 abbrev pub form : Ways → Term ℕ → Form
 form w t = form_of w.ops w.style (named w.names t)
@@ -79,11 +79,11 @@ IsGoodLexeme n (Prefix f) = f.0 < n
 IsGoodLexeme n t = Unit {0}
 
 module _ {P : Type 0} (term : P → Term ℕ) where
-  abbrev pub pieces_of : Ways → Item P → List Piece
-  pieces_of w (Written t) = piece_of w t ∷ []
-  pieces_of w (Whole at bound) = form w (term at) (within bound)
-  pieces_of w (Rest at) = form w (term at) rest
-  pieces_of w (Further at i) = further (forms w (drop_args i (args_of (term at))))
+  abbrev pub fragments_of : Ways → Item P → List Fragment
+  fragments_of w (Written t) = fragment_of w t ∷ []
+  fragments_of w (Whole at bound) = form w (term at) (within bound)
+  fragments_of w (Rest at) = form w (term at) rest
+  fragments_of w (Further at i) = further (forms w (drop_args i (args_of (term at))))
 
   abbrev pub weight : Item P → ℕ
   weight (Written t) = 1
@@ -91,9 +91,9 @@ module _ {P : Type 0} (term : P → Term ℕ) where
   weight (Rest at) = work (term at) + 3
   weight (Further at i) = 2 + args_work (drop_args i (args_of (term at)))
 
-  -- the pieces of items, the uppermost first
-  abbrev pub pieces : Ways → List (Item P) → List Piece
-  pieces w items = flat_map (pieces_of w) items
+  -- the fragments of items, the uppermost first
+  abbrev pub fragments : Ways → List (Item P) → List Fragment
+  fragments w items = flat_map (fragments_of w) items
 
   abbrev pub weights : List (Item P) → ℕ
   weights [] = 0
@@ -115,6 +115,6 @@ module _ {P : Type 0} (term : P → Term ℕ) where
 
   -- one item is replaced by others, which come to the same and are less work
   pub record Replaces (w : Ways) (IsPlace : P → Type 0) (item : Item P) (old new : List (Item P)) : Type 0 where
-    pub same : pieces w new ≡ pieces_of w item ++ pieces w old
+    pub same : fragments w new ≡ fragments_of w item ++ fragments w old
     pub less : weights new < weight item + weights old
     pub good : AreGood IsPlace (length w.names) new

@@ -14,6 +14,6 @@ returns g c =
     c.requires.node c.part-left.ensures.value c.part-right.ensures.value c.requires.letter c.requires.notation
     c.is_passed-brackets.ensures c.in_ok-push_bracket.ensures (c.in_ok-push.ensures
     ∙ ap (λ x. Item.Term c.part-right.result x ∷ reverse c.push_bracket.new.stack.items) c.right_of.ensures)
-    c.in_ok-infix_name.ensures.pieces c.in_ok-infix_name.ensures.weights c.in_ok-infix_name.ensures.good
+    c.in_ok-infix_name.ensures.fragments c.in_ok-infix_name.ensures.weights c.in_ok-infix_name.ensures.good
     (c.in_ok-push-2.ensures ∙ ap (λ x. Item.Term c.part-left.result x ∷ reverse c.infix_name.new.stack.items) c.left_of.ensures)
     c.in_ok-push_bracket-2.ensures c.part-left.ensures.place

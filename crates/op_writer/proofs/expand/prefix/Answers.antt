@@ -13,4 +13,5 @@ returns g c =
     c.requires.node c.part-right.ensures.value c.requires.letter c.requires.notation c.is_passed-brackets.ensures
     c.in_ok-push_bracket.ensures
     (c.in_ok-push.ensures ∙ ap (λ x. Item.Term c.part-right.result x ∷ (reverse c.push_bracket.new.stack.items)) c.right_of.ensures)
-    c.in_ok-prefix_name.ensures.pieces c.in_ok-prefix_name.ensures.weights c.in_ok-prefix_name.ensures.good c.in_ok-push_bracket-2.ensures
+    c.in_ok-prefix_name.ensures.fragments c.in_ok-prefix_name.ensures.weights c.in_ok-prefix_name.ensures.good
+    c.in_ok-push_bracket-2.ensures

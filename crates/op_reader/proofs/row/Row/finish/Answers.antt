@@ -1,6 +1,6 @@
 use Rattle.std.proofs.Common.{sym, subst}
 use Rattle.op_reader.specs.inner.RowState.{RowState, Stands}
-use Rattle.op_reader.proofs.RowPieces.{tree_refused, tree_above, tree_found}
+use Rattle.op_reader.proofs.RowMembers.{tree_refused, tree_above, tree_found}
 use Rattle.op_reader.proofs.row.Row.finish.Goals as goal
 
 pub returns-then-self-clause-tree : goal.returns-then-self-clause-tree

@@ -3,7 +3,7 @@ use Rattle.op_logic.proofs.BoolCases.{if_true, if_false}
 use Rattle.op_reader.specs.Row.{left_bound}
 use Rattle.op_reader.specs.inner.RowState.{RowState, operator_of, Stands, BranchesBelow}
 use Rattle.op_reader.proofs.ClosedSpines.{branches_push}
-use Rattle.op_reader.proofs.RowPieces.{none_before, infix_none, infix_refused, infix_taken, branch_of}
+use Rattle.op_reader.proofs.RowMembers.{none_before, infix_none, infix_refused, infix_taken, branch_of}
 use Rattle.op_reader.proofs.row.Row.infix.Goals as goal
 
 pub returns-then-self-clause-stands : goal.returns-then-self-clause-stands

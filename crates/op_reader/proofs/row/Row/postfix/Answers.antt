@@ -3,7 +3,7 @@ use Rattle.op_logic.proofs.BoolCases.{if_true, if_false}
 use Rattle.op_reader.specs.Row.{operator, left_bound}
 use Rattle.op_reader.specs.inner.RowState.{RowState, operator_of, Stands, expects_operand}
 use Rattle.op_reader.proofs.ClosedSpines.{kept_length, branches_more}
-use Rattle.op_reader.proofs.RowPieces.{none_before, expected_some, as_last, postfix_none, postfix_refused, postfix_taken}
+use Rattle.op_reader.proofs.RowMembers.{none_before, expected_some, as_last, postfix_none, postfix_refused, postfix_taken}
 use Rattle.op_reader.proofs.row.Row.postfix.Goals as goal
 
 pub returns-then-self-clause-stands : goal.returns-then-self-clause-stands

@@ -4,7 +4,7 @@ use Rattle.op_reader.specs.Row.{operator}
 use Rattle.op_reader.specs.inner.RowState.{RowState, operator_of, Stands, expects_operand, BranchesBelow, AreBelow}
 use Rattle.op_reader.specs.inner.Adding.{last_is_below}
 use Rattle.op_reader.proofs.ClosedSpines.{branches_push}
-use Rattle.op_reader.proofs.RowPieces.{stands_open, expected_none, as_open, prefix_none, prefix_refused, prefix_taken, branch_of}
+use Rattle.op_reader.proofs.RowMembers.{stands_open, expected_none, as_open, prefix_none, prefix_refused, prefix_taken, branch_of}
 use Rattle.op_reader.proofs.row.Row.prefix.Goals as goal
 
 pub returns-then-self-clause-stands : goal.returns-then-self-clause-stands

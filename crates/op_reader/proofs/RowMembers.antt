@@ -1,4 +1,4 @@
--- The state of a row stands for the pieces so far, and for one more.
+-- The state of a row stands for the members so far, and for one more.
 use Rattle.std.proofs.Common.{◌≡◌, ℕ, ◌<◌, ◌≤◌, Bool, true, false, List, [], ◌∷◌, ◌++◌, Option, Some, None, map, length, refl, ap, sym, ◌∙◌}
 use Rattle.std.proofs.Common.{arith, subst, leb, append_assoc}
 use Rattle.std.specs.Option.{option_map, option_and_then, MatchOption}
@@ -11,7 +11,7 @@ use Rattle.op_term.specs.Ops.{is_prefix, is_infix, is_postfix}
 use Rattle.op_term.specs.Places.{term_at}
 use Rattle.op_term.specs.declared.ops.Meaning.{Meaning}
 use Rattle.op_term.specs.declared.symbols.Sym.{Sym}
-use Rattle.op_reader.specs.Row.{Piece, operand, operator, Operator, left_bound, with_one, tree}
+use Rattle.op_reader.specs.Row.{Member, operand, operator, Operator, left_bound, with_one, tree}
 use Rattle.op_reader.specs.inner.Spine.{Arm, Spine, ended, whole_priority, spine}
 use Rattle.op_reader.specs.inner.RowState.{RowState, expects_operand, arm_of, operator_of, row_spine, Stands, BranchesBelow}
 use Rattle.op_reader.specs.inner.Adding.{whole_term, taken, added, added_to, IsClosed, AreFalling, IsSameTo, branch_bound, last_is_below}
@@ -25,14 +25,14 @@ use Rattle.op_reader.proofs.RowRoots.{right_within}
 use Rattle.op_reader.proofs.AddedOperators.{false_by}
 
 -- where an operator comes next
-pub stands_last : (ts : List (Term ℕ)) (ps : List (Piece ℕ)) (row : RowState) (part : Part) → Stands ts ps row → row.last ≡ Some part
+pub stands_last : (ts : List (Term ℕ)) (ps : List (Member ℕ)) (row : RowState) (part : Part) → Stands ts ps row → row.last ≡ Some part
     → spine ps ≡ row_spine ts row (term_at ts part.node) part.priority
 stands_last ts ps row part h e =
     MatchOption-at_some ((t : Term ℕ) → spine (ps ++ operand t ∷ []) ≡ row_spine ts row t 0)
     (λ (p : Part). spine ps ≡ row_spine ts row (term_at ts p.node) p.priority) part e h
 
 -- where an operand comes next
-pub stands_open : (ts : List (Term ℕ)) (ps : List (Piece ℕ)) (row : RowState) → Stands ts ps row → row.last ≡ None → (t : Term ℕ)
+pub stands_open : (ts : List (Term ℕ)) (ps : List (Member ℕ)) (row : RowState) → Stands ts ps row → row.last ≡ None → (t : Term ℕ)
     → spine (ps ++ operand t ∷ []) ≡ row_spine ts row t 0
 stands_open ts ps row h e =
     MatchOption-at_none ((t : Term ℕ) → spine (ps ++ operand t ∷ []) ≡ row_spine ts row t 0)
@@ -49,7 +49,7 @@ allow_all ts p (b ∷ c ∷ bs) q f h =
     (omega (arith, i.0, f.0, w), i)
 
 -- an infix or postfix operator behind a row that is not refused
-module _ (ts us : List (Term ℕ)) (ps : List (Piece ℕ)) (row : RowState) (part left : Part) (bs : List Branch) (o : Operator ℕ)
+module _ (ts us : List (Term ℕ)) (ps : List (Member ℕ)) (row : RowState) (part left : Part) (bs : List Branch) (o : Operator ℕ)
     (stands : Stands ts ps row) (last : row.last ≡ Some part) (not_refused : row.is_refused ≡ false)
     (same : IsSameTo o.priority (spine_at ts row.branches part) (spine_at us bs left)) (stops : last_is_below o.priority bs ≡ false) where
   spine_before : spine ps ≡ Some (spine_at ts row.branches part)
@@ -76,23 +76,23 @@ module _ (ts us : List (Term ℕ)) (ps : List (Piece ℕ)) (row : RowState) (par
       taken_after made ∙ ap (option_map (below_arms (map (arm_of us) bs))) (if_true _ _ _ (le-leb left.priority (left_bound o) h))
 
 -- a row that is refused stays refused
-pub none_before : (ts : List (Term ℕ)) (ps : List (Piece ℕ)) (row : RowState) (part : Part) → Stands ts ps row → row.last ≡ Some part
+pub none_before : (ts : List (Term ℕ)) (ps : List (Member ℕ)) (row : RowState) (part : Part) → Stands ts ps row → row.last ≡ Some part
     → row.is_refused ≡ true → spine ps ≡ None
 none_before ts ps row part stands last h = stands_last ts ps row part stands last ∙ if_true _ _ _ h
 
-two_more : (ps : List (Piece ℕ)) (o : Operator ℕ) (t : Term ℕ)
+two_more : (ps : List (Member ℕ)) (o : Operator ℕ) (t : Term ℕ)
     → spine ((ps ++ operator o ∷ []) ++ operand t ∷ []) ≡ spine (ps ++ operator o ∷ operand t ∷ [])
-two_more ps o t = ap (λ (qs : List (Piece ℕ)). spine qs) (append_assoc ps (operator o ∷ []) (operand t ∷ []))
+two_more ps o t = ap (λ (qs : List (Member ℕ)). spine qs) (append_assoc ps (operator o ∷ []) (operand t ∷ []))
 
-pub infix_none : (o : Operator ℕ) → is_infix o.kind ≡ true → 0 < o.priority → (ps : List (Piece ℕ)) → spine ps ≡ None → (t : Term ℕ)
+pub infix_none : (o : Operator ℕ) → is_infix o.kind ≡ true → 0 < o.priority → (ps : List (Member ℕ)) → spine ps ≡ None → (t : Term ℕ)
     → spine ((ps ++ operator o ∷ []) ++ operand t ∷ []) ≡ None
 infix_none o k some ps e t = two_more ps o t ∙ (spine-infix o t k some ps ∙ ap (option_and_then (added_to o (taken o (by_infix o t)))) e)
 
-pub postfix_none : (o : Operator ℕ) → is_postfix o.kind ≡ true → 0 < o.priority → (ps : List (Piece ℕ)) → spine ps ≡ None
+pub postfix_none : (o : Operator ℕ) → is_postfix o.kind ≡ true → 0 < o.priority → (ps : List (Member ℕ)) → spine ps ≡ None
     → spine (ps ++ operator o ∷ []) ≡ None
 postfix_none o k some ps e = spine-postfix o k some ps ∙ ap (option_and_then (added_to o (taken o (by_postfix o)))) e
 
-pub prefix_none : (o : Operator ℕ) → is_prefix o.kind ≡ true → 0 < o.priority → (ps : List (Piece ℕ)) (t : Term ℕ)
+pub prefix_none : (o : Operator ℕ) → is_prefix o.kind ≡ true → 0 < o.priority → (ps : List (Member ℕ)) (t : Term ℕ)
     → spine (ps ++ operand t ∷ []) ≡ None → spine ((ps ++ operator o ∷ []) ++ operand t ∷ []) ≡ None
 prefix_none o k some ps t e = two_more ps o t ∙ (spine-prefix o t k some ps ∙ ap (option_and_then (added_to o (by_prefix o t))) e)
 
@@ -106,7 +106,7 @@ map_push ts items bs b e = sym (ap (map (arm_of ts)) e ∙ map-append (arm_of ts
 abbrev spine_with_arms : List (Arm ℕ) → Term ℕ → ℕ → Option (Spine ℕ)
 spine_with_arms arms t q = Some (record { arms = arms; last = t; priority = q })
 
-module _ (ts us : List (Term ℕ)) (ps : List (Piece ℕ)) (row : RowState) (part left : Part) (bs : List Branch) (name : Sym)
+module _ (ts us : List (Term ℕ)) (ps : List (Member ℕ)) (row : RowState) (part left : Part) (bs : List Branch) (name : Sym)
     (meaning : Meaning)
     (some : 0 < meaning.priority) (stands : Stands ts ps row) (last : row.last ≡ Some part) (not_refused : row.is_refused ≡ false)
     (same : IsSameTo meaning.priority (spine_at ts row.branches part) (spine_at us bs left))
@@ -152,7 +152,7 @@ added_refused ts o x [] t q h = cc
 added_refused ts o x (b ∷ []) t q h = added_here o x (arm_of ts b) [] t q (ltb-true (branch_bound b) o.priority h)
 added_refused ts o x (b ∷ c ∷ bs) t q h = added_none o x (arm_of ts b) (map (arm_of ts) (c ∷ bs)) t q (added_refused ts o x (c ∷ bs) t q h)
 
-module _ (ts : List (Term ℕ)) (ps : List (Piece ℕ)) (row : RowState) (name : Sym) (meaning : Meaning) (k : is_prefix meaning.kind ≡ true)
+module _ (ts : List (Term ℕ)) (ps : List (Member ℕ)) (row : RowState) (name : Sym) (meaning : Meaning) (k : is_prefix meaning.kind ≡ true)
     (some : 0 < meaning.priority) (stands : Stands ts ps row) (last : row.last ≡ None) (not_refused : row.is_refused ≡ false) where
   abbrev p : Operator ℕ
   p = operator_of name.0 meaning
@@ -182,7 +182,7 @@ module _ (ts : List (Term ℕ)) (ps : List (Piece ℕ)) (row : RowState) (name :
       ∙ ap (λ (xs : List (Arm ℕ)). spine_with_arms xs t 0) (map_push ts items row.branches (branch_of name meaning None) e))))
 
 -- the end of a row
-module _ (ts us : List (Term ℕ)) (ps : List (Piece ℕ)) (row : RowState) (part : Part) (bound : ℕ) (stands : Stands ts ps row)
+module _ (ts us : List (Term ℕ)) (ps : List (Member ℕ)) (row : RowState) (part : Part) (bound : ℕ) (stands : Stands ts ps row)
     (last : row.last ≡ Some part) where
   tree_by_spine : (o : Option (Spine ℕ)) → spine ps ≡ o → tree bound ps ≡ option_and_then (closed bound) o
   tree_by_spine o e = tree_closed (length ps) bound ps ∙ ap (option_and_then (closed bound)) e
@@ -223,13 +223,13 @@ expected_some row h = some_of row.last h
 pub none_expected : (row : RowState) → row.last ≡ None → expects_operand row ≡ true
 none_expected row h = ap (λ (o : Option Part). elim o as (λ _. Bool) [ None ↦ true | Some part ↦ false ]) h
 
-pub as_open : (ts : List (Term ℕ)) (ps : List (Piece ℕ)) (row : RowState) → row.last ≡ None
+pub as_open : (ts : List (Term ℕ)) (ps : List (Member ℕ)) (row : RowState) → row.last ≡ None
     → ((t : Term ℕ) → spine (ps ++ operand t ∷ []) ≡ row_spine ts row t 0) → Stands ts ps row
 as_open ts ps row e h =
     subst (λ (o : Option Part). MatchOption o ((t : Term ℕ) → spine (ps ++ operand t ∷ []) ≡ row_spine ts row t 0)
     (λ (p : Part). spine ps ≡ row_spine ts row (term_at ts p.node) p.priority)) (sym e) h
 
-pub as_last : (ts : List (Term ℕ)) (ps : List (Piece ℕ)) (row : RowState) (part : Part) → row.last ≡ Some part
+pub as_last : (ts : List (Term ℕ)) (ps : List (Member ℕ)) (row : RowState) (part : Part) → row.last ≡ Some part
     → spine ps ≡ row_spine ts row (term_at ts part.node) part.priority → Stands ts ps row
 as_last ts ps row part e h =
     subst (λ (o : Option Part). MatchOption o ((t : Term ℕ) → spine (ps ++ operand t ∷ []) ≡ row_spine ts row t 0)

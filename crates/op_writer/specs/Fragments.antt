@@ -1,14 +1,14 @@
--- The pieces of a text, and the spaces between them.
+-- The fragments of a text, and the spaces between them.
 use Rattle.std.specs.Prelude.{ℕ, ◌-◌, ◌==◌, ◌||◌, Bool, false, List, [], ◌∷◌, ◌++◌, length, slice_get, if◌then◌else◌, codes, bytes_eq}
 use Rattle.std.specs.Option.{option_map_or}
 use Rattle.op_base.specs.Characters.{is_symbol, is_word, is_digit}
 use Rattle.op_writer.specs.declared.edge.Edge.{Edge}
 use Rattle.op_writer.specs.declared.edge.Edge.TheVariants.{Other, Word, Symbol, Prefix, Minus}
 
--- a piece: some bytes, or a prefix operator of symbol characters
-pub data Piece : Type 0 where
-  plain : List ℕ → Piece
-  prefix_operator : List ℕ → Piece
+-- a fragment: some bytes, or a prefix operator of symbol characters
+pub data Fragment : Type 0 where
+  plain : List ℕ → Fragment
+  prefix_operator : List ℕ → Fragment
 
 -- how a text ends, by its last byte
 abbrev pub edge_at : ℕ → Edge
@@ -20,7 +20,8 @@ edge_of e t = option_map_or edge_at (slice_get t (length t - 1)) e
 abbrev pub prefix_edge : List ℕ → Edge
 prefix_edge t = if bytes_eq t (codes "-") then Minus else Prefix
 
--- whether a space stands between a text and a piece that begins with a byte: where both are symbol characters there, or both are letters,
+-- whether a space stands between a text and a fragment that begins with a byte: where both are symbol characters there, or both are
+-- letters,
 -- digits or _ ; behind a prefix operator before a bracket; behind the prefix operator - before a digit
 abbrev pub is_apart : Edge → ℕ → Bool
 is_apart Other b = false
@@ -33,15 +34,15 @@ abbrev pub set_apart : Edge → List ℕ → List ℕ
 set_apart e [] = []
 set_apart e (b ∷ bs) = if is_apart e b then codes " " ++ b ∷ bs else b ∷ bs
 
-abbrev pub text_of : Piece → List ℕ
+abbrev pub text_of : Fragment → List ℕ
 text_of (plain t) = t
 text_of (prefix_operator t) = t
 
-abbrev pub edge_behind : Edge → Piece → Edge
+abbrev pub edge_behind : Edge → Fragment → Edge
 edge_behind e (plain t) = edge_of e t
 edge_behind e (prefix_operator t) = prefix_edge t
 
--- pieces one behind the other, behind a text that ends so
-abbrev pub spaced : Edge → List Piece → List ℕ
+-- fragments one behind the other, behind a text that ends so
+abbrev pub spaced : Edge → List Fragment → List ℕ
 spaced e [] = []
 spaced e (p ∷ ps) = set_apart e (text_of p) ++ spaced (edge_behind e p) ps

@@ -2,7 +2,7 @@ use crate::word::Operator;
 
 /// An operand, which is a node, or an operator.
 #[derive(Clone, Copy, Debug)]
-pub(crate) enum Piece {
+pub(crate) enum Member {
     Operand(u64),
     Operator(Operator),
 }
