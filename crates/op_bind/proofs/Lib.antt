@@ -1,6 +1,7 @@
 mod ArgumentPairs
 pub mod BindingsInvariant
 pub mod ClauseRenaming
+pub mod CopiedValues
 pub mod KeptTerms
 mod LoadedTerms
 mod OccursCheck

@@ -1,6 +1,7 @@
 ghost use Rattle.std.specs.Prelude.{◌≡◌, ◌+◌, ◌<◌, ◌≤◌, ◌++◌, ◌∷◌, [], ℕ, length, take, drop, All, OnOk, OnErr, IfOk, None, false, map};
 ghost use Rattle.op_logic.specs.Term.{Term as SpecTerm, node, args_of, arity, nth_arg, occurs, IsWithin, shift};
 ghost use Rattle.op_logic.specs.Bind.{lookup, follow};
+ghost use Rattle.op_logic.specs.Laws.{Acyclic};
 ghost use Rattle.op_term.specs.Places.{term_at, args_at};
 ghost use Rattle.op_term.specs.Head.{head};
 ghost use Rattle.op_bind.specs.State.{State, bindings, value_of, undone, mark_of, oldest, IsGoodMark};
@@ -50,6 +51,11 @@ impl Bindings {
             table: Vec::new(alloc),
             trail: Vec::new(alloc),
         }
+    }
+
+    /// Where the terms are allocated.
+    pub fn alloc(&self) -> Global {
+        self.alloc
     }
 
     /// Gives out `n` variables, and the number of the first.
@@ -167,6 +173,19 @@ impl Bindings {
                 return at;
             };
             at = next;
+        }
+    }
+
+    /// The Ref that a Ref leads to by the bindings, which have no cycles: an unbound variable, or another node.
+    pub fn followed(&self, r: &Ref) -> Ref
+        requires { r.now < length self.now.terms }
+        ensures there { result < length self.now.terms }
+        ensures value { term_at self.now.terms result ≡ follow (bindings self.now) (term_at self.now.terms r.now) }
+        ensures acyclic { Acyclic (bindings self.now) }
+    {
+        let _ = &self.nodes;
+        Ref {
+            at: self.follow(r.at),
         }
     }
 

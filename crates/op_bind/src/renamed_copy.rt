@@ -85,6 +85,7 @@ impl Bindings {
         requires { r.now < length self.old.terms }
         ensures there { IfOk result (λ c. c < length self.new.terms) }
         ensures value { IfOk result (λ c. term_at self.new.terms c ≡ copied self.old.count (value_of self.old r.now)) }
+        ensures free { IfOk result (λ c. value_of self.new c ≡ copied self.old.count (value_of self.old r.now)) }
         ensures paid { OnOk result (fuel.old ≡ fuel.new + size (value_of self.old r.now)) }
         ensures spent { result ≡ Err WalkFault.Spent → fuel.old < size (value_of self.old r.now) }
         ensures empty { result ≡ Err WalkFault.Spent → fuel.new ≡ 0 }

@@ -209,3 +209,16 @@ pub lower-push : (B : List BoxFrame) (b : BoxFrame) → HaveLowerParents B → b
 lower-push B b low less =
     let P : BoxFrame → Type 0 = λ (x : BoxFrame). x.parent < x.number in
     All-append P B (b ∷ []) low (All-cons P b [] less (All-nil P))
+
+-- a chain through a box goes on in all boxes as in those before it
+pub chain-parent : (B : List BoxFrame) (i : ℕ) (b : BoxFrame) → AreRising B → HaveLowerParents B → i < length B → slice_index_or B i b ≡ b
+    → open_from B b.parent ≡ chain (reverse (take i B)) b.parent
+chain-parent B i b rises low there is =
+    let here : (slice_index_or B i b).number ≡ b.number = ap (λ (x : BoxFrame). x.number) is in
+    let outer : (slice_index_or B i b).parent ≡ b.parent = ap (λ (x : BoxFrame). x.parent) is in
+    let less : (slice_index_or B i b).parent < (slice_index_or B i b).number = low i b there in
+    chain-behind B b.parent i b (omega arith)
+    (λ j from high.
+    let up : (slice_index_or B i b).number ≤ (slice_index_or B j b).number = rises i j b from high in
+    let more : b.parent < (slice_index_or B j b).number = omega arith in
+    grind (arith, nat_tests))

@@ -1,4 +1,4 @@
-ghost use Rattle.std.specs.Prelude.{◌≡◌, ◌<◌, ◌≤◌, ◌∷◌, [], length, take, filter, nat_lt, reverse, IfSome, IfNone};
+ghost use Rattle.std.specs.Prelude.{◌≡◌, ◌<◌, ◌≤◌, ◌∷◌, [], length, take, filter, nat_lt, reverse, slice_index_or, IfSome, IfNone};
 ghost use Rattle.op_frames.specs.Frames.{chain, AreRising};
 
 use op_bind::{Mark, Ref};
@@ -19,6 +19,8 @@ pub(crate) fn find(boxes: &[BoxFrame], number: u64) -> Option<(usize, BoxFrame)>
     ensures there { IfSome result (λ p. p.0 < length boxes.now) }
     ensures some { IfSome result (λ p. chain (reverse boxes.now) number
         ≡ (number, p.1.goal) ∷ chain (reverse (take p.0 boxes.now)) p.1.parent) }
+    ensures at { IfSome result (λ p. slice_index_or boxes.now p.0 p.1 ≡ p.1) }
+    ensures number { IfSome result (λ p. p.1.number ≡ number) }
 {
     if number == 0 {
         return None;

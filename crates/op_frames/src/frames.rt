@@ -1,7 +1,8 @@
-ghost use Rattle.std.specs.Prelude.{◌≡◌, ◌<◌, ◌++◌, ◌∷◌, [], ℕ, length, take, filter, nat_lt, All, OnOk, OnErr, MatchOption};
+ghost use Rattle.std.specs.Prelude.{◌≡◌, ◌<◌, ◌++◌, ◌∷◌, [], ℕ, length, take, filter, nat_lt};
+ghost use Rattle.std.specs.Prelude.{All, OnOk, OnErr, IfNone, IfSome, MatchOption};
 ghost use Rattle.op_frames.specs.Frames.{open_from, AreFalling};
 
-use crate::boxes::{BoxFrame, count_below};
+use crate::boxes::{BoxFrame, count_below, find};
 use crate::choice::Choice;
 use crate::open_boxes::OpenBoxes;
 use op_base::Memory;
@@ -100,6 +101,18 @@ impl<T: Drop> Frames<T> {
         ensures { result.now ≡ self.now.choices }
     {
         &self.choices
+    }
+
+    /// The box that the box of a number was called in, or 0 for the top; None where there is no such box.
+    pub fn parent(&self, number: u64) -> Option<u64>
+        ensures none { IfNone result (open_from self.now.boxes number ≡ []) }
+        ensures some { IfSome result (λ p. (goal : ℕ) × (open_from self.now.boxes number
+            ≡ (number, goal) ∷ open_from self.now.boxes p)) }
+        ensures below { IfSome result (λ p. p < number) }
+        ensures falls { AreFalling (open_from self.now.boxes number) }
+    {
+        let (_, frame) = find(&self.boxes, number)?;
+        Some(frame.parent)
     }
 
     /// The box of a number with its goal, its parent and so on, inner to outer; none for 0.

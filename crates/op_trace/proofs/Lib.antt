@@ -1,4 +1,5 @@
 pub mod FollowedBodies
+pub mod WalkBalls
 pub mod WalkBarriers
 pub mod WalkEquations
 pub mod WalkSteps

@@ -7,10 +7,12 @@ use Rattle.op_logic.specs.Bind.{Bindings, unify, Solved as Result}
 use Rattle.op_trace.specs.declared.barrier.Barrier.{Barrier}
 use Rattle.op_trace.specs.declared.barrier.Barrier.TheVariants.{Call, InCondition, AtSuccess}
 use Rattle.op_trace.specs.Database.{Text, text_eq, Clause}
-use Rattle.op_trace.specs.World.{World, same_barrier, Tries, First, Item, Goal, Cut, Exit, Try, Has}
-use Rattle.op_trace.specs.Act.{Yield, Fails, Gives, Gives_again, Act, Setup}
-use Rattle.op_trace.specs.Visit.{acts, Inside, Clauses, Tried, inside, tries_again, entered_box, exits, yields, Verdict}
-use Rattle.op_trace.specs.Visit.{Failed, CutTo, Stopped, Spent, Visited, gives, on_failed, reaches, on_end, on_condition, cut, pays}
+use Rattle.op_trace.specs.World.{World, same_barrier, Execution, First, Item, Goal, Cut, Exit, Execute, Has}
+use Rattle.op_trace.specs.Act.{Yield, Fails, Succeeds, Succeeds_again, Runs, Throws, Halts, Act, Setup}
+use Rattle.op_trace.specs.Visit.{acts, Inside, Clauses, WithoutProcedure, inside, Again, executes_again, after}
+use Rattle.op_trace.specs.Visit.{entered_box, exits, yields, Verdict}
+use Rattle.op_trace.specs.Visit.{Failed, CutTo, Thrown, Stopped, Halted, Spent, Visited, gives, on_failed, reaches, on_end, on_condition}
+use Rattle.op_trace.specs.Visit.{cut, pays, is_open, around, selects, fails, raises}
 use Rattle.op_trace.specs.Visit.{Control, TrueGoal, FailGoal, CutGoal, Conjunction, Disjunction, IfThenElse, BoxedGoal, control, is_true}
 use Rattle.op_trace.specs.Visit.{entered, with_event, shows, Visitor, matched, try_clause, alternatives, branches, boxed, if_then_else}
 use Rattle.op_trace.specs.Visit.{selected, visit_with, visit_by, visit}
@@ -19,7 +21,9 @@ use Rattle.op_trace.specs.declared.port.Port.TheVariants as port
 abbrev pub Only : List Item → Verdict → Type 0
 Only I Failed = Unit {0}
 Only I (CutTo n) = Has n I
+Only I (Thrown b o) = Unit {0}
 Only I Stopped = Unit {0}
+Only I (Halted i) = Unit {0}
 Only I Spent = Unit {0}
 
 abbrev pub VisitsOnly : Visitor → Type 0
@@ -28,7 +32,9 @@ VisitsOnly visit = (I : List Item) (σ : Bindings Text) (w : World) → Only I (
 pub only-of : (I J : List Item) (r : Verdict) → ((n : Barrier) → Has n I → Has n J) → Only I r → Only J r
 only-of I J Failed h o = tt
 only-of I J (CutTo n) h o = h n o
+only-of I J (Thrown b x) h o = tt
 only-of I J Stopped h o = tt
+only-of I J (Halted i) h o = tt
 only-of I J Spent h o = tt
 
 pub same-refl : (b : Barrier) → same_barrier b b ≡ true
@@ -56,28 +62,39 @@ pub on_failed-only : (h : World → Visited) (r : Verdict) (w : World) (I : List
     → Only I r → ((u : World) → Only I (h u).verdict) → Only I (on_failed h r w).verdict
 on_failed-only h Failed w I o k = k w
 on_failed-only h (CutTo m) w I o k = o
+on_failed-only h (Thrown b x) w I o k = tt
 on_failed-only h Stopped w I o k = tt
+on_failed-only h (Halted i) w I o k = tt
 on_failed-only h Spent w I o k = tt
 
 pub cut-only : (m : Barrier) (J : List Item) (r : Verdict) (w : World) → Only J r → Only (Cut m ∷ J) (cut m r w).verdict
 cut-only m J Failed w o = inl refl
 cut-only m J (CutTo n) w o = inr o
+cut-only m J (Thrown b x) w o = tt
 cut-only m J Stopped w o = tt
+cut-only m J (Halted i) w o = tt
 cut-only m J Spent w o = tt
 
 -- a box ends the cuts to its own call
-pub on_end-only : (k : ℕ) (h : World → Visited) (J : List Item) (r : Verdict) (w : World)
-    → Only (Cut (Call k) ∷ J) r → ((u : World) → Only J (h u).verdict) → Only J (on_end (Call k) h r w).verdict
-on_end-only k h J Failed w o i = i w
-on_end-only k h J (CutTo x) w o i = go (same_barrier x (Call k)) refl
+pub on_end-only : (k : ℕ) (h : World → Visited) (i : Term Text → List ℕ → World → Visited) (J : List Item) (r : Verdict) (w : World)
+    → Only (Cut (Call k) ∷ J) r → ((u : World) → Only J (h u).verdict)
+    → ((b : Term Text) (x : List ℕ) (u : World) → Only J (i b x u).verdict) → Only J (on_end k h i r w).verdict
+on_end-only k h i J Failed w o f e = f w
+on_end-only k h i J (CutTo x) w o f e = go (same_barrier x (Call k)) refl
   where
     go : (b : Bool) → same_barrier x (Call k) ≡ b → Only J (reaches b h (gives (CutTo x)) w).verdict
-    go true e = i w
-    go false e = other x (Call k) e o
-on_end-only k h J Stopped w o i = tt
-on_end-only k h J Spent w o i = tt
+    go true t = f w
+    go false t = other x (Call k) t o
+on_end-only k h i J (Thrown b x) w o f e = go (is_open k x)
+  where
+    go : (c : Bool) → Only J (reaches c (i b (around k x)) (gives (Thrown b x)) w).verdict
+    go true = e b (around k x) w
+    go false = tt
+on_end-only k h i J Stopped w o f e = tt
+on_end-only k h i J (Halted n) w o f e = tt
+on_end-only k h i J Spent w o f e = tt
 
--- a condition ends the cuts to its own barriers
+-- a condition ends the cuts to its own marks
 pub on_condition-only : (n : ℕ) (m : Barrier) (h : World → Visited) (J : List Item) (r : Verdict) (w : World)
     → Only (Cut (InCondition n) ∷ Cut (AtSuccess n) ∷ Cut m ∷ J) r → ((u : World) → Only (Cut m ∷ J) (h u).verdict)
     → Only (Cut m ∷ J) (on_condition n h r w).verdict
@@ -89,7 +106,9 @@ on_condition-only n m h J (CutTo x) w o i = go (same_barrier x (InCondition n)) 
     go true b d e = i w
     go false true d e = tt
     go false false d e = other x (AtSuccess n) e (other x (InCondition n) d o)
+on_condition-only n m h J (Thrown b x) w o i = tt
 on_condition-only n m h J Stopped w o i = tt
+on_condition-only n m h J (Halted x) w o i = tt
 on_condition-only n m h J Spent w o i = tt
 
 pub entered-only : (f : ℕ) (c : Clause) (k : ℕ) (g : Term Text) (J : List Item) (n : Barrier) → Has n (entered f c k g J)
@@ -131,38 +150,33 @@ module _ (visit : Visitor) (s : Setup) (only : VisitsOnly visit) where
   branches-only t m σ J w =
       pays-only (nat_le (w.steps + 1) s.budget) s 1 w (visit (Goal t m ∷ J) σ) (Cut m ∷ J) (λ u. only (Goal t m ∷ J) σ u)
 
-  pub again-only : (t : Tries) (k : ℕ) (g : Term Text) (σ : Bindings Text) (J : List Item) (w : World)
-      → Only J (tries_again visit s t k g σ J w).verdict
-  again-only t k g σ J w = pays-only (nat_le (w.steps + 1) s.budget) s 1 w (visit (Try t k g ∷ J) σ) J (λ u. only (Try t k g ∷ J) σ u)
+  pub again-only : (t : Execution) (k : ℕ) (g : Term Text) (σ : Bindings Text) (J : List Item) (w : World)
+      → Only (Cut (Call k) ∷ J) (executes_again visit s t k g σ J w).verdict
+  again-only t k g σ J w =
+      pays-only (nat_le (w.steps + 1) s.budget) s 1 w (visit (Execute t k g ∷ J) σ) (Cut (Call k) ∷ J)
+      (λ u. only-of (Execute t k g ∷ J) (Cut (Call k) ∷ J) (visit (Execute t k g ∷ J) σ u).verdict (λ n h. h) (only
+      (Execute t k g ∷ J) σ u))
 
   pub entered_box-only : (i : Inside) (k : ℕ) (g : Term Text) (σ : Bindings Text) (J : List Item) (w : World)
       → Only (Cut (Call k) ∷ J) (entered_box visit s i k g σ J w).verdict
   entered_box-only (Clauses cs) k g σ J w = alternatives-only cs k g σ J Failed w tt
-  entered_box-only Tried k g σ J w =
-      only-of J (Cut (Call k) ∷ J) (visit (Try First k g ∷ J) σ w).verdict (λ n h. inr h) (only (Try First k g ∷ J) σ w)
+  entered_box-only WithoutProcedure k g σ J w =
+      only-of (Execute First k g ∷ J) (Cut (Call k) ∷ J) (visit (Execute First k g ∷ J) σ w).verdict (λ n h. h) (only
+      (Execute First k g ∷ J) σ w)
 
   pub boxed-only : (g : Term Text) (J : List Item) (σ : Bindings Text) (w : World) → Only J (boxed visit s g J σ w).verdict
   boxed-only g J σ w =
       let k : ℕ = w.calls + 1 in
       let u : World = with_event (record w { calls = k }) in
       let v : Visited = entered_box visit s (inside w.database g) k g σ J u in
-      on_end-only k (λ x. shows port.Fail k g σ J x (gives Failed)) J v.verdict v.world
-      (entered_box-only (inside w.database g) k g σ J u) (λ x. tt)
+      on_end-only k (fails k g σ J) (raises k g σ J) J v.verdict v.world
+      (entered_box-only (inside w.database g) k g σ J u) (λ x. tt) (λ b o x. tt)
 
   pub exits-only : (rest : Bindings Text → World → Visited) (k : ℕ) (g : Term Text) (J : List Item) (σ : Bindings Text) (w : World)
       → ((τ : Bindings Text) (u : World) → Only J (rest τ u).verdict) → Only J (exits visit s rest k g J σ w).verdict
   exits-only rest k g J σ w o =
       let v : Visited = rest σ (with_event w) in
       on_failed-only (λ u. shows port.Redo k g σ J u (gives Failed)) v.verdict v.world J (o σ (with_event w)) (λ u. tt)
-
-  pub yields-only : (rest : Bindings Text → World → Visited) (k : ℕ) (g : Term Text) (J : List Item) (σ : Bindings Text) (y : Yield)
-      (w : World)
-      → ((τ : Bindings Text) (u : World) → Only J (rest τ u).verdict) → Only J (yields visit s rest k g J σ y w).verdict
-  yields-only rest k g J σ Fails w o = tt
-  yields-only rest k g J σ (Gives τ) w o = exits-only rest k g J τ w o
-  yields-only rest k g J σ (Gives_again τ t) w o =
-      let v : Visited = exits visit s rest k g J τ w in
-      on_failed-only (tries_again visit s t k g σ J) v.verdict v.world J (exits-only rest k g J τ w o) (again-only t k g σ J)
 
   pub if_then_else-only : (c t e : Term Text) (m : Barrier) (J : List Item) (σ : Bindings Text) (w : World)
       → Only (Cut m ∷ J) (if_then_else visit s c t e m J σ w).verdict
@@ -186,6 +200,26 @@ module _ (visit : Visitor) (s : Setup) (only : VisitsOnly visit) where
   selected-only (IfThenElse c a b) t m J σ w = if_then_else-only c a b m J σ w
   selected-only BoxedGoal t m J σ w = only-of J (Cut m ∷ J) (boxed visit s t J σ w).verdict (λ n h. inr h) (boxed-only t J σ w)
 
+  pub selects-only : (t : Term Text) (m : Barrier) (J : List Item) (σ : Bindings Text) (w : World)
+      → Only (Cut m ∷ J) (selects visit s t m J σ w).verdict
+  selects-only t m J σ w =
+      pays-only (nat_le (w.steps + 1) s.budget) s 1 w (selected visit s (control t) t m J σ) (Cut m ∷ J)
+      (λ u. selected-only (control t) t m J σ u)
+
+  pub yields-only : (rest : Bindings Text → World → Visited) (k : ℕ) (g : Term Text) (J : List Item) (σ : Bindings Text) (y : Yield)
+      (w : World)
+      → ((τ : Bindings Text) (u : World) → Only J (rest τ u).verdict) → Only (Cut (Call k) ∷ J) (yields visit s rest k g J σ y w).verdict
+  yields-only rest k g J σ Fails w o = tt
+  yields-only rest k g J σ (Succeeds τ) w o =
+      only-of J (Cut (Call k) ∷ J) (exits visit s rest k g J τ w).verdict (λ n h. inr h) (exits-only rest k g J τ w o)
+  yields-only rest k g J σ (Succeeds_again τ t) w o =
+      let v : Visited = exits visit s rest k g J τ w in
+      on_failed-only (executes_again visit s t k g σ J) v.verdict v.world (Cut (Call k) ∷ J)
+      (only-of J (Cut (Call k) ∷ J) v.verdict (λ n h. inr h) (exits-only rest k g J τ w o)) (again-only t k g σ J)
+  yields-only rest k g J σ (Runs b) w o = selects-only b (Call k) (Exit k g ∷ J) σ w
+  yields-only rest k g J σ (Throws b) w o = tt
+  yields-only rest k g J σ (Halts i) w o = tt
+
   pub visit_with-only : VisitsOnly (visit_with visit s)
   unfolding visit_with
   visit_with-only [] σ w = go (w.solutions + 1 == s.wanted)
@@ -194,14 +228,12 @@ module _ (visit : Visitor) (s : Setup) (only : VisitsOnly visit) where
       go true = tt
       go false = tt
   visit_with-only (Exit k g ∷ J) σ w = exits-only (visit_with visit s J) k g J σ w (visit_with-only J)
-  visit_with-only (Try t k g ∷ J) σ w =
+  visit_with-only (Execute t k g ∷ J) σ w =
       let a : Act = s.act (s.budget - w.steps) t g σ w in
-      acts-only (nat_le (w.steps + a.cost) s.budget) s a w (yields visit s (visit_with visit s J) k g J σ) J
+      acts-only (nat_le (w.steps + a.cost) s.budget) s a w (yields visit s (visit_with visit s J) k g J σ) (Cut (Call k) ∷ J)
       (λ u. yields-only (visit_with visit s J) k g J σ a.yield u (visit_with-only J))
   visit_with-only (Cut m ∷ J) σ w = cut-only m J (visit_with visit s J σ w).verdict (visit_with visit s J σ w).world (visit_with-only J σ w)
-  visit_with-only (Goal t m ∷ J) σ w =
-      pays-only (nat_le (w.steps + 1) s.budget) s 1 w (selected visit s (control t) t m J σ) (Cut m ∷ J)
-      (λ u. selected-only (control t) t m J σ u)
+  visit_with-only (Goal t m ∷ J) σ w = selects-only t m J σ w
 
 pub visit_by-only : (f : ℕ) (s : Setup) → VisitsOnly (visit_by f s)
 unfolding visit_by

@@ -1,4 +1,4 @@
--- The depth doesn't matter: the walk satisfies its equations.
+-- Fuel doesn't matter: the walk has one equation, by its rows.
 use Rattle.std.proofs.Common.{◌≡◌, ℕ, zero, suc, ◌+◌, ◌-◌, ◌≤◌, ◌<◌, nat_le, Bool, true, false, List, [], ◌∷◌, Option, Some, None, refl, ap}
 use Rattle.std.proofs.Common.{◌∙◌, arith}
 use Rattle.std.proofs.lemmas.Bool.Decides.{nat_tests}
@@ -6,12 +6,14 @@ use Rattle.op_logic.specs.Term.{Term, shift}
 use Rattle.op_logic.specs.Bind.{Bindings, Solved as Result, solve}
 use Rattle.op_trace.specs.declared.port.Port.TheVariants as port
 use Rattle.op_trace.specs.declared.barrier.Barrier.{Barrier}
-use Rattle.op_trace.specs.declared.barrier.Barrier.TheVariants.{InCondition, AtSuccess}
+use Rattle.op_trace.specs.declared.barrier.Barrier.TheVariants.{Call, InCondition, AtSuccess}
 use Rattle.op_trace.specs.Database.{Text, text_eq, Clause}
-use Rattle.op_trace.specs.World.{World, same_barrier, Tries, Item, Goal, Cut, Exit, Try, Shown}
-use Rattle.op_trace.specs.Act.{Yield, Fails, Gives, Gives_again, Act, Setup}
-use Rattle.op_trace.specs.Visit.{counted_as, acts, Inside, Clauses, Tried, inside, Again, tries_again, entered_box, exits, yields}
-use Rattle.op_trace.specs.Visit.{Verdict, Failed, CutTo, Stopped, Spent, Visited, gives, with_turns, and_then, on_failed, reaches}
+use Rattle.op_trace.specs.World.{World, same_barrier, Execution, First, Item, Goal, Cut, Exit, Execute, Shown}
+use Rattle.op_trace.specs.Act.{Yield, Fails, Succeeds, Succeeds_again, Runs, Throws, Halts, Act, Setup}
+use Rattle.op_trace.specs.Visit.{counted_as, acts, performs, Inside, Clauses, WithoutProcedure, inside, Again}
+use Rattle.op_trace.specs.Visit.{executes_again, entered_box, exits, yields}
+use Rattle.op_trace.specs.Visit.{Verdict, Failed, CutTo, Thrown, Stopped, Halted, Spent, Visited, gives, with_turns}
+use Rattle.op_trace.specs.Visit.{and_then, on_failed, reaches, selects, control}
 use Rattle.op_trace.specs.Visit.{on_condition, cut, with_event, event_of, pays, spends, Control, TrueGoal, FailGoal, CutGoal, Conjunction}
 use Rattle.op_trace.specs.Visit.{Disjunction, IfThenElse, BoxedGoal, Visitor, Choice, Redo, Branch, More, Fail, Condition, matched}
 use Rattle.op_trace.specs.Visit.{try_clause, alternatives, branches, after, boxed, selected, visit_with, visit_by, visit}
@@ -44,7 +46,9 @@ acts-same false s a w h i test e = refl
 pub on_failed-same : (h i : World → Visited) (r : Verdict) (w : World) → h w ≡ i w → on_failed h r w ≡ on_failed i r w
 on_failed-same h i Failed w e = e
 on_failed-same h i (CutTo m) w e = refl
+on_failed-same h i (Thrown b o) w e = refl
 on_failed-same h i Stopped w e = refl
+on_failed-same h i (Halted x) w e = refl
 on_failed-same h i Spent w e = refl
 
 pub reaches-same : (t : Bool) (h i k : World → Visited) (w : World) → h w ≡ i w → reaches t h k w ≡ reaches t i k w
@@ -55,7 +59,9 @@ pub on_condition-same : (n : ℕ) (h i : World → Visited) (r : Verdict) (w : W
 on_condition-same n h i Failed w e = e
 on_condition-same n h i (CutTo m) w e =
     reaches-same (same_barrier m (InCondition n)) h i (reaches (same_barrier m (AtSuccess n)) (gives Failed) (gives (CutTo m))) w e
+on_condition-same n h i (Thrown b o) w e = refl
 on_condition-same n h i Stopped w e = refl
+on_condition-same n h i (Halted x) w e = refl
 on_condition-same n h i Spent w e = refl
 
 pub and_then-same : (v u : Visited) (h i : Verdict → World → Visited) → v ≡ u → h v.verdict v.world ≡ i v.verdict v.world
@@ -91,10 +97,10 @@ module _ (f g : Visitor) (s : Setup) (n : ℕ) (agree : Agree s.budget n f g) (l
       → n ≤ w.steps → w.steps ≤ s.budget → branches f s t m σ J w ≡ branches g s t m σ J w
   branches-same t m σ J w low high = spends-same s 1 w (f (Goal t m ∷ J) σ) (g (Goal t m ∷ J) σ) (λ fits. agree _ _ _ (omega arith) fits)
 
-  pub again-same : (t : Tries) (k : ℕ) (x : Term Text) (σ : Bindings Text) (J : List Item) (w : World)
-      → n ≤ w.steps → w.steps ≤ s.budget → tries_again f s t k x σ J w ≡ tries_again g s t k x σ J w
+  pub again-same : (t : Execution) (k : ℕ) (x : Term Text) (σ : Bindings Text) (J : List Item) (w : World)
+      → n ≤ w.steps → w.steps ≤ s.budget → executes_again f s t k x σ J w ≡ executes_again g s t k x σ J w
   again-same t k x σ J w low high =
-      spends-same s 1 w (f (Try t k x ∷ J) σ) (g (Try t k x ∷ J) σ) (λ fits. agree _ _ _ (omega arith) fits)
+      spends-same s 1 w (f (Execute t k x ∷ J) σ) (g (Execute t k x ∷ J) σ) (λ fits. agree _ _ _ (omega arith) fits)
 
   pub after-same : (c : Choice) (r : Verdict) (w : World) → n ≤ w.steps → w.steps ≤ s.budget → after f s c r w ≡ after g s c r w
   after-same (Redo k t σ J) r w low high = refl
@@ -102,7 +108,7 @@ module _ (f g : Visitor) (s : Setup) (n : ℕ) (agree : Agree s.budget n f g) (l
   after-same (Branch t m σ J) r w low high =
       on_failed-same (branches f s t m σ J) (branches g s t m σ J) r w (branches-same t m σ J w low high)
   after-same (Again t k x σ J) r w low high =
-      on_failed-same (tries_again f s t k x σ J) (tries_again g s t k x σ J) r w (again-same t k x σ J w low high)
+      on_failed-same (executes_again f s t k x σ J) (executes_again g s t k x σ J) r w (again-same t k x σ J w low high)
   after-same (Fail k t σ J) r w low high = refl
   after-same (Condition c t m σ J) r w low high =
       on_condition-same c (branches f s t m σ J) (branches g s t m σ J) r w (branches-same t m σ J w low high)
@@ -118,7 +124,7 @@ module _ (f g : Visitor) (s : Setup) (n : ℕ) (agree : Agree s.budget n f g) (l
   pub entered_box-same : (i : Inside) (k : ℕ) (t : Term Text) (σ : Bindings Text) (J : List Item) (w : World)
       → n < w.steps → w.steps ≤ s.budget → entered_box f s i k t σ J w ≡ entered_box g s i k t σ J w
   entered_box-same (Clauses cs) k t σ J w low high = alternatives-same cs k t σ J Failed w (omega arith) high
-  entered_box-same Tried k t σ J w low high = agree _ _ _ low high
+  entered_box-same WithoutProcedure k t σ J w low high = agree _ _ _ low high
 
   pub boxed-same : (t : Term Text) (J : List Item) (σ : Bindings Text) (w : World) → n < w.steps → w.steps ≤ s.budget
       → boxed f s t J σ w ≡ boxed g s t J σ w
@@ -141,17 +147,6 @@ module _ (f g : Visitor) (s : Setup) (n : ℕ) (agree : Agree s.budget n f g) (l
       (and_then-same (p σ (with_event w)) (q σ (with_event w)) (after f s (Redo k t σ J)) (after g s (Redo k t σ J))
       (same σ (with_event w) low high) refl)
 
-  pub yields-same : (p q : Bindings Text → World → Visited) (k : ℕ) (t : Term Text) (J : List Item) (σ : Bindings Text) (y : Yield)
-      (w : World)
-      → RestsAgree p q → RestLater s.budget p → n ≤ w.steps → w.steps ≤ s.budget → yields f s p k t J σ y w ≡ yields g s q k t J σ y w
-  yields-same p q k t J σ Fails w same lp low high = refl
-  yields-same p q k t J σ (Gives τ) w same lp low high = exits-same p q k t J τ w same lp low high
-  yields-same p q k t J σ (Gives_again τ x) w same lp low high =
-      let inner : Later s.budget w.steps (exits f s p k t J τ w) = exits-later f s p k t J τ w later lp high in
-      and_then-same (exits f s p k t J τ w) (exits g s q k t J τ w) (after f s (Again x k t σ J)) (after g s (Again x k t σ J))
-      (exits-same p q k t J τ w same lp low high)
-      (after-same (Again x k t σ J) (exits f s p k t J τ w).verdict (exits f s p k t J τ w).world (omega (arith, inner.0)) inner.1)
-
   pub selected-same : (q : Control) (t : Term Text) (m : Barrier) (J : List Item) (σ : Bindings Text) (w : World)
       → n < w.steps → w.steps ≤ s.budget → selected f s q t m J σ w ≡ selected g s q t m J σ w
   selected-same TrueGoal t m J σ w low high = agree _ _ _ low high
@@ -165,6 +160,25 @@ module _ (f g : Visitor) (s : Setup) (n : ℕ) (agree : Agree s.budget n f g) (l
       (record w { conditions = w.conditions + 1 }) low high
   selected-same BoxedGoal t m J σ w low high = boxed-same t J σ w low high
 
+  pub selects-same : (t : Term Text) (m : Barrier) (J : List Item) (σ : Bindings Text) (w : World)
+      → n ≤ w.steps → w.steps ≤ s.budget → selects f s t m J σ w ≡ selects g s t m J σ w
+  selects-same t m J σ w low high =
+      spends-same s 1 w _ _ (λ fits. selected-same (control t) t m J σ (record w { steps = w.steps + 1 }) (omega arith) fits)
+
+  pub yields-same : (p q : Bindings Text → World → Visited) (k : ℕ) (t : Term Text) (J : List Item) (σ : Bindings Text) (y : Yield)
+      (w : World)
+      → RestsAgree p q → RestLater s.budget p → n ≤ w.steps → w.steps ≤ s.budget → yields f s p k t J σ y w ≡ yields g s q k t J σ y w
+  yields-same p q k t J σ Fails w same lp low high = refl
+  yields-same p q k t J σ (Succeeds τ) w same lp low high = exits-same p q k t J τ w same lp low high
+  yields-same p q k t J σ (Succeeds_again τ x) w same lp low high =
+      let inner : Later s.budget w.steps (exits f s p k t J τ w) = exits-later f s p k t J τ w later lp high in
+      and_then-same (exits f s p k t J τ w) (exits g s q k t J τ w) (after f s (Again x k t σ J)) (after g s (Again x k t σ J))
+      (exits-same p q k t J τ w same lp low high)
+      (after-same (Again x k t σ J) (exits f s p k t J τ w).verdict (exits f s p k t J τ w).world (omega (arith, inner.0)) inner.1)
+  yields-same p q k t J σ (Runs b) w same lp low high = selects-same b (Call k) (Exit k t ∷ J) σ w low high
+  yields-same p q k t J σ (Throws b) w same lp low high = refl
+  yields-same p q k t J σ (Halts x) w same lp low high = refl
+
   pub visit_with-same : (I : List Item) (σ : Bindings Text) (w : World) → n ≤ w.steps → w.steps ≤ s.budget
       → visit_with f s I σ w ≡ visit_with g s I σ w
   unfolding visit_with
@@ -172,14 +186,13 @@ module _ (f g : Visitor) (s : Setup) (n : ℕ) (agree : Agree s.budget n f g) (l
   visit_with-same (Exit k t ∷ J) σ w low high =
       exits-same (visit_with f s J) (visit_with g s J) k t J σ w (visit_with-same J) (visit_with-later f s later J) low high
   visit_with-same (Cut m ∷ J) σ w low high = ap (λ (x : Visited). and_then x (cut m)) (visit_with-same J σ w low high)
-  visit_with-same (Try x k t ∷ J) σ w low high =
+  visit_with-same (Execute x k t ∷ J) σ w low high =
       let a : Act = s.act (s.budget - w.steps) x t σ w in
       acts-same (nat_le (w.steps + a.cost) s.budget) s a w (yields f s (visit_with f s J) k t J σ)
       (yields g s (visit_with g s J) k t J σ) refl
       (λ u l h. yields-same (visit_with f s J) (visit_with g s J) k t J σ a.yield u (visit_with-same J)
       (visit_with-later f s later J) (omega (arith, l)) h)
-  visit_with-same (Goal t m ∷ J) σ w low high =
-      spends-same s 1 w _ _ (λ fits. selected-same _ t m J σ (record w { steps = w.steps + 1 }) (omega arith) fits)
+  visit_with-same (Goal t m ∷ J) σ w low high = selects-same t m J σ w low high
 
 -- more fuel than steps are left gives the same
 pub visit_by-same : (f g : ℕ) (s : Setup) (I : List Item) (σ : Bindings Text) (w : World)
@@ -191,7 +204,7 @@ visit_by-same (suc f) (suc g) s I σ w below a b =
     visit_with-same (visit_by f s) (visit_by g s) s w.steps (λ I τ u low high. visit_by-same f g s I τ u high (omega arith) (omega arith))
     (visit_by-later f s) I σ w (omega arith) below
 
--- the walk, by its equations
+-- the walk, by its rows
 pub visit_equations : (s : Setup) (I : List Item) (σ : Bindings Text) (w : World) → w.steps ≤ s.budget
     → visit s I σ w ≡ visit_with (visit s) s I σ w
 unfolding visit visit_by

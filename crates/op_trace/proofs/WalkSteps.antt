@@ -7,10 +7,12 @@ use Rattle.op_logic.specs.Bind.{Bindings, Solved as Result, within, solve}
 use Rattle.op_trace.specs.declared.barrier.Barrier.{Barrier}
 use Rattle.op_trace.specs.declared.barrier.Barrier.TheVariants.{Call, InCondition, AtSuccess}
 use Rattle.op_trace.specs.Database.{Text, text_eq, Clause}
-use Rattle.op_trace.specs.World.{World, same_barrier, Tries, First, Item, Goal, Cut, Exit, Try}
-use Rattle.op_trace.specs.Act.{Yield, Fails, Gives, Gives_again, Act, Setup}
-use Rattle.op_trace.specs.Visit.{counted_as, acts, Inside, Clauses, Tried, inside, Again, tries_again, entered_box, exits, yields}
-use Rattle.op_trace.specs.Visit.{Verdict, Failed, CutTo, Stopped, Spent, Visited, gives, and_then, on_failed, reaches, on_end, on_condition}
+use Rattle.op_trace.specs.World.{World, same_barrier, Execution, First, Item, Goal, Cut, Exit, Execute}
+use Rattle.op_trace.specs.Act.{Yield, Fails, Succeeds, Succeeds_again, Runs, Throws, Halts, Act, Setup}
+use Rattle.op_trace.specs.Visit.{counted_as, acts, performs, Inside, Clauses, WithoutProcedure, inside, Again}
+use Rattle.op_trace.specs.Visit.{executes_again, entered_box, exits, yields}
+use Rattle.op_trace.specs.Visit.{Verdict, Failed, CutTo, Thrown, Stopped, Halted, Spent, Visited, gives, and_then, on_failed, reaches}
+use Rattle.op_trace.specs.Visit.{on_end, on_condition, is_open, around, selects, fails, raises}
 use Rattle.op_trace.specs.Visit.{cut, with_event, pays, spends, Control, TrueGoal, FailGoal, CutGoal, Conjunction, Disjunction, IfThenElse}
 use Rattle.op_trace.specs.Visit.{BoxedGoal, control, Visitor, Choice, Redo, Branch, More, Fail, Condition, matched, try_clause}
 use Rattle.op_trace.specs.Visit.{alternatives, branches, after, boxed, if_then_else, selected, visit_with, visit_by, visit}
@@ -49,7 +51,9 @@ pub on_failed-later : (b n : ℕ) (h : World → Visited) (r : Verdict) (w : Wor
     → Later b n (on_failed h r w)
 on_failed-later b n h Failed w low high l = l
 on_failed-later b n h (CutTo m) w low high l = (low, high)
+on_failed-later b n h (Thrown x o) w low high l = (low, high)
 on_failed-later b n h Stopped w low high l = (low, high)
+on_failed-later b n h (Halted i) w low high l = (low, high)
 on_failed-later b n h Spent w low high l = (low, high)
 
 pub reaches-later : (b n : ℕ) (t : Bool) (h i : World → Visited) (w : World) → Later b n (h w) → Later b n (i w)
@@ -57,12 +61,16 @@ pub reaches-later : (b n : ℕ) (t : Bool) (h i : World → Visited) (w : World)
 reaches-later b n true h i w l m = l
 reaches-later b n false h i w l m = m
 
-pub on_end-later : (b n : ℕ) (m : Barrier) (h : World → Visited) (r : Verdict) (w : World) → n ≤ w.steps → w.steps ≤ b → Later b n (h w)
-    → Later b n (on_end m h r w)
-on_end-later b n m h Failed w low high l = l
-on_end-later b n m h (CutTo x) w low high l = reaches-later b n (same_barrier x m) h (gives (CutTo x)) w l (low, high)
-on_end-later b n m h Stopped w low high l = (low, high)
-on_end-later b n m h Spent w low high l = (low, high)
+pub on_end-later : (b n k : ℕ) (h : World → Visited) (i : Term Text → List ℕ → World → Visited) (r : Verdict) (w : World)
+    → n ≤ w.steps → w.steps ≤ b → Later b n (h w)
+    → ((x : Term Text) (o : List ℕ) → Later b n (i x o w)) → Later b n (on_end k h i r w)
+on_end-later b n k h i Failed w low high l e = l
+on_end-later b n k h i (CutTo x) w low high l e = reaches-later b n (same_barrier x (Call k)) h (gives (CutTo x)) w l (low, high)
+on_end-later b n k h i (Thrown x o) w low high l e =
+    reaches-later b n (is_open k o) (i x (around k o)) (gives (Thrown x o)) w (e x (around k o)) (low, high)
+on_end-later b n k h i Stopped w low high l e = (low, high)
+on_end-later b n k h i (Halted x) w low high l e = (low, high)
+on_end-later b n k h i Spent w low high l e = (low, high)
 
 pub on_condition-later : (b n c : ℕ) (h : World → Visited) (r : Verdict) (w : World) → n ≤ w.steps → w.steps ≤ b → Later b n (h w)
     → Later b n (on_condition c h r w)
@@ -70,7 +78,9 @@ on_condition-later b n c h Failed w low high l = l
 on_condition-later b n c h (CutTo x) w low high l =
     reaches-later b n (same_barrier x (InCondition c)) h (reaches (same_barrier x (AtSuccess c)) (gives Failed) (gives (CutTo x))) w l
     (reaches-later b n (same_barrier x (AtSuccess c)) (gives Failed) (gives (CutTo x)) w (low, high) (low, high))
+on_condition-later b n c h (Thrown x o) w low high l = (low, high)
 on_condition-later b n c h Stopped w low high l = (low, high)
+on_condition-later b n c h (Halted i) w low high l = (low, high)
 on_condition-later b n c h Spent w low high l = (low, high)
 
 pub and_then-later : (b n : ℕ) (v : Visited) (h : Verdict → World → Visited) → Later b n v
@@ -127,12 +137,13 @@ branches-later visit s t m σ J n w lv low high =
     (spends-later s 1 w _ high (λ fits. later_from s.budget w.steps (w.steps + 1) _ (omega arith)
     (lv (Goal t m ∷ J) σ (record w { steps = w.steps + 1 }) fits)))
 
-pub again-later : (visit : Visitor) (s : Setup) (t : Tries) (k : ℕ) (g : Term Text) (σ : Bindings Text) (J : List Item) (n : ℕ) (w : World)
-    → VisitsLater s.budget visit → n ≤ w.steps → w.steps ≤ s.budget → Later s.budget n (tries_again visit s t k g σ J w)
+pub again-later : (visit : Visitor) (s : Setup) (t : Execution) (k : ℕ) (g : Term Text) (σ : Bindings Text) (J : List Item)
+    (n : ℕ) (w : World)
+    → VisitsLater s.budget visit → n ≤ w.steps → w.steps ≤ s.budget → Later s.budget n (executes_again visit s t k g σ J w)
 again-later visit s t k g σ J n w lv low high =
     later_from s.budget n w.steps _ low
     (spends-later s 1 w _ high (λ fits. later_from s.budget w.steps (w.steps + 1) _ (omega arith)
-    (lv (Try t k g ∷ J) σ (record w { steps = w.steps + 1 }) fits)))
+    (lv (Execute t k g ∷ J) σ (record w { steps = w.steps + 1 }) fits)))
 
 pub after-later : (visit : Visitor) (s : Setup) (c : Choice) (n : ℕ) (r : Verdict) (w : World)
     → VisitsLater s.budget visit → n ≤ w.steps → w.steps ≤ s.budget → Later s.budget n (after visit s c r w)
@@ -141,15 +152,16 @@ after-later visit s (Branch t m σ J) n r w lv low high =
     on_failed-later s.budget n (branches visit s t m σ J) r w low high (branches-later visit s t m σ J n w lv low high)
 after-later visit s (More cs k g σ J) n r w lv low high = alternatives-later visit s cs k g σ J n r w lv low high
 after-later visit s (Again t k g σ J) n r w lv low high =
-    on_failed-later s.budget n (tries_again visit s t k g σ J) r w low high (again-later visit s t k g σ J n w lv low high)
-after-later visit s (Fail k g σ J) n r w lv low high = on_end-later s.budget n (Call k) _ r w low high (low, high)
+    on_failed-later s.budget n (executes_again visit s t k g σ J) r w low high (again-later visit s t k g σ J n w lv low high)
+after-later visit s (Fail k g σ J) n r w lv low high = on_end-later s.budget n k (fails k g σ J) (raises k g σ J) r w low high
+    (low, high) (λ x o. (low, high))
 after-later visit s (Condition c t m σ J) n r w lv low high =
     on_condition-later s.budget n c (branches visit s t m σ J) r w low high (branches-later visit s t m σ J n w lv low high)
 
 pub entered_box-later : (visit : Visitor) (s : Setup) (i : Inside) (k : ℕ) (g : Term Text) (σ : Bindings Text) (J : List Item) (w : World)
     → VisitsLater s.budget visit → w.steps ≤ s.budget → Later s.budget w.steps (entered_box visit s i k g σ J w)
 entered_box-later visit s (Clauses cs) k g σ J w lv below = alternatives-later visit s cs k g σ J w.steps Failed w lv (omega arith) below
-entered_box-later visit s Tried k g σ J w lv below = lv (Try First k g ∷ J) σ w below
+entered_box-later visit s WithoutProcedure k g σ J w lv below = lv (Execute First k g ∷ J) σ w below
 
 pub boxed-later : (visit : Visitor) (s : Setup) (g : Term Text) (J : List Item) (σ : Bindings Text) (w : World)
     → VisitsLater s.budget visit → w.steps ≤ s.budget → Later s.budget w.steps (boxed visit s g J σ w)
@@ -171,19 +183,6 @@ pub exits-later : (visit : Visitor) (s : Setup) (rest : Bindings Text → World 
 exits-later visit s rest k g J σ w lv lr below =
     and_then-later s.budget w.steps (rest σ (with_event w)) (after visit s (Redo k g σ J)) (lr σ (with_event w) below)
     (λ r u l h. after-later visit s (Redo k g σ J) w.steps r u lv l h)
-
-pub yields-later : (visit : Visitor) (s : Setup) (rest : Bindings Text → World → Visited) (k : ℕ) (g : Term Text) (J : List Item)
-    (σ : Bindings Text) (y : Yield) (n : ℕ) (w : World)
-    → VisitsLater s.budget visit → RestLater s.budget rest → n ≤ w.steps → w.steps ≤ s.budget
-    → Later s.budget n (yields visit s rest k g J σ y w)
-yields-later visit s rest k g J σ Fails n w lv lr low high =
-    (low, high)
-yields-later visit s rest k g J σ (Gives τ) n w lv lr low high =
-    later_from s.budget n w.steps _ low (exits-later visit s rest k g J τ w lv lr high)
-yields-later visit s rest k g J σ (Gives_again τ t) n w lv lr low high =
-    and_then-later s.budget n (exits visit s rest k g J τ w) (after visit s (Again t k g σ J))
-    (later_from s.budget n w.steps _ low (exits-later visit s rest k g J τ w lv lr high))
-    (λ r u l h. after-later visit s (Again t k g σ J) n r u lv l h)
 
 pub cut-later : (b n : ℕ) (m : Barrier) (v : Visited) → Later b n v → Later b n (and_then v (cut m))
 cut-later b n m v l = and_then-later b n v (cut m) l (λ r u low high. on_failed-later b n (gives (CutTo m)) r u low high (low, high))
@@ -211,21 +210,42 @@ selected-later visit s (Disjunction a b) t m J σ w lv below =
 selected-later visit s (IfThenElse c a b) t m J σ w lv below = if_then_else-later visit s c a b m J σ w lv below
 selected-later visit s BoxedGoal t m J σ w lv below = boxed-later visit s t J σ w lv below
 
+pub selects-later : (visit : Visitor) (s : Setup) (t : Term Text) (m : Barrier) (J : List Item) (σ : Bindings Text) (w : World)
+    → VisitsLater s.budget visit → w.steps ≤ s.budget → Later s.budget w.steps (selects visit s t m J σ w)
+selects-later visit s t m J σ w lv below =
+    spends-later s 1 w _ below (λ fits. later_from s.budget w.steps (w.steps + 1) _ (omega arith)
+    (selected-later visit s (control t) t m J σ (record w { steps = w.steps + 1 }) lv fits))
+
+pub yields-later : (visit : Visitor) (s : Setup) (rest : Bindings Text → World → Visited) (k : ℕ) (g : Term Text) (J : List Item)
+    (σ : Bindings Text) (y : Yield) (n : ℕ) (w : World)
+    → VisitsLater s.budget visit → RestLater s.budget rest → n ≤ w.steps → w.steps ≤ s.budget
+    → Later s.budget n (yields visit s rest k g J σ y w)
+yields-later visit s rest k g J σ Fails n w lv lr low high =
+    (low, high)
+yields-later visit s rest k g J σ (Succeeds τ) n w lv lr low high =
+    later_from s.budget n w.steps _ low (exits-later visit s rest k g J τ w lv lr high)
+yields-later visit s rest k g J σ (Succeeds_again τ t) n w lv lr low high =
+    and_then-later s.budget n (exits visit s rest k g J τ w) (after visit s (Again t k g σ J))
+    (later_from s.budget n w.steps _ low (exits-later visit s rest k g J τ w lv lr high))
+    (λ r u l h. after-later visit s (Again t k g σ J) n r u lv l h)
+yields-later visit s rest k g J σ (Runs b) n w lv lr low high =
+    later_from s.budget n w.steps _ low (selects-later visit s b (Call k) (Exit k g ∷ J) σ w lv high)
+yields-later visit s rest k g J σ (Throws b) n w lv lr low high = (low, high)
+yields-later visit s rest k g J σ (Halts i) n w lv lr low high = (low, high)
+
 pub visit_with-later : (visit : Visitor) (s : Setup) → VisitsLater s.budget visit → VisitsLater s.budget (visit_with visit s)
 unfolding visit_with
 visit_with-later visit s lv [] σ w below = (omega arith, below)
 visit_with-later visit s lv (Exit k g ∷ J) σ w below =
     exits-later visit s (visit_with visit s J) k g J σ w lv (visit_with-later visit s lv J) below
-visit_with-later visit s lv (Try t k g ∷ J) σ w below =
+visit_with-later visit s lv (Execute t k g ∷ J) σ w below =
     let a : Act = s.act (s.budget - w.steps)
     t g σ w in
     acts-later (nat_le (w.steps + a.cost) s.budget) s a w (yields visit s (visit_with visit s J) k g J σ) refl below
     (λ u l h. yields-later visit s (visit_with visit s J) k g J σ a.yield w.steps u lv (visit_with-later visit s lv J) l h)
 visit_with-later visit s lv (Cut m ∷ J) σ w below =
     cut-later s.budget w.steps m (visit_with visit s J σ w) (visit_with-later visit s lv J σ w below)
-visit_with-later visit s lv (Goal t m ∷ J) σ w below =
-    spends-later s 1 w _ below (λ fits. later_from s.budget w.steps (w.steps + 1) _ (omega arith)
-    (selected-later visit s (control t) t m J σ (record w { steps = w.steps + 1 }) lv fits))
+visit_with-later visit s lv (Goal t m ∷ J) σ w below = selects-later visit s t m J σ w lv below
 
 pub visit_by-later : (f : ℕ) (s : Setup) → VisitsLater s.budget (visit_by f s)
 unfolding visit_by

@@ -1,15 +1,16 @@
 -- Small runs by computation.
-use Rattle.std.specs.Prelude.{◌≡◌, ℕ, ◌+◌, false, List, [], ◌∷◌, ◌++◌, codes, refl, Option, Some, None, max, if◌then◌else◌}
-use Rattle.op_logic.specs.Term.{Term, var, node, no_args, arg, atom, term_eq}
+use Rattle.std.specs.Prelude.{◌≡◌, ℕ, ◌+◌, pos, true, false, List, [], ◌∷◌, ◌++◌, codes, refl, Option, Some, None, max, if◌then◌else◌}
+use Rattle.op_logic.specs.Term.{Term, var, int, node, no_args, arg, atom, term_eq}
 use Rattle.op_logic.specs.Bind.{Bindings, apply}
 use Rattle.op_trace.specs.declared.port.Port.{Port}
 use Rattle.op_trace.specs.declared.port.Port.TheVariants as port
 use Rattle.op_term.specs.declared.quotes.DoubleQuotes.TheVariants.{Codes}
 use Rattle.op_trace.specs.Database.{Text, text_eq, Clause, Indicator, Database, indicator_of_term, name_arity, set_procedure, no_clauses}
 use Rattle.op_trace.specs.Database.{with_clause}
-use Rattle.op_trace.specs.World.{World, loaded, Event, Turn, Shown, Solved, Tries, Always}
-use Rattle.op_trace.specs.Act.{Act, Fails, Gives, Gives_again, done, pay, Setup, setup_for}
-use Rattle.op_trace.specs.Ending.{Failed, Stopped, Spent}
+use Rattle.op_trace.specs.World.{World, loaded, Event, Turn, Shown, Solved, Execution, Repeated}
+use Rattle.op_trace.specs.Act.{Act, Fails, Succeeds, Succeeds_again, done, pay, Setup}
+use Rattle.op_trace.specs.Builtins.{setup_for, error_of, type_error, no_procedure, instantiation_error}
+use Rattle.op_trace.specs.Ending.{Failed, Stopped, Thrown, Halted, Spent}
 use Rattle.op_trace.specs.Visit.{visit, visit_by, visit_with}
 use Rattle.op_trace.specs.Run.{Run, run, events_of, output_at}
 
@@ -303,11 +304,24 @@ pub circle_events : events_of (run setup (name (codes "p")) 0 circle).turns
 unfolding visit visit_by visit_with
 circle_events = refl
 
--- no procedure z: its box fails, provisionally
+-- no procedure z
 pub missing_events : events_of (run setup (name (codes "z")) 0 (program [])).turns
-    ≡ event 1 1 0 1 port.Call (codes "z") ∷ event 2 1 0 1 port.Fail (codes "z") ∷ []
+    ≡ event 1 1 0 1 port.Call (codes "z") ∷ event 2 1 0 1 port.Exception (codes "z") ∷ []
 unfolding visit visit_by visit_with
 missing_events = refl
+
+pub missing_ending : (run setup (name (codes "z")) 0 (program [])).ending ≡ Thrown (no_procedure (codes "z") 0)
+unfolding visit visit_by visit_with
+missing_ending = refl
+
+-- where the flag unknown is fail, it fails
+abbrev unknown_fails : World
+unknown_fails = loaded (record no_database { flags = record { quotes = Codes; unknown_fails = true } })
+
+pub failing_events : events_of (run setup (name (codes "z")) 0 unknown_fails).turns
+    ≡ event 1 1 0 1 port.Call (codes "z") ∷ event 2 1 0 1 port.Fail (codes "z") ∷ []
+unfolding visit visit_by visit_with
+failing_events = refl
 
 -- :- dynamic z/0. A procedure without clauses fails.
 abbrev dynamic_program : World
@@ -323,21 +337,22 @@ unfolding visit visit_by visit_with
 dynamic_steps = refl
 
 -- A table of acts for these examples. `hello` writes five bytes, a step for each, taken before the first; `look` looks at the next two
--- bytes of the input, a step for each; `again` succeeds as often as it is tried; `make(X)` gives out a variable and binds X to it; `late`
+-- bytes of the input, a step for each; `again` succeeds as often as it is executed; `make(X)` gives out a variable and binds X to it;
+-- `late`
 -- writes and fails.
 abbrev looks : ℕ → World → World
 looks n w = record w { looked = max w.looked (w.read + n) }
 
 abbrev makes : Term Text → Bindings Text → World → Act
-makes (node f (arg (var v) no_args)) σ w = done (record w { variables = w.variables + 1 }) (Gives ((v, var w.variables) ∷ σ))
+makes (node f (arg (var v) no_args)) σ w = done (record w { variables = w.variables + 1 }) (Succeeds ((v, var w.variables) ∷ σ))
 makes t σ w = done w Fails
 
-abbrev example_act : ℕ → Tries → Term Text → Bindings Text → World → Act
-example_act left tries g σ w =
+abbrev example_act : ℕ → Execution → Term Text → Bindings Text → World → Act
+example_act left n g σ w =
     if term_eq text_eq g (name (codes "hello"))
-    then pay 5 left w (λ l. done (record w { output = w.output ++ codes "hello" }) (Gives σ)) else
-    if term_eq text_eq g (name (codes "look")) then pay 1 left w (λ l. pay 1 l (looks 1 w) (λ m. done (looks 2 w) (Gives σ))) else
-    if term_eq text_eq g (name (codes "again")) then done w (Gives_again σ Always) else
+    then pay 5 left w (λ l. done (record w { output = w.output ++ codes "hello" }) (Succeeds σ)) else
+    if term_eq text_eq g (name (codes "look")) then pay 1 left w (λ l. pay 1 l (looks 1 w) (λ m. done (looks 2 w) (Succeeds σ))) else
+    if term_eq text_eq g (name (codes "again")) then done w (Succeeds_again σ Repeated) else
     if term_eq text_eq g (name (codes "late")) then done (record w { output = w.output ++ codes "late" }) Fails else
     makes g σ w
 
@@ -385,7 +400,7 @@ pub look_done : (run (example_setup 3 1) look 0 two_bytes).world.looked ≡ 2
 unfolding visit visit_by visit_with
 look_done = refl
 
--- the goal is again, fail: tried again on backtracking, a step for each further try, until the budget is spent
+-- the goal is again, fail: executed again on backtracking, a step for each further execution, until the budget is spent
 pub again_events : events_of (run (example_setup 5 1) (conjunction (name (codes "again")) (name (codes "fail"))) 0 (program [])).turns
     ≡ event 1 1 0 1 port.Call (codes "again") ∷ event 2 1 0 1 port.Exit (codes "again") ∷ event 3 1 0 1 port.Redo (codes "again")
     ∷ event 4 1 0 1 port.Exit (codes "again") ∷ event 5 1 0 1 port.Redo (codes "again") ∷ []
@@ -421,7 +436,7 @@ pub written_at_the_end : output_at written_run 5 ≡ codes "latehello"
 unfolding visit visit_by visit_with
 written_at_the_end = refl
 
--- the goal is again, !: the cut drops the further tries, and nothing is redone
+-- the goal is again, !: the cut drops the further executions, and nothing is redone
 pub again_cut : events_of (run (example_setup 100 0) (conjunction (name (codes "again")) (name (codes "!"))) 0 (program [])).turns
     ≡ event 1 1 0 1 port.Call (codes "again") ∷ event 2 1 0 1 port.Exit (codes "again") ∷ []
 unfolding visit visit_by visit_with
@@ -460,3 +475,193 @@ pub edge_solutions : solutions_of edges_of_all
     ≡ (two (codes "e") (name (codes "a")) (name (codes "b")), 1) ∷ (two (codes "e") (name (codes "b")) (name (codes "c")), 2) ∷ []
 unfolding visit visit_by visit_with
 edge_solutions = refl
+
+-- Goals as arguments, and balls.
+abbrev one : Text → Term Text → Term Text
+one f a = node f (arg a no_args)
+
+abbrev call_one : Term Text → Term Text
+call_one g = one (codes "call") g
+
+-- call((fail,1)): a part that is no goal is refused before any other runs
+abbrev no_body : Term Text
+no_body = conjunction (name (codes "fail")) (int (pos 1))
+
+pub refused_events : events_of (run setup (call_one no_body) 0 (program [])).turns
+    ≡ shown 1 1 0 1 port.Call (call_one no_body) ∷ shown 2 1 0 1 port.Exception (call_one no_body) ∷ []
+unfolding visit visit_by visit_with
+refused_events = refl
+
+pub refused_ending : (run setup (call_one no_body) 0 (program [])).ending ≡ Thrown (type_error (codes "callable") no_body)
+unfolding visit visit_by visit_with
+refused_ending = refl
+
+pub refused_steps : (run setup (call_one no_body) 0 (program [])).world.steps ≡ 11
+unfolding visit visit_by visit_with
+refused_steps = refl
+
+-- halt(3): no further event
+pub halt_events : events_of (run setup (one (codes "halt") (int (pos 3))) 0 (program [])).turns
+    ≡ shown 1 1 0 1 port.Call (one (codes "halt") (int (pos 3))) ∷ []
+unfolding visit visit_by visit_with
+halt_events = refl
+
+pub halt_ending : (run setup (one (codes "halt") (int (pos 3))) 0 (program [])).ending ≡ Halted (pos 3)
+unfolding visit visit_by visit_with
+halt_ending = refl
+
+pub halt_steps : (run setup (one (codes "halt") (int (pos 3))) 0 (program [])).world.steps ≡ 1
+unfolding visit visit_by visit_with
+halt_steps = refl
+
+-- a. The goal is \+ a.
+abbrev fact_program : World
+fact_program = program (clause 0 (codes "a") (name (codes "true")) ∷ [])
+
+abbrev not_a : Term Text
+not_a = one (codes "\\+") (name (codes "a"))
+
+pub not_events : events_of (run setup not_a 0 fact_program).turns
+    ≡ shown 1 1 0 1 port.Call not_a ∷ event 2 2 1 2 port.Call (codes "a") ∷ event 3 2 1 2 port.Exit (codes "a")
+    ∷ shown 4 1 0 1 port.Fail not_a ∷ []
+unfolding visit visit_by visit_with
+not_events = refl
+
+pub not_steps : (run setup not_a 0 fact_program).world.steps ≡ 7
+unfolding visit visit_by visit_with
+not_steps = refl
+
+-- nosuch(1)
+pub nosuch_steps : (run setup (one (codes "nosuch") (int (pos 1))) 0 (program [])).world.steps ≡ 8
+unfolding visit visit_by visit_with
+nosuch_steps = refl
+
+-- throw(f(X,X)), and throw(X)
+pub ball_ending : (run setup (one (codes "throw") (two (codes "f") (var 0) (var 0))) 1 (program [])).ending
+    ≡ Thrown (two (codes "f") (var 1) (var 1))
+unfolding visit visit_by visit_with
+ball_ending = refl
+
+pub ball_steps : (run setup (one (codes "throw") (two (codes "f") (var 0) (var 0))) 1 (program [])).world.steps ≡ 4
+unfolding visit visit_by visit_with
+ball_steps = refl
+
+pub no_ball_ending : (run setup (one (codes "throw") (var 0)) 1 (program [])).ending ≡ Thrown instantiation_error
+unfolding visit visit_by visit_with
+no_ball_ending = refl
+
+-- call(write(x)), where write/1 has no procedure
+abbrev written : Term Text
+written = one (codes "write") (name (codes "x"))
+
+pub write_events : events_of (run setup (call_one written) 0 (program [])).turns
+    ≡ shown 1 1 0 1 port.Call (call_one written) ∷ shown 2 2 1 2 port.Call written ∷ shown 3 2 1 2 port.Exception written
+    ∷ shown 4 1 0 1 port.Exception (call_one written) ∷ []
+unfolding visit visit_by visit_with
+write_events = refl
+
+pub write_steps : (run setup (call_one written) 0 (program [])).world.steps ≡ 10
+unfolding visit visit_by visit_with
+write_steps = refl
+
+-- e(X,X). q(_). The goal is e(A,1), e(G,q(f(A))), call(G): what a leaf is bound to is followed, and nothing below it is touched.
+abbrev followed_program : World
+followed_program =
+    program (record { id = 0; head = two (codes "e") (var 0) (var 0); body = name (codes "true"); variables = 1 }
+    ∷ record { id = 1; head = one (codes "q") (var 0); body = name (codes "true"); variables = 1 } ∷ [])
+
+abbrev q_of : Term Text → Term Text
+q_of t = one (codes "q") (one (codes "f") t)
+
+abbrev followed_goal : Term Text
+followed_goal =
+    conjunction (two (codes "e") (var 0) (int (pos 1)))
+    (conjunction (two (codes "e") (var 2) (q_of (var 0))) (call_one (var 2)))
+
+pub followed_events : events_of (run setup followed_goal 3 followed_program).turns
+    ≡ shown 1 1 0 1 port.Call (two (codes "e") (var 0) (int (pos 1))) ∷ shown 2 1 0 1 port.Exit (two (codes "e") (int (pos 1))
+    (int (pos 1)))
+    ∷ shown 3 2 0 1 port.Call (two (codes "e") (var 2) (q_of (int (pos 1))))
+    ∷ shown 4 2 0 1 port.Exit (two (codes "e") (q_of (int (pos 1))) (q_of (int (pos 1))))
+    ∷ shown 5 3 0 1 port.Call (call_one (q_of (int (pos 1)))) ∷ shown 6 4 3 2 port.Call (q_of (int (pos 1)))
+    ∷ shown 7 4 3 2 port.Exit (q_of (int (pos 1))) ∷ shown 8 3 0 1 port.Exit (call_one (q_of (int (pos 1)))) ∷ []
+unfolding visit visit_by visit_with
+followed_events = refl
+
+pub followed_steps : (run setup followed_goal 3 followed_program).world.steps ≡ 29
+unfolding visit visit_by visit_with
+followed_steps = refl
+
+-- q. q. The goal is q, throw(x): a box that has exited gives no exception, also with alternatives left.
+pub exited_events : events_of (run setup (conjunction (name (codes "q")) (one (codes "throw") (name (codes "x")))) 0 top_program).turns
+    ≡ event 1 1 0 1 port.Call (codes "q") ∷ event 2 1 0 1 port.Exit (codes "q")
+    ∷ shown 3 2 0 1 port.Call (one (codes "throw") (name (codes "x"))) ∷ shown 4 2 0 1 port.Exception (one (codes "throw") (name
+    (codes "x"))) ∷ []
+unfolding visit visit_by visit_with
+exited_events = refl
+
+pub exited_steps : (run setup (conjunction (name (codes "q")) (one (codes "throw") (name (codes "x")))) 0 top_program).world.steps ≡ 6
+unfolding visit visit_by visit_with
+exited_steps = refl
+
+-- call((q,!)), all solutions: the cut is local to the box
+abbrev local_cut : Term Text
+local_cut = call_one (conjunction (name (codes "q")) (name (codes "!")))
+
+pub local_events : events_of (run all local_cut 0 top_program).turns
+    ≡ shown 1 1 0 1 port.Call local_cut ∷ event 2 2 1 2 port.Call (codes "q") ∷ event 3 2 1 2 port.Exit (codes "q")
+    ∷ shown 4 1 0 1 port.Exit local_cut ∷ shown 5 1 0 1 port.Redo local_cut ∷ shown 6 1 0 1 port.Fail local_cut ∷ []
+unfolding visit visit_by visit_with
+local_events = refl
+
+-- q, call(!), all solutions: the cut leaves the second q
+pub outer_steps : (run all (conjunction (name (codes "q")) (call_one (name (codes "!")))) 0 top_program).world.steps ≡ 12
+unfolding visit visit_by visit_with
+outer_steps = refl
+
+pub outer_events : (run all (conjunction (name (codes "q")) (call_one (name (codes "!")))) 0 top_program).world.events ≡ 14
+unfolding visit visit_by visit_with
+outer_events = refl
+
+-- once(true) and once(fail): what stands around the goal isn't converted, but it is selected
+pub once_steps : (run setup (one (codes "once") (name (codes "true"))) 0 (program [])).world.steps ≡ 5
+unfolding visit visit_by visit_with
+once_steps = refl
+
+pub once_failed_steps : (run setup (one (codes "once") (name (codes "fail"))) 0 (program [])).world.steps ≡ 6
+unfolding visit visit_by visit_with
+once_failed_steps = refl
+
+-- call((true,X)): a variable is a call of its own
+pub variable_ending : (run setup (call_one (conjunction (name (codes "true")) (var 0))) 1 (program [])).ending ≡ Thrown instantiation_error
+unfolding visit visit_by visit_with
+variable_ending = refl
+
+pub variable_steps : (run setup (call_one (conjunction (name (codes "true")) (var 0))) 1 (program [])).world.steps ≡ 10
+unfolding visit visit_by visit_with
+variable_steps = refl
+
+-- call(',',a,fail): the goal with its added arguments is a control construct
+pub added_steps : (run setup (node (codes "call") (arg (name (codes ",")) (arg (name (codes "a")) (arg (name (codes "fail")) no_args)))) 0
+    fact_program).world.steps ≡ 9
+unfolding visit visit_by visit_with
+added_steps = refl
+
+-- call(call,1): the culprit is the number
+pub called_call_ending : (run setup (two (codes "call") (name (codes "call")) (int (pos 1))) 0 (program [])).ending
+    ≡ Thrown (type_error (codes "callable") (int (pos 1)))
+unfolding visit visit_by visit_with
+called_call_ending = refl
+
+-- budgets that end in a conversion, and in the copy of a ball, which then has given out no variable
+pub spent_converting : (run (setup_for 3 1) (call_one no_body) 0 (program [])).ending ≡ Spent
+unfolding visit visit_by visit_with
+spent_converting = refl
+
+pub spent_in_ball : (run (setup_for 10 1) (call_one no_body) 0 (program [])).ending ≡ Spent
+unfolding visit visit_by visit_with
+spent_in_ball = refl
+
+pub spent_ball_variables : (run (setup_for 3 1) (one (codes "throw") (two (codes "f") (var 0) (var 0))) 1 (program [])).world.variables ≡ 1
+unfolding visit visit_by visit_with
+spent_ball_variables = refl

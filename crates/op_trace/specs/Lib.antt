@@ -1,6 +1,8 @@
 pub mod Act
 pub mod Body
 pub mod BodyExamples
+pub mod Builtins
+pub mod Copy
 pub mod Database
 pub mod Ending
 pub mod Examples

@@ -7,13 +7,15 @@ use Rattle.op_trace.specs.World.{World, Goal, Event, Turn, Shown, Solved}
 use Rattle.op_trace.specs.Act.{Setup}
 use Rattle.op_trace.specs.Visit.{Verdict, Visited, visit}
 use Rattle.op_trace.specs.Visit as verdict
-use Rattle.op_trace.specs.Ending.{Ending, Stopped, Failed, Spent}
+use Rattle.op_trace.specs.Ending.{Ending, Stopped, Failed, Thrown, Halted, Spent}
 
 -- a cut out of the whole goal leaves no alternative
 abbrev pub ending_of : Verdict → Ending
 ending_of verdict.Failed = Failed
 ending_of (verdict.CutTo m) = Failed
+ending_of (verdict.Thrown b o) = Thrown b
 ending_of verdict.Stopped = Stopped
+ending_of (verdict.Halted n) = Halted n
 ending_of verdict.Spent = Spent
 
 pub record Run : Type 0 where

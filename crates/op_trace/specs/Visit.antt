@@ -1,8 +1,9 @@
 -- The walk over the search tree of a goal, in the order of Prolog (ISO/IEC 13211-1, 7.7 and 7.8), with the events of the
 -- box model. Success is the rest of a list of items, and failure the return of the recursion. Bindings only grow, and
 -- nothing is undone. Each step is taken before what it pays for; where it isn't there, the walk is Spent.
-use Rattle.std.specs.Prelude.{ℕ, zero, suc, ◌+◌, ◌-◌, ◌==◌, nat_le, Bool, true, false, List, [], ◌∷◌, ◌++◌, length, codes, if◌then◌else◌}
+use Rattle.std.specs.Prelude.{ℕ, ℤ, zero, suc, ◌+◌, ◌-◌, ◌==◌, nat_le, Bool, true, false, List, [], ◌∷◌, ◌++◌, length, codes, if◌then◌else◌}
 use Rattle.std.specs.Prelude.{Option, Some, None}
+use Rattle.std.specs.List.{list_any}
 use Rattle.op_logic.specs.Term.{Term, node, no_args, arg, atom, shift}
 use Rattle.op_logic.specs.Bind.{Bindings, apply, unify, Solved as Result}
 use Rattle.op_trace.specs.declared.port.Port.{Port}
@@ -10,16 +11,18 @@ use Rattle.op_trace.specs.declared.port.Port.TheVariants as port
 use Rattle.op_trace.specs.declared.barrier.Barrier.{Barrier}
 use Rattle.op_trace.specs.declared.barrier.Barrier.TheVariants.{Call, InCondition, AtSuccess}
 use Rattle.op_trace.specs.Database.{Text, text_eq, Clause, Procedure, Database, procedure_of}
-use Rattle.op_trace.specs.World.{World, same_barrier, Tries, First, Item, Goal, Cut, Exit, Try, open_boxes, head_number, Event}
+use Rattle.op_trace.specs.World.{World, same_barrier, Execution, First, Item, Goal, Cut, Exit, Execute, open_boxes, head_number, Event}
 use Rattle.op_trace.specs.World.{Turn, Shown, Solved}
-use Rattle.op_trace.specs.Act.{Yield, Fails, Gives, Gives_again, Act, Setup}
+use Rattle.op_trace.specs.Act.{Yield, Fails, Succeeds, Succeeds_again, Runs, Throws, Halts, Act, Setup}
 
--- how a walk ends: no solution is left; none is left, and a cut drops all alternatives up to a barrier; the wanted solution was
--- found; or one more step would pass the budget
+-- how a walk ends: no solution is left; none is left, and a cut drops all alternatives up to a barrier; a ball was thrown, while these
+-- boxes were open, the innermost first; the wanted solution was found; it was halted with a number; or one more step would pass the budget
 pub data Verdict : Type 0 where
   Failed : Verdict
   CutTo : Barrier → Verdict
+  Thrown : Term Text → List ℕ → Verdict
   Stopped : Verdict
+  Halted : ℤ → Verdict
   Spent : Verdict
 
 -- what a walk shows, how it ends, and the world that it leaves
@@ -42,19 +45,14 @@ and_then v h = with_turns v.turns (h v.verdict v.world)
 abbrev pub on_failed : (World → Visited) → Verdict → World → Visited
 on_failed h Failed w = h w
 on_failed h (CutTo m) w = gives (CutTo m) w
+on_failed h (Thrown b o) w = gives (Thrown b o) w
 on_failed h Stopped w = gives Stopped w
+on_failed h (Halted n) w = gives (Halted n) w
 on_failed h Spent w = gives Spent w
 
 abbrev pub reaches : Bool → (World → Visited) → (World → Visited) → World → Visited
 reaches true h i w = h w
 reaches false h i w = i w
-
--- after Failed, and after a cut to this barrier
-abbrev pub on_end : Barrier → (World → Visited) → Verdict → World → Visited
-on_end b h Failed w = h w
-on_end b h (CutTo m) w = reaches (same_barrier m b) h (gives (CutTo m)) w
-on_end b h Stopped w = gives Stopped w
-on_end b h Spent w = gives Spent w
 
 -- a cut to a barrier: where what comes after it fails, nothing up to there is tried
 abbrev pub cut : Barrier → Verdict → World → Visited
@@ -78,6 +76,30 @@ with_event w = record w { events = w.events + 1 }
 -- an event, and what comes after it
 abbrev pub shows : Port → ℕ → Term Text → Bindings Text → List Item → World → (World → Visited) → Visited
 shows p k g σ J w h = with_turns (Shown (event_of p k g σ J w) (with_event w) ∷ []) (h (with_event w))
+
+-- a box has no further alternative; a ball leaves a box
+abbrev pub fails : ℕ → Term Text → Bindings Text → List Item → World → Visited
+fails k g σ J w = shows port.Fail k g σ J w (gives Failed)
+
+abbrev pub raises : ℕ → Term Text → Bindings Text → List Item → Term Text → List ℕ → World → Visited
+raises k g σ J b o w = shows port.Exception k g σ J w (gives (Thrown b o))
+
+abbrev pub is_open : ℕ → List ℕ → Bool
+is_open k o = list_any (λ n. n == k) o
+
+-- the boxes around one of them
+abbrev pub around : ℕ → List ℕ → List ℕ
+around k [] = []
+around k (n ∷ o) = if n == k then o else around k o
+
+-- at the end of a box: after Failed, and after a cut to its call; and where a ball leaves it while it is open
+abbrev pub on_end : ℕ → (World → Visited) → (Term Text → List ℕ → World → Visited) → Verdict → World → Visited
+on_end k h i Failed w = h w
+on_end k h i (CutTo m) w = reaches (same_barrier m (Call k)) h (gives (CutTo m)) w
+on_end k h i (Thrown b o) w = reaches (is_open k o) (i b (around k o)) (gives (Thrown b o)) w
+on_end k h i Stopped w = gives Stopped w
+on_end k h i (Halted n) w = gives (Halted n) w
+on_end k h i Spent w = gives Spent w
 
 -- where all is spent, the count of steps is the budget
 abbrev pub spent : Setup → World → Visited
@@ -144,13 +166,13 @@ abbrev pub is_true : Term Text → Bool
 is_true (node f no_args) = text_eq f (codes "true")
 is_true _ = false
 
--- what is in the box of a goal: the clauses of its procedure, or its tries, where there is no procedure
+-- what is in the box of a goal: the clauses of its procedure, or its executions, where there is no procedure
 pub data Inside : Type 0 where
   Clauses : List Clause → Inside
-  Tried : Inside
+  WithoutProcedure : Inside
 
 abbrev pub inside_procedure : Option Procedure → Inside
-inside_procedure None = Tried
+inside_procedure None = WithoutProcedure
 inside_procedure (Some p) = Clauses p.clauses
 
 abbrev pub inside : Database → Term Text → Inside
@@ -165,13 +187,14 @@ abbrev pub Visitor : Type 0
 Visitor = List Item → Bindings Text → World → Visited
 
 -- what is left to do on backtracking, and after each other result, of an item that the walk has entered:
--- an exit is redone; a disjunction has a second branch; a box has further clauses, or further tries; a box has no further alternative; a
+-- an exit is redone; a disjunction has a second branch; a box has further clauses, or further executions; a box has no further
+-- alternative; a
 -- condition with this number has an else branch
 pub data Choice : Type 0 where
   Redo : ℕ → Term Text → Bindings Text → List Item → Choice
   Branch : Term Text → Barrier → Bindings Text → List Item → Choice
   More : List Clause → ℕ → Term Text → Bindings Text → List Item → Choice
-  Again : Tries → ℕ → Term Text → Bindings Text → List Item → Choice
+  Again : Execution → ℕ → Term Text → Bindings Text → List Item → Choice
   Fail : ℕ → Term Text → Bindings Text → List Item → Choice
   Condition : ℕ → Term Text → Barrier → Bindings Text → List Item → Choice
 
@@ -198,9 +221,9 @@ alternatives visit s (c ∷ cs) k g σ J r w =
 abbrev pub branches : Visitor → Setup → Term Text → Barrier → Bindings Text → List Item → World → Visited
 branches visit s t m σ J w = spends s 1 w (visit (Goal t m ∷ J) σ)
 
--- a further try: one step, and the try
-abbrev pub tries_again : Visitor → Setup → Tries → ℕ → Term Text → Bindings Text → List Item → World → Visited
-tries_again visit s t k g σ J w = spends s 1 w (visit (Try t k g ∷ J) σ)
+-- a further execution: one step, and the execution
+abbrev pub executes_again : Visitor → Setup → Execution → ℕ → Term Text → Bindings Text → List Item → World → Visited
+executes_again visit s t k g σ J w = spends s 1 w (visit (Execute t k g ∷ J) σ)
 
 -- a condition that has no solution is followed by the else branch, also where a cut inside it left none; the cut that its success
 -- made ends here
@@ -208,7 +231,9 @@ abbrev pub on_condition : ℕ → (World → Visited) → Verdict → World → 
 on_condition n h Failed w = h w
 on_condition n h (CutTo m) w =
     reaches (same_barrier m (InCondition n)) h (reaches (same_barrier m (AtSuccess n)) (gives Failed) (gives (CutTo m))) w
+on_condition n h (Thrown b o) w = gives (Thrown b o) w
 on_condition n h Stopped w = gives Stopped w
+on_condition n h (Halted i) w = gives (Halted i) w
 on_condition n h Spent w = gives Spent w
 
 -- what each kind of choice point does after a result
@@ -216,14 +241,14 @@ abbrev pub after : Visitor → Setup → Choice → Verdict → World → Visite
 after visit s (Redo k g σ J) r w = on_failed (λ u. shows port.Redo k g σ J u (gives Failed)) r w
 after visit s (Branch t m σ J) r w = on_failed (branches visit s t m σ J) r w
 after visit s (More cs k g σ J) r w = alternatives visit s cs k g σ J r w
-after visit s (Again t k g σ J) r w = on_failed (tries_again visit s t k g σ J) r w
-after visit s (Fail k g σ J) r w = on_end (Call k) (λ u. shows port.Fail k g σ J u (gives Failed)) r w
+after visit s (Again t k g σ J) r w = on_failed (executes_again visit s t k g σ J) r w
+after visit s (Fail k g σ J) r w = on_end k (fails k g σ J) (raises k g σ J) r w
 after visit s (Condition n t m σ J) r w = on_condition n (branches visit s t m σ J) r w
 
 -- the alternatives of a box
 abbrev pub entered_box : Visitor → Setup → Inside → ℕ → Term Text → Bindings Text → List Item → World → Visited
 entered_box visit s (Clauses cs) k g σ J w = alternatives visit s cs k g σ J Failed w
-entered_box visit s Tried k g σ J w = visit (Try First k g ∷ J) σ w
+entered_box visit s WithoutProcedure k g σ J w = visit (Execute First k g ∷ J) σ w
 
 -- a goal with a box: the next call number, the event call, its alternatives, and the event fail after them
 abbrev pub boxed : Visitor → Setup → Term Text → List Item → Bindings Text → World → Visited
@@ -235,13 +260,6 @@ boxed visit s g J σ w =
 -- the exit of a box, and the items behind it
 abbrev pub exits : Visitor → Setup → (Bindings Text → World → Visited) → ℕ → Term Text → List Item → Bindings Text → World → Visited
 exits visit s rest k g J σ w = shows port.Exit k g σ J w (λ u. and_then (rest σ u) (after visit s (Redo k g σ J)))
-
--- what the yield of a try leads to: it fails, or its box exits, and a further try may be left
-abbrev pub yields : Visitor → Setup → (Bindings Text → World → Visited) → ℕ → Term Text → List Item → Bindings Text → Yield → World
-    → Visited
-yields visit s rest k g J σ Fails w = gives Failed w
-yields visit s rest k g J σ (Gives τ) w = exits visit s rest k g J τ w
-yields visit s rest k g J σ (Gives_again τ t) w = and_then (exits visit s rest k g J τ w) (after visit s (Again t k g σ J))
 
 -- the condition, the cut of its success and what follows it; on failure the else branch
 abbrev pub if_then_else : Visitor → Setup → Term Text → Term Text → Term Text → Barrier → List Item → Bindings Text → World → Visited
@@ -259,6 +277,22 @@ selected visit s (Disjunction a b) t m J σ w = and_then (visit (Goal a m ∷ J)
 selected visit s (IfThenElse c a b) t m J σ w = if_then_else visit s c a b m J σ w
 selected visit s BoxedGoal t m J σ w = boxed visit s t J σ w
 
+-- a goal is selected: one step
+abbrev pub selects : Visitor → Setup → Term Text → Barrier → List Item → Bindings Text → World → Visited
+selects visit s t m J σ w = spends s 1 w (selected visit s (control t) t m J σ)
+
+-- what the yield of an execution leads to: it fails; or its box exits, and a further execution may be left; a body runs in its box,
+-- which exits behind
+-- it; a ball leaves it, and all boxes around it; or the run ends
+abbrev pub yields : Visitor → Setup → (Bindings Text → World → Visited) → ℕ → Term Text → List Item → Bindings Text → Yield → World
+    → Visited
+yields visit s rest k g J σ Fails w = gives Failed w
+yields visit s rest k g J σ (Succeeds τ) w = exits visit s rest k g J τ w
+yields visit s rest k g J σ (Succeeds_again τ t) w = and_then (exits visit s rest k g J τ w) (after visit s (Again t k g σ J))
+yields visit s rest k g J σ (Runs b) w = selects visit s b (Call k) (Exit k g ∷ J) σ w
+yields visit s rest k g J σ (Throws b) w = gives (Thrown b (k ∷ open_boxes J)) w
+yields visit s rest k g J σ (Halts n) w = gives (Halted n) w
+
 -- a solution, which ends the walk if it is the wanted one
 abbrev pub solved : Setup → Bindings Text → World → Visited
 solved s σ w =
@@ -271,8 +305,9 @@ unfoldable pub visit_with : Visitor → Setup → List Item → Bindings Text �
 visit_with visit s [] σ w = solved s σ w
 visit_with visit s (Exit k g ∷ J) σ w = exits visit s (visit_with visit s J) k g J σ w
 visit_with visit s (Cut m ∷ J) σ w = and_then (visit_with visit s J σ w) (cut m)
-visit_with visit s (Try t k g ∷ J) σ w = performs s (s.act (s.budget - w.steps) t g σ w) w (yields visit s (visit_with visit s J) k g J σ)
-visit_with visit s (Goal t m ∷ J) σ w = spends s 1 w (selected visit s (control t) t m J σ)
+visit_with visit s (Execute t k g ∷ J) σ w = performs s (s.act (s.budget - w.steps) t g σ w) w (yields visit s
+    (visit_with visit s J) k g J σ)
+visit_with visit s (Goal t m ∷ J) σ w = selects visit s t m J σ w
 
 -- The walk, given up where it calls itself at a greater depth than this. Each such call has paid a step, so that the depth below, one
 -- more than there are steps left, is enough (`laws::visit_equations`).

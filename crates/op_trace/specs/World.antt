@@ -75,17 +75,18 @@ same_barrier (AtSuccess a) (AtSuccess b) = a == b
 same_barrier _ _ = false
 
 -- which execution of a goal comes next: the first, or a further one (it is re-executed, 7.7.8) of a goal that succeeds each time
-pub data Tries : Type 0 where
-  First : Tries
-  Always : Tries
+pub data Execution : Type 0 where
+  First : Execution
+  Repeated : Execution
 
--- what is still to be done: a goal, the cut of a condition that has succeeded, the exit of a box that was called with a goal, or a try of
+-- what is still to be done: a goal, the cut of a condition that has succeeded, the exit of a box that was called with a goal, or an
+-- execution of
 -- the goal that a box was called with, whose exit comes behind it: the box is open as by an exit
 pub data Item : Type 0 where
   Goal : Term Text → Barrier → Item
   Cut : Barrier → Item
   Exit : ℕ → Term Text → Item
-  Try : Tries → ℕ → Term Text → Item
+  Execute : Execution → ℕ → Term Text → Item
 
 -- the call numbers of the boxes that are open, the innermost first
 abbrev pub open_boxes : List Item → List ℕ
@@ -93,15 +94,15 @@ open_boxes [] = []
 open_boxes (Goal t m ∷ J) = open_boxes J
 open_boxes (Cut m ∷ J) = open_boxes J
 open_boxes (Exit k g ∷ J) = k ∷ open_boxes J
-open_boxes (Try t k g ∷ J) = k ∷ open_boxes J
+open_boxes (Execute t k g ∷ J) = k ∷ open_boxes J
 
--- n is the barrier of one of these items
+-- n is the barrier of one of these items; what is executed may run a body in its box, where a cut is local to the box
 abbrev pub Has : Barrier → List Item → Type 0
 Has n [] = ⊥
 Has n (Goal t m ∷ J) = (n ≡ m) ⊎ Has n J
 Has n (Cut m ∷ J) = (n ≡ m) ⊎ Has n J
 Has n (Exit k g ∷ J) = Has n J
-Has n (Try t k g ∷ J) = Has n J
+Has n (Execute t k g ∷ J) = (n ≡ Call k) ⊎ Has n J
 
 -- what a run shows, with the world of that moment
 pub data Turn : Type 0 where

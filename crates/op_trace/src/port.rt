@@ -9,4 +9,6 @@ pub enum Port {
     Redo,
     /// The alternatives of the box are used up.
     Fail,
+    /// A ball leaves the box while it is open.
+    Exception,
 }
