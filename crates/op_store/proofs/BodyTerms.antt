@@ -1,22 +1,23 @@
 -- The term of a body is made from its nodes.
 use Rattle.std.proofs.Common.{◌≡◌, ℕ, zero, suc, ◌<◌, ◌≤◌, List, [], ◌∷◌, ◌++◌, length, get_or, take, map, reverse, Option, All, Some, None}
 use Rattle.std.proofs.Common.{pos, sym, ◌∙◌, ap, subst, refl, arith, length-append}
-use Rattle.std.specs.Prelude.{option_map}
+use Rattle.std.specs.Prelude.{option_map, codes}
 use Rattle.std.proofs.lemmas.List.{reverse-append, length-reverse, length-map, reverse-reverse}
 use Rattle.std.proofs.lemmas.List.Elements.{All-push}
 use Rattle.op_logic.proofs.BoolCases.{by_order}
 use Rattle.op_logic.specs.Term.{Term, int, node}
-use Rattle.op_logic.specs.Names.{name_at, named}
+use Rattle.op_logic.specs.Names.{name_at, named, HasNames}
 use Rattle.op_term.specs.Places.{term_at, args_at}
 use Rattle.op_term.specs.inner.Cells.{AllBelow}
 use Rattle.std.proofs.Math.Seq.{get_or-append_seam}
-use Rattle.op_trace.specs.Body.{Body, control, term_of}
+use Rattle.op_trace.specs.Body.{Body, goal, call, control, term_of}
 use Rattle.op_store.specs.Nodes.{leaves}
 use Rattle.op_store.specs.inner.Walk.{needs, took, read}
-use Rattle.op_store.specs.inner.Converted.{AreControlNames, texts_at, paired, called}
+use Rattle.op_store.specs.inner.Converted.{AreControlNames, AreNamed, texts_at, paired, called}
 use Rattle.op_store.specs.declared.names.control_names.ControlNames.{ControlNames}
 use Rattle.op_store.specs.declared.bodies.body_node.BodyNode.{BodyNode}
-use Rattle.op_bind.proofs.KeptTerms.{below-more, term-more, kept-push}
+use Rattle.op_store.specs.declared.bodies.body_node.BodyNode.TheVariants as nodes
+use Rattle.op_bind.proofs.KeptTerms.{below-more, term-more}
 use Rattle.op_store.proofs.ConversionSteps.{T, read-push, leaves-append}
 use Rattle.op_store.proofs.LinkedNodes.{none-read, short}
 
@@ -48,7 +49,7 @@ joined-texts names old new rest r stack k e b =
     ap (texts_at names new) (reverse-push rest r stack e)
     ∙ ap (λ (ts : List T). named names (term_at new r) ∷ ts) (texts-more names old new (reverse rest) k b)
 
-last-made : (old new : List (Term ℕ)) (t : Term ℕ) (r : ℕ) → new ≡ old ++ t ∷ [] → r ≡ length old → term_at new r ≡ t
+pub last-made : (old new : List (Term ℕ)) (t : Term ℕ) (r : ℕ) → new ≡ old ++ t ∷ [] → r ≡ length old → term_at new r ≡ t
 last-made old new t r e a =
     ap (λ (ts : List (Term ℕ)). term_at ts r) e ∙ (ap (term_at (old ++ t ∷ [])) a ∙ get_or-append_seam old t [] (int (pos 0)))
 
@@ -63,22 +64,51 @@ pub all-one : (n a : ℕ) → a < n → All (λ p. p < n) (a ∷ [])
 all-one n a ha = All-push (λ (p : ℕ). p < n) [] a (λ k d l. absurd (omega arith)) ha
 
 pub made-pair : (names : List (List ℕ)) (f : ℕ) (old new : List (Term ℕ)) (before rest stack : List ℕ) (a b r : ℕ)
-    → reverse before ≡ a ∷ b ∷ reverse rest → new ≡ old ++ node f (args_at old (a ∷ b ∷ [])) ∷ [] → r ≡ length old
+    → reverse before ≡ a ∷ b ∷ reverse rest → take (length old) new ≡ old → term_at new r ≡ node f (args_at old (a ∷ b ∷ []))
     → stack ≡ rest ++ r ∷ [] → AllBelow (length old) (reverse rest)
     → texts_at names new (reverse stack) ≡ paired (name_at names f) (texts_at names old (reverse before))
-made-pair names f old new before rest stack a b r e n at s h =
-    joined-texts names old new rest r stack (kept-push old new (node f (args_at old (a ∷ b ∷ []))) n) s h
-    ∙ (ap (λ (t : Term ℕ). named names t ∷ texts_at names old (reverse rest)) (last-made old new (node f (args_at old (a ∷ b ∷ []))) r n at)
+made-pair names f old new before rest stack a b r e k t s h =
+    joined-texts names old new rest r stack k s h
+    ∙ (ap (λ (u : Term ℕ). named names u ∷ texts_at names old (reverse rest)) t
     ∙ ap (λ (ks : List ℕ). paired (name_at names f) (texts_at names old ks)) (sym e))
 
-pub made-call : (names : List (List ℕ)) (f : ℕ) (old new : List (Term ℕ)) (before rest stack : List ℕ) (a r : ℕ)
-    → reverse before ≡ a ∷ reverse rest → new ≡ old ++ node f (args_at old (a ∷ [])) ∷ [] → r ≡ length old
+-- of the term at a
+pub made-call : (names : List (List ℕ)) (f : ℕ) (old new : List (Term ℕ)) (rest stack : List ℕ) (a r : ℕ)
+    → take (length old) new ≡ old → term_at new r ≡ node f (args_at old (a ∷ []))
     → stack ≡ rest ++ r ∷ [] → AllBelow (length old) (reverse rest)
-    → texts_at names new (reverse stack) ≡ called (name_at names f) (texts_at names old (reverse before))
-made-call names f old new before rest stack a r e n at s h =
-    joined-texts names old new rest r stack (kept-push old new (node f (args_at old (a ∷ []))) n) s h
-    ∙ (ap (λ (t : Term ℕ). named names t ∷ texts_at names old (reverse rest)) (last-made old new (node f (args_at old (a ∷ []))) r n at)
-    ∙ ap (λ (ks : List ℕ). called (name_at names f) (texts_at names old ks)) (sym e))
+    → texts_at names new (reverse stack) ≡ called (name_at names f) (texts_at names old (a ∷ reverse rest))
+made-call names f old new rest stack a r k t s h =
+    joined-texts names old new rest r stack k s h
+    ∙ ap (λ (u : Term ℕ). named names u ∷ texts_at names old (reverse rest)) t
+
+-- their names
+named-wider : (n : ℕ) (old new : List (Term ℕ)) (rs : List ℕ) → take (length old) new ≡ old → AllBelow (length old) rs
+    → AreNamed n old rs → AreNamed n new rs
+named-wider n old new [] k b h = tt
+named-wider n old new (r ∷ rs) k b h = (
+  subst (λ (t : Term ℕ). HasNames n t) (sym (term-more old new r k b.0)) h.0,
+  named-wider n old new rs k b.1 h.1,
+)
+
+joined-named : (n : ℕ) (old new : List (Term ℕ)) (rest : List ℕ) (r : ℕ) (stack : List ℕ) (t : Term ℕ) → take (length old) new ≡ old
+    → term_at new r ≡ t → HasNames n t → stack ≡ rest ++ r ∷ [] → AllBelow (length old) (reverse rest) → AreNamed n old (reverse rest)
+    → AreNamed n new (reverse stack)
+joined-named n old new rest r stack t k e h s b m =
+    subst (λ (ks : List ℕ). AreNamed n new ks) (sym (reverse-push rest r stack s))
+    (subst (λ (u : Term ℕ). HasNames n u) (sym e) h, named-wider n old new (reverse rest) k b m)
+
+pub pair-named : (n f : ℕ) (old new : List (Term ℕ)) (before rest stack : List ℕ) (a b r : ℕ) → f < n
+    → reverse before ≡ a ∷ b ∷ reverse rest → take (length old) new ≡ old → term_at new r ≡ node f (args_at old (a ∷ b ∷ []))
+    → stack ≡ rest ++ r ∷ [] → AllBelow (length old) (reverse rest) → AreNamed n old (reverse before) → AreNamed n new (reverse stack)
+pair-named n f old new before rest stack a b r l e k t s h m =
+    let q : AreNamed n old (a ∷ b ∷ reverse rest) = subst (λ (ks : List ℕ). AreNamed n old ks) e m in
+    joined-named n old new rest r stack (node f (args_at old (a ∷ b ∷ []))) k t (l, (q.0, (q.1.0, tt))) s h q.1.1
+
+pub call-named : (n f : ℕ) (old new : List (Term ℕ)) (rest stack : List ℕ) (a r : ℕ) → f < n
+    → take (length old) new ≡ old → term_at new r ≡ node f (args_at old (a ∷ []))
+    → stack ≡ rest ++ r ∷ [] → AllBelow (length old) (reverse rest) → AreNamed n old (a ∷ reverse rest) → AreNamed n new (reverse stack)
+call-named n f old new rest stack a r l k t s h m =
+    joined-named n old new rest r stack (node f (args_at old (a ∷ []))) k t (l, (m.0, tt)) s h m.1
 
 pub made-there : (old new : List (Term ℕ)) (t : Term ℕ) (r : ℕ) → new ≡ old ++ t ∷ [] → r ≡ length old → r < length new
 made-there old new t r e a = omega (arith, ap length e, length-append old (t ∷ []))
@@ -123,6 +153,33 @@ module _ {P : Type 0} where
       ∙ (took-two text x f bs (omega (arith, bodies-length names old before bs b)) k
       ∙ ap (λ (vs : List T). Some vs)
       (sym (m ∙ (ap (λ (h : List ℕ). paired h (texts_at names old (reverse before))) n ∙ ap (λ (ts : List T). paired f ts) (sym b)))))
+
+  pub took-call : (text : P → T) (is : BodyNode P) (p : P) (g : List ℕ) (bs : List Body) (ts us : List T) → is ≡ nodes.CallOf p
+      → g ≡ codes "call" → terms_of bs ≡ ts → us ≡ called g (text p ∷ ts) → option_map terms_of (took text is bs) ≡ Some us
+  took-call text is p g bs ts us e n b m =
+      ap (λ (y : BodyNode P). option_map terms_of (took text y bs)) e
+      ∙ ap (λ (vs : List T). Some vs)
+      (sym (m ∙ (ap (λ (h : List ℕ). called h (text p ∷ ts)) n ∙ ap (λ (vs : List T). called (codes "call") (text p ∷ vs)) (sym b))))
+
+  pub took-goal : (text : P → T) (is : BodyNode P) (p : P) (bs : List Body) (ts us : List T) → is ≡ nodes.Goal p
+      → terms_of bs ≡ ts → us ≡ text p ∷ ts → option_map terms_of (took text is bs) ≡ Some us
+  took-goal text is p bs ts us e b m =
+      ap (λ (y : BodyNode P). option_map terms_of (took text y bs)) e
+      ∙ ap (λ (vs : List T). Some vs) (sym (m ∙ ap (λ (vs : List T). text p ∷ vs) (sym b)))
+
+  -- equal texts of the places
+  pub took-same : (f g : P → T) (x : BodyNode P) (bs : List Body) → All (λ p. f p ≡ g p) (leaves (x ∷ [])) → took f x bs ≡ took g x bs
+  took-same f g (nodes.Goal p) bs h = ap (λ (t : T). Some (goal t ∷ bs)) (h 0 p (omega arith))
+  took-same f g (nodes.CallOf p) bs h = ap (λ (t : T). Some (call t ∷ bs)) (h 0 p (omega arith))
+  took-same f g (nodes.And a b) [] h = refl
+  took-same f g (nodes.And a b) (t ∷ []) h = refl
+  took-same f g (nodes.And a b) (t ∷ u ∷ s) h = refl
+  took-same f g (nodes.Or a b) [] h = refl
+  took-same f g (nodes.Or a b) (t ∷ []) h = refl
+  took-same f g (nodes.Or a b) (t ∷ u ∷ s) h = refl
+  took-same f g (nodes.Then a b) [] h = refl
+  took-same f g (nodes.Then a b) (t ∷ []) h = refl
+  took-same f g (nodes.Then a b) (t ∷ u ∷ s) h = refl
 
   all-back : (Q : P → Type 0) (xs ys : List P) → All Q (xs ++ ys) → All Q ys
   all-back Q [] ys h = h

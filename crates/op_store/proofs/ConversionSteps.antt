@@ -6,8 +6,10 @@ use Rattle.std.proofs.lemmas.List.{reverse-append}
 use Rattle.std.proofs.lemmas.List.Elements.{All-append, All-push}
 use Rattle.std.proofs.lemmas.Slice.Eq.{bytes_eq-Decides}
 use Rattle.op_logic.specs.Term.{Term, var, int, node, Args, no_args, arg, args_of, nth_arg, arity, rename, rename_args}
+use Rattle.op_logic.specs.Bind.{Bindings, apply, follow}
 use Rattle.op_logic.specs.Names.{name_at, named, HasNames, ArgsHaveNames}
-use Rattle.op_trace.specs.Body.{Body, goal, call, control, Division, one_step, has_parts, joined, divided}
+use Rattle.op_trace.specs.Body.{Body, goal, call, control, Division, one_step, has_parts, joined, compound, divided_by, divisions_by}
+use Rattle.op_trace.specs.Body.{divided}
 use Rattle.op_store.specs.inner.BodyParts.{part_of_term, part_of_pair}
 use Rattle.op_store.specs.Nodes.{leaves}
 use Rattle.op_store.specs.inner.Walk.{Bodies, with_first, bodies_of, took, read, Left, left_of, step_before, refused}
@@ -15,6 +17,7 @@ use Rattle.op_store.specs.declared.bodies.body_part.Part.{Part}
 use Rattle.op_store.specs.declared.bodies.body_part.Part.TheVariants as parts
 use Rattle.op_store.specs.declared.bodies.body_node.BodyNode.{BodyNode}
 use Rattle.op_store.specs.declared.bodies.body_node.BodyNode.TheVariants as nodes
+use Rattle.op_store.proofs.FollowedParts.{parts_under}
 
 abbrev pub T : Type 0
 T = Term (List ℕ)
@@ -101,20 +104,20 @@ control-two (node f (arg a (arg b no_args))) p e h = refl
 control-two (node f (arg a (arg b (arg c ts)))) p e h = absurd (not-goal (node f (arg a (arg b (arg c ts)))) p e h refl)
 
 -- and is divided by them
-pub control-divided : (t a b : T) (p : Part) → part_of_term t ≡ p → IsControl p → a ≡ nth_arg (args_of t) 0 → b ≡ nth_arg (args_of t) 1
-    → divided [] t ≡ joined (control_name p []) (divided [] a) (divided [] b)
-control-divided (var v) a b p e h ea eb = absurd (not-variable p h (sym e))
-control-divided (int i) a b p e h ea eb = absurd (not-number p h (sym e))
-control-divided (node f no_args) a b p e h ea eb = absurd (not-goal (node f no_args) p e h refl)
-control-divided (node f (arg x no_args)) a b p e h ea eb = absurd (not-goal (node f (arg x no_args)) p e h refl)
-control-divided (node f (arg x (arg y no_args))) a b p e h ea eb =
+pub control-divided : (σ : Bindings (List ℕ)) (t a b : T) (p : Part) → part_of_term t ≡ p → IsControl p → a ≡ nth_arg (args_of t) 0
+    → b ≡ nth_arg (args_of t) 1 → parts_under σ t ≡ joined (control_name p []) (divided σ a) (divided σ b)
+control-divided σ (var v) a b p e h ea eb = absurd (not-variable p h (sym e))
+control-divided σ (int i) a b p e h ea eb = absurd (not-number p h (sym e))
+control-divided σ (node f no_args) a b p e h ea eb = absurd (not-goal (node f no_args) p e h refl)
+control-divided σ (node f (arg x no_args)) a b p e h ea eb = absurd (not-goal (node f (arg x no_args)) p e h refl)
+control-divided σ (node f (arg x (arg y no_args))) a b p e h ea eb =
     let g : Division = one_step (Some (goal (node f (arg x (arg y no_args))))) in
-    let j : Division = joined f (divided [] x) (divided [] y) in
-    let one : divided [] (node f (arg x (arg y no_args))) ≡ j = ap (λ (c : Bool). cond c j g) (control-has f p e h) in
+    let j : Division = joined f (divided σ x) (divided σ y) in
+    let one : parts_under σ (node f (arg x (arg y no_args))) ≡ j = ap (λ (c : Bool). cond c j g) (control-has f p e h) in
     let n : f ≡ control_name p [] = part_of_pair-named f ∙ (ap (λ (q : Part). control_name q f) e ∙ same p f h) in
-    one ∙ (ap (λ (k : List ℕ). joined k (divided [] x) (divided [] y)) n
-    ∙ (ap (λ (u : T). joined (control_name p []) (divided [] u) (divided [] y)) (sym ea)
-    ∙ ap (λ (u : T). joined (control_name p []) (divided [] a) (divided [] u)) (sym eb)))
+    one ∙ (ap (λ (k : List ℕ). joined k (divided σ x) (divided σ y)) n
+    ∙ (ap (λ (u : T). joined (control_name p []) (divided σ u) (divided σ y)) (sym ea)
+    ∙ ap (λ (u : T). joined (control_name p []) (divided σ a) (divided σ u)) (sym eb)))
   where
     same : (p : Part) (f : List ℕ) → IsControl p → control_name p f ≡ control_name p []
     same parts.Conjunction f h = refl
@@ -123,34 +126,34 @@ control-divided (node f (arg x (arg y no_args))) a b p e h ea eb =
     same parts.Variable f h = absurd h
     same parts.Goal f h = absurd h
     same parts.Number f h = absurd h
-control-divided (node f (arg x (arg y (arg z ts)))) a b p e h ea eb = absurd (not-goal (node f (arg x (arg y (arg z ts)))) p e h refl)
+control-divided σ (node f (arg x (arg y (arg z ts)))) a b p e h ea eb = absurd (not-goal (node f (arg x (arg y (arg z ts)))) p e h refl)
 
 -- other parts are divided by themselves
-pub goal-divided : (t : T) → part_of_term t ≡ parts.Goal → divided [] t ≡ one_step (Some (goal t))
-goal-divided (var v) e = absurd cc
-goal-divided (int i) e = absurd cc
-goal-divided (node f no_args) e = refl
-goal-divided (node f (arg a no_args)) e = refl
-goal-divided (node f (arg a (arg b no_args))) e =
-    ap (λ (c : Bool). cond c (joined f (divided [] a) (divided [] b)) (one_step (Some (goal (node f (arg a (arg b no_args)))))))
+pub goal-divided : (σ : Bindings (List ℕ)) (t : T) → part_of_term t ≡ parts.Goal → parts_under σ t ≡ one_step (Some (goal t))
+goal-divided σ (var v) e = absurd cc
+goal-divided σ (int i) e = absurd cc
+goal-divided σ (node f no_args) e = refl
+goal-divided σ (node f (arg a no_args)) e = refl
+goal-divided σ (node f (arg a (arg b no_args))) e =
+    ap (λ (c : Bool). cond c (joined f (divided σ a) (divided σ b)) (one_step (Some (goal (node f (arg a (arg b no_args)))))))
     (goal-has f e)
-goal-divided (node f (arg a (arg b (arg c ts)))) e = refl
+goal-divided σ (node f (arg a (arg b (arg c ts)))) e = refl
 
-pub variable-divided : (t : T) → part_of_term t ≡ parts.Variable → divided [] t ≡ one_step (Some (call t))
-variable-divided (var v) e = refl
-variable-divided (int i) e = absurd cc
-variable-divided (node f no_args) e = absurd cc
-variable-divided (node f (arg a no_args)) e = absurd cc
-variable-divided (node f (arg a (arg b no_args))) e = absurd ((part_of_pair-none f).0 e)
-variable-divided (node f (arg a (arg b (arg c ts)))) e = absurd cc
+pub variable-divided : (σ : Bindings (List ℕ)) (t : T) → part_of_term t ≡ parts.Variable → parts_under σ t ≡ one_step (Some (call t))
+variable-divided σ (var v) e = refl
+variable-divided σ (int i) e = absurd cc
+variable-divided σ (node f no_args) e = absurd cc
+variable-divided σ (node f (arg a no_args)) e = absurd cc
+variable-divided σ (node f (arg a (arg b no_args))) e = absurd ((part_of_pair-none f).0 e)
+variable-divided σ (node f (arg a (arg b (arg c ts)))) e = absurd cc
 
-pub number-divided : (t : T) → part_of_term t ≡ parts.Number → divided [] t ≡ one_step None
-number-divided (var v) e = absurd cc
-number-divided (int i) e = refl
-number-divided (node f no_args) e = absurd cc
-number-divided (node f (arg a no_args)) e = absurd cc
-number-divided (node f (arg a (arg b no_args))) e = absurd ((part_of_pair-none f).1 e)
-number-divided (node f (arg a (arg b (arg c ts)))) e = absurd cc
+pub number-divided : (σ : Bindings (List ℕ)) (t : T) → part_of_term t ≡ parts.Number → parts_under σ t ≡ one_step None
+number-divided σ (var v) e = absurd cc
+number-divided σ (int i) e = refl
+number-divided σ (node f no_args) e = absurd cc
+number-divided σ (node f (arg a no_args)) e = absurd cc
+number-divided σ (node f (arg a (arg b no_args))) e = absurd ((part_of_pair-none f).1 e)
+number-divided σ (node f (arg a (arg b (arg c ts)))) e = absurd cc
 
 -- each conversion costs something
 joined-some : (f : List ℕ) (o : Option Body) (m : ℕ) (b : Division) → 0 < (joined f (record { tree = o; steps = m }) b).steps
@@ -161,15 +164,20 @@ either-some : (b : Bool) (c d : Division) → 0 < c.steps → 0 < d.steps → 0 
 either-some true c d h k = h
 either-some false c d h k = k
 
-pub divided-some : (t : T) → 0 < (divided [] t).steps
-divided-some (var v) = omega arith
-divided-some (int i) = omega arith
-divided-some (node f no_args) = omega arith
-divided-some (node f (arg a no_args)) = omega arith
-divided-some (node f (arg a (arg b no_args))) =
-    either-some (has_parts f) (joined f (divided [] a) (divided [] b)) (one_step (Some (goal (node f (arg a (arg b no_args))))))
-    (joined-some f (divided [] a).tree (divided [] a).steps (divided [] b)) (omega arith)
-divided-some (node f (arg a (arg b (arg c ts)))) = omega arith
+compound-some : (f : List ℕ) (t : T) (ds : List Division) → 0 < (compound f t ds).steps
+compound-some f t [] = omega arith
+compound-some f t (a ∷ []) = omega arith
+compound-some f t (a ∷ b ∷ []) =
+    either-some (has_parts f) (joined f a b) (one_step (Some (goal t))) (joined-some f a.tree a.steps b) (omega arith)
+compound-some f t (a ∷ b ∷ c ∷ ds) = omega arith
+
+by-some : (s : T) (σ : Bindings (List ℕ)) (t : T) → 0 < (divided_by s σ t).steps
+by-some (var v) σ t = omega arith
+by-some (int i) σ t = omega arith
+by-some (node f ss) σ t = compound-some f (follow σ t) (divisions_by ss σ (args_of (follow σ t)))
+
+divided-some : (σ : Bindings (List ℕ)) (t : T) → 0 < (divided σ t).steps
+divided-some σ t = by-some (apply σ t) σ t
 
 left-same : (b c : Option (Option (List Body))) (m n : ℕ) → b ≡ c → m ≡ n
     → (let x : Left = record { bodies = b; steps = m } in x) ≡ record { bodies = c; steps = n }
@@ -183,41 +191,42 @@ module _ {P : Type 0} (text : P → T) where
   read-push [] x o = refl
   read-push (y ∷ ys) x o = ap (option_and_then (took text y)) (read-push ys x o)
 
+module _ {P : Type 0} (σ : Bindings (List ℕ)) (text : P → T) where
   abbrev finished : List (BodyNode P) → Option (List Body) → Option (Option (List Body))
   finished met o = option_map (λ s. read text met (Some s)) o
 
-  left-next : (met : List (BodyNode P)) (todo : List P) (next : P) → left_of text met (todo ++ next ∷ [])
+  left-next : (met : List (BodyNode P)) (todo : List P) (next : P) → left_of σ text met (todo ++ next ∷ [])
       ≡ record {
-        bodies = finished met (with_first (divided [] (text next)) (bodies_of (map text (reverse todo)))).bodies;
-        steps = (with_first (divided [] (text next)) (bodies_of (map text (reverse todo)))).steps;
+        bodies = finished met (with_first (divided σ (text next)) (bodies_of σ (map text (reverse todo)))).bodies;
+        steps = (with_first (divided σ (text next)) (bodies_of σ (map text (reverse todo)))).steps;
       }
   left-next met todo next =
-      ap (λ (ps : List P). let b = bodies_of (map text ps) in
+      ap (λ (ps : List P). let b = bodies_of σ (map text ps) in
       let x : Left = record { bodies = finished met b.bodies; steps = b.steps } in x) (reverse-append todo (next ∷ []))
 
   leaf-bodies : (met : List (BodyNode P)) (x : BodyNode P) (v : Body) (o : Option (List Body))
       → ((s : List Body) → took text x s ≡ Some (v ∷ s))
       → finished met (option_map (λ ts. v ∷ ts) o) ≡ finished (met ++ x ∷ []) o
   leaf-bodies met x v None h = refl
-  leaf-bodies met x v (Some ts) h = ap Some (ap (read text met) (sym (h ts)) ∙ sym (read-push met x (Some ts)))
+  leaf-bodies met x v (Some ts) h = ap Some (ap (read text met) (sym (h ts)) ∙ sym (read-push text met x (Some ts)))
 
   -- a part that is a goal or a variable
   pub left-leaf : (met new : List (BodyNode P)) (todo : List P) (next : P) (x : BodyNode P) (v : Body)
-      → divided [] (text next) ≡ one_step (Some v)
+      → divided σ (text next) ≡ one_step (Some v)
       → ((s : List Body) → took text x s ≡ Some (v ∷ s)) → new ≡ met ++ x ∷ []
-      → left_of text met (todo ++ next ∷ []) ≡ step_before (left_of text new todo)
+      → left_of σ text met (todo ++ next ∷ []) ≡ step_before (left_of σ text new todo)
   left-leaf met new todo next x v e h n =
-      let r : Bodies = bodies_of (map text (reverse todo)) in
+      let r : Bodies = bodies_of σ (map text (reverse todo)) in
       left-next met todo next
       ∙ (ap (λ (c : Division). let b = with_first c r in let y : Left = record { bodies = finished met b.bodies; steps = b.steps } in y) e
       ∙ (left-same (finished met (option_map (λ ts. v ∷ ts) r.bodies)) (finished (met ++ x ∷ []) r.bodies) (1 + r.steps) (suc r.steps)
       (leaf-bodies met x v r.bodies h) (omega arith)
-      ∙ ap (λ (ns : List (BodyNode P)). step_before (left_of text ns todo)) (sym n)))
+      ∙ ap (λ (ns : List (BodyNode P)). step_before (left_of σ text ns todo)) (sym n)))
 
-  pub left-refused : (met : List (BodyNode P)) (todo : List P) (next : P) → divided [] (text next) ≡ one_step None
-      → left_of text met (todo ++ next ∷ []) ≡ refused
+  pub left-refused : (met : List (BodyNode P)) (todo : List P) (next : P) → divided σ (text next) ≡ one_step None
+      → left_of σ text met (todo ++ next ∷ []) ≡ refused
   left-refused met todo next e =
-      let r : Bodies = bodies_of (map text (reverse todo)) in
+      let r : Bodies = bodies_of σ (map text (reverse todo)) in
       left-next met todo next
       ∙ ap (λ (c : Division). let b = with_first c r in let y : Left = record { bodies = finished met b.bodies; steps = b.steps } in y) e
 
@@ -231,7 +240,7 @@ module _ {P : Type 0} (text : P → T) where
   pair-bodies f (Some t) None m n r o met x e h = refl
   pair-bodies f (Some t) (Some u) m n r None met x e h = refl
   pair-bodies f (Some t) (Some u) m n r (Some ts) met x e h =
-      ap Some (ap (read text met) (sym (h t u ts)) ∙ sym (read-push met x (Some (t ∷ u ∷ ts))))
+      ap Some (ap (read text met) (sym (h t u ts)) ∙ sym (read-push text met x (Some (t ∷ u ∷ ts))))
 
   pair-steps : (f : List ℕ) (oa ob : Option Body) (m n : ℕ) (r : Bodies)
       → (with_first (joined f (record { tree = oa; steps = m }) (record { tree = ob; steps = n })) r).steps
@@ -240,44 +249,44 @@ module _ {P : Type 0} (text : P → T) where
   pair-steps f (Some t) None m n r = refl
   pair-steps f (Some t) (Some u) m n r = omega arith
 
-  left-parts : (met : List (BodyNode P)) (todo : List P) (a b : P) → left_of text met (todo ++ b ∷ a ∷ [])
+  left-parts : (met : List (BodyNode P)) (todo : List P) (a b : P) → left_of σ text met (todo ++ b ∷ a ∷ [])
       ≡ record {
         bodies = finished met
-            (with_first (divided [] (text a)) (with_first (divided [] (text b)) (bodies_of (map text (reverse todo))))).bodies;
-        steps = (with_first (divided [] (text a)) (with_first (divided [] (text b)) (bodies_of (map text (reverse todo))))).steps;
+            (with_first (divided σ (text a)) (with_first (divided σ (text b)) (bodies_of σ (map text (reverse todo))))).bodies;
+        steps = (with_first (divided σ (text a)) (with_first (divided σ (text b)) (bodies_of σ (map text (reverse todo))))).steps;
       }
   left-parts met todo a b =
-      ap (λ (ps : List P). let b = bodies_of (map text ps) in
+      ap (λ (ps : List P). let b = bodies_of σ (map text ps) in
       let x : Left = record { bodies = finished met b.bodies; steps = b.steps } in x) (reverse-append todo (b ∷ a ∷ []))
 
   -- a control construct
   pub left-pair : (met new : List (BodyNode P)) (todo more : List P) (next a b : P) (x : BodyNode P) (f : List ℕ)
-      → divided [] (text next) ≡ joined f (divided [] (text a)) (divided [] (text b))
+      → divided σ (text next) ≡ joined f (divided σ (text a)) (divided σ (text b))
       → ((t u : Body) (s : List Body) → took text x (t ∷ u ∷ s) ≡ Some (control f t u ∷ s)) → new ≡ met ++ x ∷ []
       → more ≡ todo ++ b ∷ a ∷ []
-      → left_of text met (todo ++ next ∷ []) ≡ step_before (left_of text new more)
+      → left_of σ text met (todo ++ next ∷ []) ≡ step_before (left_of σ text new more)
   left-pair met new todo more next a b x f e h n k =
-      let r : Bodies = bodies_of (map text (reverse todo)) in
-      let ca : Division = divided [] (text a) in
-      let cb : Division = divided [] (text b) in
+      let r : Bodies = bodies_of σ (map text (reverse todo)) in
+      let ca : Division = divided σ (text a) in
+      let cb : Division = divided σ (text b) in
       left-next met todo next
       ∙ (ap (λ (c : Division). let b = with_first c r in let y : Left = record { bodies = finished met b.bodies; steps = b.steps } in y) e
       ∙ (left-same (finished met (with_first (joined f ca cb) r).bodies) (finished (met ++ x ∷ []) (with_first ca (with_first cb r)).bodies)
       (with_first (joined f ca cb) r).steps (suc (with_first ca (with_first cb r)).steps)
       (pair-bodies f ca.tree cb.tree ca.steps cb.steps r r.bodies met x refl h) (pair-steps f ca.tree cb.tree ca.steps cb.steps r)
       ∙ (sym (ap step_before (left-parts (met ++ x ∷ []) todo a b))
-      ∙ (ap (λ (ns : List (BodyNode P)). step_before (left_of text ns (todo ++ b ∷ a ∷ []))) (sym n)
-      ∙ ap (λ (ps : List P). step_before (left_of text new ps)) (sym k)))))
+      ∙ (ap (λ (ns : List (BodyNode P)). step_before (left_of σ text ns (todo ++ b ∷ a ∷ []))) (sym n)
+      ∙ ap (λ (ps : List P). step_before (left_of σ text new ps)) (sym k)))))
 
   first-some : (o : Option Body) (m : ℕ) (r : Bodies) → 0 < m → 0 < (with_first (record { tree = o; steps = m }) r).steps
   first-some None m r h = h
   first-some (Some t) m r h = omega arith
 
-  pub left-some : (met : List (BodyNode P)) (todo : List P) (next : P) → 0 < (left_of text met (todo ++ next ∷ [])).steps
+  pub left-some : (met : List (BodyNode P)) (todo : List P) (next : P) → 0 < (left_of σ text met (todo ++ next ∷ [])).steps
   left-some met todo next =
       subst (λ (l : Left). 0 < l.steps) (sym (left-next met todo next))
-      (first-some (divided [] (text next)).tree (divided [] (text next)).steps (bodies_of (map text (reverse todo)))
-      (divided-some (text next)))
+      (first-some (divided σ (text next)).tree (divided σ (text next)).steps (bodies_of σ (map text (reverse todo)))
+      (divided-some σ (text next)))
 
   -- the walk begins with the whole
   start-bodies : (o : Option Body) (m : ℕ) → finished []
@@ -289,12 +298,12 @@ module _ {P : Type 0} (text : P → T) where
   start-steps None m = refl
   start-steps (Some t) m = omega arith
 
-  pub left-start : (at : P) → left_of text [] (at ∷ [])
-      ≡ record { bodies = option_map (λ t. Some (t ∷ [])) (divided [] (text at)).tree; steps = (divided [] (text at)).steps }
+  pub left-start : (at : P) → left_of σ text [] (at ∷ [])
+      ≡ record { bodies = option_map (λ t. Some (t ∷ [])) (divided σ (text at)).tree; steps = (divided σ (text at)).steps }
   left-start at =
-      let c : Division = divided [] (text at) in
-      left-same (finished [] (with_first c (bodies_of [])).bodies) (option_map (λ t. Some (t ∷ [])) c.tree)
-      (with_first c (bodies_of [])).steps c.steps (start-bodies c.tree c.steps) (start-steps c.tree c.steps)
+      let c : Division = divided σ (text at) in
+      left-same (finished [] (with_first c (bodies_of σ [])).bodies) (option_map (λ t. Some (t ∷ [])) c.tree)
+      (with_first c (bodies_of σ [])).steps c.steps (start-bodies c.tree c.steps) (start-steps c.tree c.steps)
 
 -- the places of the goals
 pub leaves-append : {P : Type 0} (xs ys : List (BodyNode P)) → leaves (xs ++ ys) ≡ leaves xs ++ leaves ys

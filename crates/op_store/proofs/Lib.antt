@@ -1,4 +1,5 @@
 mod BodyParts
+mod FollowedParts
 mod ConversionSteps
 mod ConversionPlaces
 mod BodyNodes
@@ -8,6 +9,8 @@ mod ProcedureLaws
 pub mod NamedProcedures
 mod Numbers
 mod BodyTerms
+mod BoundBodies
+mod FirstNames
 mod VariableCounts
 mod ConvertedTerm
 mod CommandReading

@@ -55,16 +55,17 @@ take-front (suc k) (suc n) [] l = refl
 take-front {A = A} (suc k) (suc n) (x ∷ xs) l = ap (λ (ys : List A). x ∷ ys) (take-front k n xs (omega arith))
 
 -- names that grow begin as before
-pub begins-more : (old new : List Text) → take 8 old ≡ first_names → take (length old) new ≡ old → take 8 new ≡ first_names
-begins-more old new b e =
-    let l : 8 ≤ length old = omega (arith, length-take 8 old, ap length b) in
-    sym (take-front 8 (length old) new l) ∙ (ap (take 8) e ∙ b)
+pub begins-more : (first old new : List Text) → take (length first) old ≡ first → take (length old) new ≡ old
+    → take (length first) new ≡ first
+begins-more first old new b e =
+    let l : length first ≤ length old = omega (arith, length-take (length first) old, ap length b) in
+    sym (take-front (length first) (length old) new l) ∙ (ap (take (length first)) e ∙ b)
 
 pub sound-more : (s : Stored) (names : List Text) → IsSound s → IsTable names → take (length s.names) names ≡ s.names
     → IsSound (with_names s names)
 sound-more s names h t e = record {
   names = t;
-  begins = begins-more s.names names h.begins e;
+  begins = begins-more first_names s.names names h.begins e;
   table = h.table;
   procedures = procedures-more (length s.names) (length names) s.procedures (names-more s.names names e) h.procedures;
 }

@@ -8,6 +8,7 @@ pub mod LoadExamples
 pub mod NumberedProcedures
 pub mod Queries
 pub mod Counted
+pub mod Divided
 pub mod Stored
 pub mod Snapshots
 pub mod inner

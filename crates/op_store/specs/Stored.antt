@@ -1,5 +1,5 @@
 -- What a store has, over the numbers of its names, and the world that this is.
-use Rattle.std.specs.Prelude.{◌≡◌, ℕ, suc, false, List, [], ◌∷◌, Bool, Option, Some, None, length, take, codes}
+use Rattle.std.specs.Prelude.{◌≡◌, ℕ, suc, false, List, [], ◌∷◌, ◌++◌, Bool, Option, Some, None, length, take, codes}
 use Rattle.op_logic.specs.Names.{IsTable}
 use Rattle.op_term.specs.Ops.{Table, iso_table}
 use Rattle.op_term.specs.Ops as ops
@@ -25,9 +25,22 @@ pub record Stored : Type 0 where
 abbrev pub database_of : Stored → Database
 database_of s = record { procedures = procedures_named s.names s.procedures; next = s.next; table = s.table; flags = s.flags }
 
--- the names that have the numbers 0 to 7: those of the control constructs (ISO/IEC 13211-1, 7.8), where call has any number of arguments
+-- the names that each store has first: those of the control constructs (ISO/IEC 13211-1, 7.8), where call has any number of arguments
+abbrev pub control_names : List Text
+control_names = codes "true" ∷ codes "fail" ∷ codes "false" ∷ codes "," ∷ codes ";" ∷ codes "->" ∷ codes "!" ∷ codes "call" ∷ []
+
+-- those of the builtins of control (7.8, 8.15 and 8.17)
+abbrev pub builtin_names : List Text
+builtin_names = codes "once" ∷ codes "\\+" ∷ codes "throw" ∷ codes "halt" ∷ []
+
+-- and those of the errors of these (7.12.2)
+abbrev pub error_names : List Text
+error_names =
+    codes "error" ∷ codes "opium" ∷ codes "instantiation_error" ∷ codes "type_error" ∷ codes "callable" ∷ codes "integer" ∷
+    codes "existence_error" ∷ codes "procedure" ∷ codes "/" ∷ []
+
 abbrev pub first_names : List Text
-first_names = codes "true" ∷ codes "fail" ∷ codes "false" ∷ codes "," ∷ codes ";" ∷ codes "->" ∷ codes "!" ∷ codes "call" ∷ []
+first_names = control_names ++ (builtin_names ++ error_names)
 
 -- at first: the operators of the standard, text in double quotes as codes, and unknown procedures are errors
 abbrev pub new_store : Locked → Stored
@@ -55,9 +68,9 @@ abbrev pub is_dynamic_procedure : Option Procedure → Bool
 is_dynamic_procedure None = false
 is_dynamic_procedure (Some p) = p.dynamic
 
--- the names begin with those of the control constructs, and those of the procedures and their clauses are among them
+-- the names begin with those that come first, and those of the procedures and their clauses are among them
 pub record IsSound (s : Stored) : Type 0 where
   pub names : IsTable s.names
-  pub begins : take 8 s.names ≡ first_names
+  pub begins : take (length first_names) s.names ≡ first_names
   pub table : ops.IsTable s.table
   pub procedures : AreNumberedProcedures (length s.names) s.procedures

@@ -11,6 +11,7 @@ mod terms;
 
 pub use bodies::body::Body;
 pub use bodies::body_fault::BodyFault;
+pub use bodies::body_in::body_in;
 pub use bodies::body_node::BodyNode;
 pub use bodies::convert::body_of;
 pub use goals::command_fault::CommandFault;

@@ -73,7 +73,7 @@ impl Store {
     ghost use Rattle.op_store.specs.Stored.{Stored, database_of, first_names, new_store, with_numbered_clause, numbered_clauses};
     ghost use Rattle.op_store.specs.Stored.{is_dynamic_procedure, IsSound};
 
-    /// A store without clauses, with the operators of the standard and the names of the control constructs.
+    /// A store without clauses, with the operators of the standard and the names that come first.
     pub fn new(alloc: Global, locked: Locked) -> Result<Store, Memory>
         ensures { IfOk result (λ s. s ≡ new_store locked) }
     {
@@ -94,7 +94,7 @@ impl Store {
     /// The names.
     pub fn symbols(&self) -> &Symbols
         ensures names { result.now ≡ self.now.names }
-        ensures begins { take 8 self.now.names ≡ first_names }
+        ensures begins { take (length first_names) self.now.names ≡ first_names }
     {
         &self.symbols
     }

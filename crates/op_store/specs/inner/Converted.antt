@@ -1,8 +1,8 @@
 -- The term of a converted body, over the numbers of names.
-use Rattle.std.specs.Prelude.{◌≡◌, ◌<◌, ℕ, List, ◌∷◌, length, map, codes}
+use Rattle.std.specs.Prelude.{◌≡◌, ◌<◌, ℕ, List, [], ◌∷◌, length, map, codes}
 use Rattle.op_logic.specs.Term.{Term, node, no_args, arg}
 use Rattle.op_trace.specs.Body.{pair}
-use Rattle.op_logic.specs.Names.{name_at, named}
+use Rattle.op_logic.specs.Names.{name_at, named, HasNames}
 use Rattle.op_term.specs.Places.{term_at}
 use Rattle.op_store.specs.declared.names.control_names.ControlNames.{ControlNames}
 
@@ -20,6 +20,11 @@ pub record AreControlNames (names : List (List ℕ)) (k : ControlNames) : Type 0
 -- the terms at some numbers, over texts
 abbrev pub texts_at : List (List ℕ) → List (Term ℕ) → List ℕ → List (Term (List ℕ))
 texts_at names made rs = map (λ r. named names (term_at made r)) rs
+
+-- they have names below n
+abbrev pub AreNamed : ℕ → List (Term ℕ) → List ℕ → Type 0
+AreNamed n made [] = Unit {0}
+AreNamed n made (r ∷ rs) = HasNames n (term_at made r) × AreNamed n made rs
 
 -- the first two terms are joined under a name
 abbrev pub paired : List ℕ → List (Term (List ℕ)) → List (Term (List ℕ))

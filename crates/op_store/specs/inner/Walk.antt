@@ -1,7 +1,10 @@
--- How a body is converted part by part: the parts that are still to be converted, and the nodes that were met, each control construct
--- before its parts.
+-- How a body is converted part by part, under bindings: the parts that are still to be converted, and the nodes that were met, each
+-- control construct before its parts.
 use Rattle.std.specs.Prelude.{ℕ, suc, ◌+◌, List, [], ◌∷◌, map, reverse, Option, Some, None, option_map, option_and_then, codes}
 use Rattle.op_logic.specs.Term.{Term}
+use Rattle.op_logic.specs.Bind.{Bindings}
+use Rattle.op_logic.specs.Laws.{rename_bindings}
+use Rattle.op_logic.specs.Names.{name_at, named}
 use Rattle.op_trace.specs.Body.{Body, goal, call, control, Division, divided}
 use Rattle.op_store.specs.declared.bodies.body_node.BodyNode.{BodyNode}
 use Rattle.op_store.specs.declared.bodies.body_node.BodyNode.TheVariants.{Goal, CallOf, And, Or, Then}
@@ -18,9 +21,9 @@ with_first d r =
       | Some b ↦ record { bodies = option_map (λ bs. b ∷ bs) r.bodies; steps = d.steps + r.steps }
     ]
 
-abbrev pub bodies_of : List (Term (List ℕ)) → Bodies
-bodies_of [] = record { bodies = Some []; steps = 0 }
-bodies_of (t ∷ ts) = with_first (divided [] t) (bodies_of ts)
+abbrev pub bodies_of : Bindings (List ℕ) → List (Term (List ℕ)) → Bodies
+bodies_of σ [] = record { bodies = Some []; steps = 0 }
+bodies_of σ (t ∷ ts) = with_first (divided σ t) (bodies_of σ ts)
 
 -- a node in front of the bodies behind it, of which a control construct takes two
 abbrev pub took : {P : Type 0} → (P → Term (List ℕ)) → BodyNode P → List Body → Option (List Body)
@@ -40,10 +43,14 @@ pub record Left : Type 0 where
   pub bodies : Option (Option (List Body))
   pub steps : ℕ
 
-abbrev pub left_of : {P : Type 0} → (P → Term (List ℕ)) → List (BodyNode P) → List P → Left
-left_of text met todo =
-    let c = bodies_of (map text (reverse todo)) in
+abbrev pub left_of : {P : Type 0} → Bindings (List ℕ) → (P → Term (List ℕ)) → List (BodyNode P) → List P → Left
+left_of σ text met todo =
+    let c = bodies_of σ (map text (reverse todo)) in
     record { bodies = option_map (λ s. read text met (Some s)) c.bodies; steps = c.steps }
+
+-- the same over the numbers of names
+abbrev pub left_in : {P : Type 0} → List (List ℕ) → Bindings ℕ → (P → Term ℕ) → List (BodyNode P) → List P → Left
+left_in names σ term met todo = left_of (rename_bindings (name_at names) σ) (λ p. named names (term p)) met todo
 
 abbrev pub step_before : Left → Left
 step_before l = record { bodies = l.bodies; steps = suc l.steps }

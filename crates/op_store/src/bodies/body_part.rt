@@ -2,7 +2,8 @@ ghost use Rattle.std.specs.Prelude.{◌≡◌, ◌<◌, ℕ, length};
 ghost use Rattle.op_logic.specs.Names.{HasNames, named};
 ghost use Rattle.op_store.specs.inner.BodyParts.{part_of_term, part_of_pair};
 
-use op_term::{Node, Symbols, Tree};
+use crate::bodies::followed_terms::FollowedTerms;
+use op_term::{Node, Symbols};
 
 /// What a term is as a part of a body (ISO/IEC 13211-1, 7.6.2): a control construct of two parts, a variable, another goal, or a number,
 /// which is no goal.
@@ -32,12 +33,12 @@ fn pair_part(name: &str) -> Part
 }
 
 /// What the term at a place is.
-pub(crate) fn part_of<T: Tree>(tree: &T, at: &T::At, symbols: &Symbols) -> Part
-    requires place { T.IsPlace tree.now at.now }
-    requires names { HasNames (length symbols.now) (T.term tree.now at.now) }
-    ensures { result ≡ part_of_term (named symbols.now (T.term tree.now at.now)) }
+pub(crate) fn part_of<T: FollowedTerms>(terms: &T, at: &T::At, symbols: &Symbols) -> Part
+    requires place { T.IsPlace terms.now at.now }
+    requires names { HasNames (length symbols.now) (T.term terms.now at.now) }
+    ensures { result ≡ part_of_term (named symbols.now (T.term terms.now at.now)) }
 {
-    match tree.node(at) {
+    match terms.node(at) {
         Node::Var(_) => Part::Variable,
         Node::Int(_) => Part::Number,
         Node::Atom(_) => Part::Goal,

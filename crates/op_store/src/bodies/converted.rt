@@ -8,6 +8,7 @@ ghost use Rattle.op_store.specs.Counted.{node_variables};
 use crate::bodies::body_fault::BodyFault;
 use crate::bodies::build_body::build_body;
 use crate::bodies::convert;
+use crate::bodies::followed_terms::Unbound;
 use crate::names::control_names::known_control_names;
 use op_base::Memory;
 use op_bind::nodes_of;
@@ -30,7 +31,8 @@ pub(crate) fn converted_term<T: Tree>(
 {
     let known = known_control_names(symbols)?;
     let mut fuel = Fuel::new(u64::MAX);
-    match convert::nodes_of(alloc, tree, at, symbols, &mut fuel) {
+    let terms = Unbound { tree };
+    match convert::nodes_of(alloc, &terms, at, symbols, &mut fuel) {
         Ok(met) => Ok(Some(build_body(alloc, tree, known, met)?)),
         Err(BodyFault::NotCallable) => Ok(None),
         Err(_) => Err(Memory),

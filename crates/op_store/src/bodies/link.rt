@@ -9,7 +9,8 @@ use crate::bodies::body_node::BodyNode;
 use op_base::Memory;
 use std::alloc::Global;
 
-pub(crate) fn pop_two(stack: &mut Vec<u64>) -> (u64, u64)
+/// What stands last, and what stands before it.
+pub(crate) fn pop_two<P: Copy>(stack: &mut Vec<P>) -> (P, P)
     requires { 2 ≤ length stack.old.items }
     ensures { reverse stack.old.items ≡ result.0 ∷ result.1 ∷ reverse stack.new.items }
 {

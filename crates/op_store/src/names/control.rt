@@ -1,4 +1,5 @@
-//! The names of the control constructs (ISO/IEC 13211-1, 7.8), by the numbers that they have in every store.
+//! The names of the control constructs (ISO/IEC 13211-1, 7.8), of the builtins of control (8.15 and 8.17) and of their errors (7.12.2), by
+//! the numbers that they have in every store.
 
 use op_term::Sym;
 
@@ -18,3 +19,29 @@ pub const ARROW: Sym = Sym(5);
 pub const CUT: Sym = Sym(6);
 /// `call`, with any number of arguments.
 pub const CALL: Sym = Sym(7);
+/// `once`.
+pub const ONCE: Sym = Sym(8);
+/// `\+`.
+pub const NOT: Sym = Sym(9);
+/// `throw`.
+pub const THROW: Sym = Sym(10);
+/// `halt`.
+pub const HALT: Sym = Sym(11);
+/// `error`, the name of error terms.
+pub const ERROR: Sym = Sym(12);
+/// `opium`, the second argument of error terms.
+pub const OPIUM: Sym = Sym(13);
+/// `instantiation_error`.
+pub const INSTANTIATION_ERROR: Sym = Sym(14);
+/// `type_error`.
+pub const TYPE_ERROR: Sym = Sym(15);
+/// `callable`.
+pub const CALLABLE: Sym = Sym(16);
+/// `integer`.
+pub const INTEGER: Sym = Sym(17);
+/// `existence_error`.
+pub const EXISTENCE_ERROR: Sym = Sym(18);
+/// `procedure`.
+pub const PROCEDURE: Sym = Sym(19);
+/// `/`.
+pub const SLASH: Sym = Sym(20);

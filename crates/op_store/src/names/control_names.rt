@@ -1,7 +1,9 @@
-ghost use Rattle.std.specs.Prelude.{◌≡◌, length, take, IfOk};
+ghost use Rattle.std.specs.Prelude.{◌≡◌, ℕ, List, length, take, IfOk};
 ghost use Rattle.op_logic.specs.Names.{IsTable};
+ghost use Rattle.op_store.specs.Stored.{first_names};
 ghost use Rattle.op_store.specs.inner.Converted.{AreControlNames};
 
+use crate::names::control::{ARROW, CALL, COMMA, SEMICOLON};
 use op_base::Memory;
 use op_term::{Sym, Symbols};
 
@@ -30,4 +32,16 @@ pub(crate) fn known_control_names(symbols: &mut Symbols) -> Result<ControlNames,
         arrow,
         call,
     })
+}
+
+/// Their numbers in every store.
+pub(crate) fn first_control_names() -> ControlNames
+    ensures { (names : List (List ℕ)) → take (length first_names) names ≡ first_names → AreControlNames names result }
+{
+    ControlNames {
+        comma: COMMA,
+        semicolon: SEMICOLON,
+        arrow: ARROW,
+        call: CALL,
+    }
 }

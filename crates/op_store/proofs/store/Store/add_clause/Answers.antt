@@ -18,6 +18,13 @@ use Rattle.op_store.proofs.Soundness.{numbered-made, head-counted, body-counted,
 use Rattle.op_store.proofs.ConvertedTerm.{kept-has}
 use Rattle.op_store.proofs.store.Store.add_clause.Goals as goal
 
+pub is_locked-requires : goal.is_locked-requires
+is_locked-requires g c =
+    let names : List Text = c.body_term.new.self.names in
+    let head = g.T.Tree.term c.args.tree.now c.args.head.now in
+    indicator-below (length names) head c.in-Some.pi (sym c.in-Some.ensures)
+    (kept-has c.args.self.now.names names head c.body_term.ensures.names c.requires.head_names)
+
 pub returns-then-is_locked-clause-tells : goal.returns-then-is_locked-clause-tells
 returns-then-is_locked-clause-tells g c =
     let names : List Text = c.body_term.new.self.names in

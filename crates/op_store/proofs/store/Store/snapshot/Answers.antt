@@ -9,7 +9,7 @@ use Rattle.op_store.specs.Stored.{Stored, database_of}
 use Rattle.op_store.specs.NumberedProcedures.{indicator_named, clause_named, procedure_named}
 use Rattle.op_store.proofs.NamedProcedures.{found-named}
 use Rattle.op_store.proofs.Soundness.{procedure-at}
-use Rattle.op_store.specs.NumberedProcedures.{IsNumberedClause, pi_of, numbered_procedure_in}
+use Rattle.op_store.specs.NumberedProcedures.{IsNumberedClause, pi_of}
 use Rattle.op_store.proofs.AddedClauses.{indicator-of-named}
 use Rattle.op_logic.specs.Term.{Term}
 use Rattle.op_logic.specs.Names.{named}
