@@ -13,7 +13,7 @@ use Rattle.op_machine.specs.declared.core_state.Core.{Core}
 use Rattle.op_machine.specs.declared.core_state.Seen.{Seen}
 use Rattle.op_machine.specs.declared.core_state.Mode.{Mode}
 use Rattle.op_machine.specs.declared.core_state.Mode.TheVariants as mode
-use Rattle.op_machine.specs.declared.core_state.Ending.TheVariants as outcome
+use Rattle.op_machine.specs.declared.core_state.Outcome.TheVariants as outcome
 use Rattle.op_machine.specs.declared.core_state.Step.{Step}
 use Rattle.op_machine.specs.declared.core_state.Step.TheVariants as step
 use Rattle.op_bind.specs.declared.places.Clause.{Clause as NumberedClause}
@@ -39,6 +39,7 @@ good-at c steps q good at = record {
   mode = at;
   values = good.values;
   failure = good.failure;
+  ball = good.ball;
   boxes = good.boxes;
   boxed = good.boxed;
 }

@@ -1,22 +1,23 @@
 -- What the parts of a machine come to is what its calls answer.
 use Rattle.std.proofs.Common.{◌≡◌, ℕ, Bool, false, List, [], ◌∷◌, refl, sym, ap, ◌∙◌, subst, append-nil}
 use Rattle.op_trace.specs.declared.barrier.Barrier.TheVariants.{Call}
+use Rattle.op_trace.specs.Database.{Text}
 use Rattle.op_trace.specs.World.{World, Turn, Goal, loaded}
 use Rattle.op_trace.specs.Outside.{Outside, no_outside, Beyond, Taking, nothing, at}
-use Rattle.op_trace.specs.Act.{Setup, setup_for}
-use Rattle.op_trace.specs.Visit.{Verdict, Failed, CutTo, Stopped, Spent, Visited, gives, with_turns, and_then, visit}
+use Rattle.op_trace.specs.Act.{Setup}
+use Rattle.op_trace.specs.Builtins.{setup_for}
+use Rattle.op_trace.specs.Visit.{Verdict, Failed, CutTo, Thrown, Stopped, Halted, Spent, Visited, gives, with_turns, and_then, visit}
 use Rattle.op_trace.specs.Ending as ending
 use Rattle.op_trace.specs.Run.{ran, run, started, ending_of}
 use Rattle.op_logic.specs.Term.{Term}
 use Rattle.op_machine.specs.declared.core_state.Core.{Core}
-use Rattle.op_machine.specs.declared.core_state.Ending.{Ending}
-use Rattle.op_machine.specs.declared.core_state.Ending.TheVariants as outcome
+use Rattle.op_machine.specs.declared.turn.Ending.{Ending}
 use Rattle.op_machine.specs.declared.turn.Last.{Last}
 use Rattle.op_machine.specs.declared.turn.Turn as declared
 use Rattle.op_machine.specs.declared.turn.Turn.TheVariants as turn
 use Rattle.op_store.specs.Stored.{Stored, database_of}
 use Rattle.op_machine.specs.Program.{goal_named}
-use Rattle.op_machine.specs.Meaning.{state_of, world_in, verdict_of}
+use Rattle.op_machine.specs.Meaning.{state_of, world_in}
 use Rattle.op_machine.specs.Resume.{State, at_top, owed, resume}
 use Rattle.op_machine.specs.Outer.{state_at}
 use Rattle.op_machine.specs.Host.{IsNothing}
@@ -28,6 +29,8 @@ ended : (ts : List Turn) (r : Verdict) (w : World) → ran (with_turns ts (at_to
     ≡ record { turns = ts; ending = ending_of r; world = w }
 ended ts Failed w = ap (λ (x : List Turn). record { turns = x; ending = ending.Failed; world = w }) (append-nil ts)
 ended ts (CutTo m) w = ap (λ (x : List Turn). record { turns = x; ending = ending.Failed; world = w }) (append-nil ts)
+ended ts (Thrown b p) w = ap (λ (x : List Turn). record { turns = x; ending = ending.Thrown b; world = w }) (append-nil ts)
+ended ts (Halted n) w = ap (λ (x : List Turn). record { turns = x; ending = ending.Halted n; world = w }) (append-nil ts)
 ended ts Stopped w = ap (λ (x : List Turn). record { turns = x; ending = ending.Stopped; world = w }) (append-nil ts)
 ended ts Spent w = ap (λ (x : List Turn). record { turns = x; ending = ending.Spent; world = w }) (append-nil ts)
 
@@ -45,13 +48,9 @@ begun-run t g n names b w c l f h out o =
     ∙ (ap (λ (x : State). ran (owed s (state_at out o x))) h.state
     ∙ resume-none s (visit s (Goal (goal_named t g) (Call 0) ∷ []) [] (started n (at out o (loaded (database_of t))))))
 
-ending-same : (e : Ending) → ending_of (verdict_of e) ≡ ending_for e
-ending-same outcome.Stopped = refl
-ending-same outcome.Failed = refl
-ending-same outcome.Spent = refl
-
-only-ending : (e : Ending) (w : World) → ran (gives (verdict_of e) w) ≡ only_ending e w
-only-ending e w = ap (λ (x : ending.Ending). record { turns = []; ending = x; world = w }) (ending-same e)
+only-ending : (names : List Text) (v : Verdict) (e : Ending) (w : World) → ending_of v ≡ ending_for names e
+    → ran (gives v w) ≡ only_ending names e w
+only-ending names v e w is = ap (λ (x : ending.Ending). record { turns = []; ending = x; world = w }) is
 
 -- over the same outside, with nothing written
 abbrev pub AnswersOver : declared.Turn → Kept → Kept → Outside → List ℕ → Type 0
@@ -62,8 +61,14 @@ pub turned-answers : (old new : Core) (l : Last) (f : Bool) (t : declared.Turn) 
 unfolding to_come
 turned-answers old new l f turn.Event h g o = (ap ran (h.0.owed g o), refl, h.0.count)
 turned-answers old new l f turn.Solution h g o = (ap ran (h.owed g o), refl, h.count)
-turned-answers old new l f (turn.Ended e) h g o =
-    (ap ran (h.owed g o) ∙ only-ending e (at g o (world_in new)), sym (ap ran (h.walked.owed g o)), refl, refl, h.walked.count)
+turned-answers old new l f (turn.Ended e) h g o = (
+  ap ran (h.owed g o) ∙ only-ending new.store.names h.verdict e (at g o (world_in new)) h.is,
+  sym (ap ran
+      (h.walked.owed g o)),
+  refl,
+  refl,
+  h.walked.count,
+)
 
 -- a host of which nothing was asked
 pub goes-still : (t : declared.Turn) (old new : Kept) (reach : Taking → List ℕ → Type 0) (out : Beyond) → reach nothing []

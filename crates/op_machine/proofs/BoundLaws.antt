@@ -7,14 +7,17 @@ use Rattle.op_logic.specs.Bind.{Bindings, solve, unify, Solved as Result}
 use Rattle.op_trace.specs.declared.barrier.Barrier.{Barrier}
 use Rattle.op_trace.specs.declared.barrier.Barrier.TheVariants.{Call}
 use Rattle.op_trace.specs.Database.{Text, text_eq, Clause}
-use Rattle.op_trace.specs.World.{World, Tries, First, Item, Goal, Cut, Exit, Try, open_boxes}
-use Rattle.op_trace.specs.Act.{Yield, Fails, Gives, Gives_again, Act, Setup}
-use Rattle.op_trace.specs.Visit.{Stopped, Control, TrueGoal, FailGoal, CutGoal, Conjunction, Disjunction, IfThenElse, BoxedGoal, control}
-use Rattle.op_trace.specs.Visit.{Inside, Clauses, Tried, inside, counted_as, is_true, entered, Choice, Redo, Branch, More, Again, Fail}
-use Rattle.op_trace.specs.Visit.{Condition}
+use Rattle.op_trace.specs.World.{World, Execution, Item, Goal, Cut, Exit, Execute, open_boxes}
+use Rattle.op_trace.specs.Act.{Yield, Fails, Succeeds, Succeeds_again, Runs, Throws, Halts, Act, Setup}
+use Rattle.op_trace.specs.declared.port.Port.TheVariants as port
+use Rattle.op_trace.specs.Visit.{with_event, is_open, around, Stopped, Control, TrueGoal, FailGoal, CutGoal}
+use Rattle.op_trace.specs.Visit.{Conjunction, Disjunction, IfThenElse, BoxedGoal, control}
+use Rattle.op_trace.specs.Visit.{Inside, Clauses, WithoutProcedure, inside, counted_as, is_true, entered, Choice, Redo}
+use Rattle.op_trace.specs.Visit.{Branch, More, Again, Fail, Condition}
 use Rattle.op_trace.proofs.WalkSteps.{IsLess, within-less}
-use Rattle.op_machine.specs.Resume.{stays, goes, keep, with_more, State, Forward, Backward, Over, Moved, paid, chosen, head_unified, tried}
-use Rattle.op_machine.specs.Resume.{branched, entered_state, acted, yielded, tried_again, move}
+use Rattle.op_machine.specs.Resume.{stays, goes, keep, with_more, State, Forward, Backward, Throwing, Over}
+use Rattle.op_machine.specs.Resume.{Moved, paid, chosen, head_unified, tried}
+use Rattle.op_machine.specs.Resume.{branched, entered_state, acted, yielded, executed_again, showing, leaving, move}
 use Rattle.op_machine.specs.inner.Bounds.{pending, IsNested, AreNested, event_bound, Counts, Counted}
 
 -- the bound rises with the steps
@@ -38,7 +41,7 @@ nested-more n m [] h i = tt
 nested-more n m (Goal t b ∷ J) h i = nested-more n m J h i
 nested-more n m (Cut b ∷ J) h i = (i.0, nested-more n m J h i.1)
 nested-more n m (Exit k g ∷ J) h i = (i.0, omega arith, nested-more n m J h i.2)
-nested-more n m (Try t k g ∷ J) h i = (i.0, omega arith, nested-more n m J h i.2)
+nested-more n m (Execute t k g ∷ J) h i = (i.0, omega arith, nested-more n m J h i.2)
 
 pub all-nested-more : (n m : ℕ) (K : List Choice) → n ≤ m → AreNested n K → AreNested m K
 all-nested-more n m [] h a = tt
@@ -55,7 +58,7 @@ nested-length n [] i = omega arith
 nested-length n (Goal t b ∷ J) i = nested-length n J i
 nested-length n (Cut b ∷ J) i = nested-length n J i.1
 nested-length n (Exit k g ∷ J) i = omega (arith, i.0, i.1)
-nested-length n (Try t k g ∷ J) i = omega (arith, i.0, i.1)
+nested-length n (Execute t k g ∷ J) i = omega (arith, i.0, i.1)
 
 pub pending-below : (c : Choice) (K : List Choice) → pending K ≤ pending (c ∷ K)
 pending-below (Redo k g σ J) K = omega arith
@@ -122,7 +125,7 @@ pub box-counted : (i : Inside) (s : Setup) (k : ℕ) (g : Term Text) (J : List I
     → Counted s (entered_state i k g J K σ w)
 box-counted (Clauses cs) s k g J K σ w counts sol ev nest all =
     (counts, omega (arith, ev, more-pending cs k g σ J K), omega (arith, sol), more-nested w.calls cs k g σ J K nest all)
-box-counted Tried s k g J K σ w counts sol ev nest all = (counts, ev, sol, nest, all)
+box-counted WithoutProcedure s k g J K σ w counts sol ev nest all = (counts, ev, sol, nest, all)
 
 -- a goal of which a step was paid, from n steps
 pub chosen-counted : (q : Control) (s : Setup) (n : ℕ) (t : Term Text) (m : Barrier) (J : List Item) (K : List Choice) (σ : Bindings Text)
@@ -274,36 +277,55 @@ acted-counted true s a k g J K σ w test counts sol ev nest all = go a.yield
       omega (arith, sol),
       all,
     )
-    go (Gives τ) = (
+    go (Succeeds τ) = (
       record { steps = fits; calls = omega (arith, counts.calls); conditions = omega (arith, counts.conditions) },
       omega (arith, ev, more),
       omega (arith, sol),
       nest,
       all,
     )
-    go (Gives_again τ x) = (
+    go (Succeeds_again τ x) = (
       record { steps = fits; calls = omega (arith, counts.calls); conditions = omega (arith, counts.conditions) },
       omega (arith, ev, more),
       omega (arith, sol),
       nest,
       (nest, all),
     )
+    go (Runs b) = (
+      record { steps = fits; calls = omega (arith, counts.calls); conditions = omega (arith, counts.conditions) },
+      omega (arith, ev, more),
+      omega (arith, sol),
+      nest,
+      all,
+    )
+    go (Throws b) = (
+      record { steps = fits; calls = omega (arith, counts.calls); conditions = omega (arith, counts.conditions) },
+      omega (arith, ev, more),
+      omega (arith, sol),
+      all,
+    )
+    go (Halts i) = (
+      record { steps = fits; calls = omega (arith, counts.calls); conditions = omega (arith, counts.conditions) },
+      omega (arith, ev, more),
+      omega (arith, sol),
+    )
 acted-counted false s a k g J K σ w test counts sol ev nest all =
     let more : event_bound w.steps ≤ event_bound s.budget = bound-same w.steps s.budget counts.steps in (
       record {
         steps = omega arith;
         calls = omega (arith, counts.steps, counts.calls);
-        conditions = omega (arith, counts.steps, counts.conditions);
+        conditions = omega
+            (arith, counts.steps, counts.conditions);
       },
       omega (arith, ev, more),
       omega (arith, sol, counts.steps),
     )
 
 -- a further try
-pub again-counted : (s : Setup) (t : Tries) (k : ℕ) (g : Term Text) (σ : Bindings Text) (J : List Item) (K : List Choice) (w : World)
+pub again-counted : (s : Setup) (t : Execution) (k : ℕ) (g : Term Text) (σ : Bindings Text) (J : List Item) (K : List Choice) (w : World)
     → Counts s w → w.solutions ≤ suc w.steps → w.events + pending K ≤ event_bound w.steps
     → IsNested w.calls (Exit k g ∷ J) → AreNested w.calls K
-    → Counted s (tried_again s t k g σ J K w).state
+    → Counted s (executed_again s t k g σ J K w).state
 again-counted s t k g σ J K w counts sol ev nest all =
     paid-counted (nat_le (w.steps + 1) s.budget) s 1 w _ refl counts (omega (arith, ev)) sol
     (λ fits.
@@ -316,6 +338,22 @@ again-counted s t k g σ J K w counts sol ev nest all =
       all,
     ))
 
+pub leaving-counted : (s : Setup) (b : Term Text) (o : List ℕ) (K : List Choice) (w : World)
+    → Counts s w → w.events + pending K ≤ event_bound w.steps → w.solutions ≤ suc w.steps → AreNested w.calls K
+    → Counted s (leaving b o K w).state
+leaving-counted s b o [] w c e q a = (c, omega (arith, e), q)
+leaving-counted s b o (Redo k g σ J ∷ K) w c e q a = leaving-counted s b o K w c (omega (arith, e)) q a.1
+leaving-counted s b o (Branch t m σ J ∷ K) w c e q a = leaving-counted s b o K w c e q a.1
+leaving-counted s b o (More cs k g σ J ∷ K) w c e q a = leaving-counted s b o K w c e q a.1
+leaving-counted s b o (Again t k g σ J ∷ K) w c e q a = leaving-counted s b o K w c e q a.1
+leaving-counted s b o (Condition n t m σ J ∷ K) w c e q a = leaving-counted s b o K w c e q a.1
+leaving-counted s b o (Fail k g σ J ∷ K) w c e q a = go (is_open k o) (leaving-counted s b o K w c (omega (arith, e)) q a.1)
+  where
+    go : (t : Bool) → Counted s (leaving b o K w).state
+        → Counted s (if t then showing port.Exception k g σ J w (Throwing b (around k o) K (with_event w)) else leaving b o K w).state
+    go true l = (record { steps = c.steps; calls = c.calls; conditions = c.conditions }, omega (arith, e), q, a.1)
+    go false l = l
+
 pub move-counted : (s : Setup) (t : State) → Counted s t → Counted s (move s t).state
 move-counted s (Forward [] K σ w) h = go (w.solutions + 1 == s.wanted)
   where
@@ -326,7 +364,7 @@ move-counted s (Forward [] K σ w) h = go (w.solutions + 1 == s.wanted)
 move-counted s (Forward (Exit k g ∷ J) K σ w) h =
     (record { steps = h.0.steps; calls = h.0.calls; conditions = h.0.conditions }, omega arith, h.2, h.3.2, (h.3, h.4))
 move-counted s (Forward (Cut m ∷ J) K σ w) h = (h.0, omega (arith, h.1, keep-pending m K), h.2, h.3.1, keep-nested w.calls m K h.4)
-move-counted s (Forward (Try t k g ∷ J) K σ w) h =
+move-counted s (Forward (Execute t k g ∷ J) K σ w) h =
     let a : Act = s.act (s.budget - w.steps) t g σ w in
     acted-counted (nat_le (w.steps + a.cost) s.budget) s a k g J K σ w refl h.0 h.2 h.1 h.3 h.4
 move-counted s (Forward (Goal t m ∷ J) K σ w) h =
@@ -346,4 +384,5 @@ move-counted s (Backward (More [] k g σ J ∷ K) w) h =
 move-counted s (Backward (More (c ∷ cs) k g σ J ∷ K) w) h =
     tried-counted s c k g σ J (with_more cs k g σ J K) w h.0 h.2 (omega (arith, h.1, more-pending cs k g σ J K)) h.3.0
     (more-nested w.calls cs k g σ J K h.3.0 h.3.1)
+move-counted s (Throwing b o K w) h = leaving-counted s b o K w h.0 h.1 h.2 h.3
 move-counted s (Over r w) h = h

@@ -31,7 +31,7 @@ tried-along : (B C : List BoxFrame) (L M : List (List Item)) (q : ChoiceKind) (c
 tried-along B C L M (kind.Redo k) c g n l o a = tt
 tried-along B C L M (kind.Branch m) c g n l o a = tt
 tried-along B C L M (kind.More k rs i) c g n l o a = called-along B C L M c c k g n (omega arith) l (o k a.given) a
-tried-along B C L M (kind.Fail k) c g n l o a = tt
+tried-along B C L M (kind.Fail k) c g n l o a = a
 tried-along B C L M (kind.Condition d m) c g n l o a = tt
 
 -- so do choice points, where the continuations and the chains that were there stay
@@ -77,14 +77,14 @@ entered-given : (B : List BoxFrame) (c : ℕ) (L : List (List Item)) (i : Item) 
 entered-given B c L (item.Goal g m) n a h e = a.given n h
 entered-given B c L (item.Cut m) n a h e = a.given n h
 entered-given B c L (item.Exit k g) n a h e = e.given
-entered-given B c L (item.Try k g) n a h e = e.given
+entered-given B c L (item.Execute k g) n a h e = e.given
 
 entered-chain : (B : List BoxFrame) (c : ℕ) (L : List (List Item)) (i : Item) (n : ℕ) → AreBoxes B c L → n < length L → IsEntered B c L i n
     → open_from B (innermost (i ∷ continuation_in L n)) ≡ exits (i ∷ continuation_in L n)
 entered-chain B c L (item.Goal g m) n a h e = a.chains n h
 entered-chain B c L (item.Cut m) n a h e = a.chains n h
 entered-chain B c L (item.Exit k g) n a h e = e.chain
-entered-chain B c L (item.Try k g) n a h e = e.chain
+entered-chain B c L (item.Execute k g) n a h e = e.chain
 
 pub longer-boxes : (B : List BoxFrame) (c : ℕ) (L : List (List Item)) (i : Item) (n : ℕ) → AreBoxes B c L → n < length L
     → IsEntered B c L i n
@@ -93,6 +93,20 @@ longer-boxes B c L i n a h e = record {
   numbers = a.numbers;
   given = longer-each (λ (m : ℕ) (I : List Item). innermost I ≤ c) L i n a.given (entered-given B c L i n a h e);
   chains = longer-each (λ (m : ℕ) (I : List Item). open_from B (innermost I) ≡ exits I) L i n a.chains (entered-chain B c L i n a h e);
+}
+
+-- the first item of a continuation is that of a box that was called before the rest
+pub first-entered : (B : List BoxFrame) (c : ℕ) (L : List (List Item)) (n : ℕ) (i : Item) (m : ℕ) → AreBoxes B c L → n < length L
+    → continuation_in L n ≡ i ∷ continuation_in L m → IsEntered B c L i m
+first-entered B c L n (item.Goal g b) m a h e = tt
+first-entered B c L n (item.Cut b) m a h e = tt
+first-entered B c L n (item.Exit k g) m a h e = record {
+  given = subst (λ (I : List Item). innermost I ≤ c) e (a.given n h);
+  chain = subst (λ (I : List Item). open_from B (innermost I) ≡ exits I) e (a.chains n h);
+}
+first-entered B c L n (item.Execute k g) m a h e = record {
+  given = subst (λ (I : List Item). innermost I ≤ c) e (a.given n h);
+  chain = subst (λ (I : List Item). open_from B (innermost I) ≡ exits I) e (a.chains n h);
 }
 
 -- a box is called before a continuation

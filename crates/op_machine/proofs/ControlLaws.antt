@@ -1,5 +1,5 @@
 -- Which control construct a goal is, by the numbers of names.
-use Rattle.std.proofs.Common.{◌≡◌, ◌≢◌, ℕ, suc, ◌<◌, Bool, true, false, List, take, codes, refl, sym, ap, ◌∙◌, subst, arith}
+use Rattle.std.proofs.Common.{◌≡◌, ◌≢◌, ℕ, ◌<◌, Bool, true, false, List, length, take, codes, refl, sym, ap, ◌∙◌, subst, arith}
 use Rattle.std.specs.Bool.{OnTrue, OnFalse}
 use Rattle.std.proofs.lemmas.Slice.Eq.{bytes_eq-Decides}
 use Rattle.op_logic.proofs.BoolCases.{by_order, by_test}
@@ -19,7 +19,7 @@ use Rattle.op_machine.specs.inner.GoalKinds.{control_of_kind, IsPair}
 use Rattle.op_machine.specs.declared.goal_kind.GoalKind.{GoalKind}
 use Rattle.op_machine.specs.declared.goal_kind.GoalKind.TheVariants as kinds
 
-by_equal : {P : Type 0} (m n : ℕ) → (m ≡ n → P) → (m ≢ n → P) → P
+pub by_equal : {P : Type 0} (m n : ℕ) → (m ≡ n → P) → (m ≢ n → P) → P
 by_equal m n f g =
     by_order m n (λ l. g (λ e. omega arith)) (λ h. by_order n m (λ l. g (λ e. omega arith)) (λ k. f (omega arith)))
 
@@ -32,15 +32,16 @@ names-differ names m n t ne =
     (λ e. e)
 
 -- the first names are there
-first-name : (names : List Text) (k : ℕ) → take 8 names ≡ first_names → k < 8 → name_at names k ≡ name_at first_names k
+pub first-name : (names : List Text) (k : ℕ) → take (length first_names) names ≡ first_names → k < 21
+    → name_at names k ≡ name_at first_names k
 first-name names k b h = name-more first_names names b k h
 
 -- a name's text is that of number k exactly where it is number k
-module _ (t : Stored) (table : IsTable t.names) (begins : take 8 t.names ≡ first_names) where
-  same-text : (n k : ℕ) (x : Text) → k < 8 → name_at first_names k ≡ x → n ≡ k → text_eq (name_at t.names n) x ≡ true
+module _ (t : Stored) (table : IsTable t.names) (begins : take (length first_names) t.names ≡ first_names) where
+  pub same-text : (n k : ℕ) (x : Text) → k < 21 → name_at first_names k ≡ x → n ≡ k → text_eq (name_at t.names n) x ≡ true
   same-text n k x h e q = text_eq-same _ _ (ap (name_at t.names) q ∙ (first-name t.names k begins h ∙ e))
 
-  other-text : (n k : ℕ) (x : Text) → k < 8 → name_at first_names k ≡ x → n ≢ k → text_eq (name_at t.names n) x ≡ false
+  pub other-text : (n k : ℕ) (x : Text) → k < 21 → name_at first_names k ≡ x → n ≢ k → text_eq (name_at t.names n) x ≡ false
   other-text n k x h e ne = subst (λ (y : Text). text_eq (name_at t.names n) y ≡ false) (first-name t.names k begins h ∙ e)
       (names-differ t.names n k table ne)
 

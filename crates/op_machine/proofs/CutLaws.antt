@@ -8,7 +8,7 @@ use Rattle.op_trace.specs.Visit as visit
 use Rattle.op_machine.specs.declared.choice_points.ChoiceKind.{ChoiceKind}
 use Rattle.op_machine.specs.declared.choice_points.ChoiceKind.TheVariants as kind
 use Rattle.op_store.specs.Stored.{Stored}
-use Rattle.op_machine.specs.declared.choice_points.Held.{Held}
+use Rattle.op_machine.specs.declared.choice_points.Alternative.{Alternative}
 use Rattle.op_machine.specs.declared.core_state.Core.{Core}
 use Rattle.op_machine.specs.Meaning.{Frame, Level, level_at, level_in, choice_point_by, choice_point_of, choice_points_of}
 use Rattle.op_machine.specs.Meaning.{choice_points_in}
@@ -91,10 +91,10 @@ keep-choice_points t floor v (f ∷ F) m a =
         (keep-are t floor (level_at f v) F m a.3) ∙ below
 
 -- a cut to a number of choice points keeps those of its barrier
-pub cut-keeps : (old new : Framed Held) (F : List Frame) (n : ℕ) (m : Barrier) → new ≡ record old { choices = take n old.choices }
+pub cut-keeps : (old new : Framed Alternative) (F : List Frame) (n : ℕ) (m : Barrier) → new ≡ record old { choices = take n old.choices }
     → F ≡ old.choices → reverse (take n F) ≡ keep_frames m (reverse F) → reverse new.choices ≡ keep_frames m (reverse old.choices)
 cut-keeps old new F n m cut same kept =
-    ap (λ (x : Framed Held). reverse x.choices) cut
+    ap (λ (x : Framed Alternative). reverse x.choices) cut
     ∙ subst (λ (xs : List Frame). reverse (take n xs) ≡ keep_frames m (reverse xs)) same kept
 
 -- the machine with the choice points that a cut keeps
@@ -116,6 +116,7 @@ cut_moved-good c d m good e same kept =
       mode = good.mode;
       values = good.values;
       failure = good.failure;
+      ball = good.ball;
       boxes = subst (λ (B : List BoxFrame). AreBoxes B c.calls c.continuations) (sym same) good.boxes;
       boxed = subst (λ (B : List BoxFrame). AreBoxed B c.continuations c.calls (length c.continuations) (reverse d.frames.choices))
           (sym same)

@@ -15,12 +15,12 @@ use Rattle.op_store.specs.Stored.{Stored}
 use Rattle.op_machine.specs.Meaning.{Level, level_in, item_term, items_now, goal_now, bindings_now, world_in, event_seen}
 use Rattle.op_machine.proofs.NamedTerms.{value-named}
 
-open_boxes-items : (t : Stored) (v : Level) (I : List Item) → open_boxes (map (item_term t v) I) ≡ opened I
+pub open_boxes-items : (t : Stored) (v : Level) (I : List Item) → open_boxes (map (item_term t v) I) ≡ opened I
 open_boxes-items t v [] = refl
 open_boxes-items t v (item.Goal f m ∷ I) = open_boxes-items t v I
 open_boxes-items t v (item.Cut m ∷ I) = open_boxes-items t v I
 open_boxes-items t v (item.Exit k g ∷ I) = ap (λ ks. k ∷ ks) (open_boxes-items t v I)
-open_boxes-items t v (item.Try k g ∷ I) = ap (λ ks. k ∷ ks) (open_boxes-items t v I)
+open_boxes-items t v (item.Execute k g ∷ I) = ap (λ ks. k ∷ ks) (open_boxes-items t v I)
 
 abbrev an_event : World → Port → ℕ → Term Text → ℕ → ℕ → Event
 an_event w p k g parent depth = record { chrono = w.events + 1; call = k; parent = parent; depth = depth; port = p; goal = g }

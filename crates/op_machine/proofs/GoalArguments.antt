@@ -19,7 +19,7 @@ use Rattle.op_machine.specs.inner.Moves.{Advances, conjunction_before}
 use Rattle.op_machine.specs.Resume.{Forward, silent}
 use Rattle.op_machine.proofs.AdvanceLaws.{good-at}
 
-args-names : (n : ℕ) (t : Term ℕ) → HasNames n t → ArgsHaveNames n (args_of t)
+pub args-names : (n : ℕ) (t : Term ℕ) → HasNames n t → ArgsHaveNames n (args_of t)
 args-names n (var v) h = tt
 args-names n (int i) h = tt
 args-names n (node f ts) h = h.1

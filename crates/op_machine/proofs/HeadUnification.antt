@@ -21,7 +21,7 @@ use Rattle.op_trace.specs.Visit.{is_true, entered}
 use Rattle.op_trace.proofs.WalkSteps.{IsLess, within-less}
 use Rattle.op_machine.specs.declared.core_state.Core.{Core}
 use Rattle.op_machine.specs.declared.core_state.Mode.TheVariants as mode
-use Rattle.op_machine.specs.declared.core_state.Ending.TheVariants as outcome
+use Rattle.op_machine.specs.declared.core_state.Outcome.TheVariants as outcome
 use Rattle.op_machine.specs.declared.core_state.Step.TheVariants as step
 use Rattle.op_bind.specs.declared.places.Clause.{Clause as NumberedClause}
 use Rattle.op_machine.specs.Program.{clause_in, goal_named, IsKnown}
@@ -75,6 +75,7 @@ bound-good c s steps good g names = record {
       good.level.floor_there good.values;
   failure = failure-rises c.floor.terms (level_in c) (level_of s c.continuations) c.failure (bound-rises c s g)
       good.level.floor_there good.failure;
+  ball = good.ball;
   boxes = good.boxes;
   boxed = good.boxed;
 }

@@ -10,6 +10,7 @@ use Rattle.op_bind.specs.State.{undone}
 use Rattle.op_machine.specs.inner.Continuations.{continuation_in}
 use Rattle.op_machine.specs.Meaning.{Level, level_in, level_of, level_at, choice_points_in}
 use Rattle.op_machine.specs.inner.Invariant.{IsGood, IsItem, IsMode, IsLevel, IsEarlier, IsFrame, AreFrames, AreValues, IsFailure}
+use Rattle.op_machine.specs.inner.Invariant.{IsBall}
 use Rattle.op_frames.specs.declared.boxes.BoxFrame.{BoxFrame}
 use Rattle.op_frames.specs.Frames.{open_from}
 use Rattle.op_bind.specs.State.{mark_of, IsGoodMark}
@@ -29,6 +30,7 @@ added-choice_points c i n good =
 mode-more : (m n : ℕ) (q : Mode) → m ≤ n → IsMode m q → IsMode n q
 mode-more m n (mode.Forward i) h a = omega arith
 mode-more m n mode.Backward h a = tt
+mode-more m n (mode.Throwing i) h a = tt
 mode-more m n (mode.Over e) h a = tt
 
 pub added-good : (c : Core) (i : Item) (n : ℕ) → IsGood c → IsItem (length c.store.names) c.bindings.terms i → n < length c.continuations
@@ -42,6 +44,7 @@ added-good c i n good it h entered =
       mode = mode-more (length c.continuations) (length (longer c.continuations i n)) c.mode (omega arith) good.mode;
       values = good.values;
       failure = good.failure;
+      ball = good.ball;
       boxes = longer-boxes c.frames.boxes c.calls c.continuations i n good.boxes h entered;
       boxed = boxed-along c.frames.boxes c.frames.boxes c.continuations (longer c.continuations i n) c.calls c.calls
           (length c.continuations) (length (longer c.continuations i n)) (reverse c.frames.choices) (omega arith) (omega arith)
@@ -83,7 +86,7 @@ abbrev pub Stays : Core → Frame → Type 0
 Stays d f = (n : ℕ) → n < f.kept.calls + 1 → open_from (boxes_before (f.kept.calls + 1) d.frames.boxes) n ≡ open_from d.frames.boxes n
 
 pub restored-good : (c d : Core) (f : Frame) → IsGood c → reverse c.frames.choices ≡ f ∷ reverse d.frames.choices → d
-    ≡ record c { frames = d.frames } → d.mode ≡ mode.Backward
+    ≡ record c { frames = d.frames } → ((m : ℕ) → IsMode m d.mode)
     → d.frames.boxes ≡ c.frames.boxes → Stays d f → IsGood (restored d f)
 restored-good c d f good popped e back same stays =
     let frames : AreFrames c.store c.floor.terms (level_in c) (f ∷ reverse d.frames.choices) =
@@ -96,10 +99,11 @@ restored-good c d f good popped e back same stays =
     record {
       level = here.1;
       frames = here.3;
-      mode = subst (IsMode (length (take f.kept.continuations d.continuations))) (sym back) tt;
+      mode = back (length (take f.kept.continuations d.continuations));
       values = subst (λ ts. AreValues ts d.values.items d.names) (sym (take-take d.floor.terms f.mark.terms d.bindings.terms floor))
           values;
       failure = subst (λ ts. IsFailure ts d.failure) (sym (take-take d.floor.terms f.mark.terms d.bindings.terms floor)) failed;
+      ball = subst (λ (x : Core). IsBall (length x.store.names) x.ball) (sym e) good.ball;
       boxes = restored-boxes d.frames.boxes d.calls d.continuations (reverse d.frames.choices) f stays (popped-boxes c d good e same)
           (popped-boxed c d f good popped e same);
       boxed = restored-boxed d.frames.boxes d.calls d.continuations (reverse d.frames.choices) f stays
@@ -169,6 +173,7 @@ pushed-good c f F good mark marked continuations calls frame tried new =
       mode = good.mode;
       values = good.values;
       failure = good.failure;
+      ball = good.ball;
       boxes = good.boxes;
       boxed = subst (AreBoxed c.frames.boxes c.continuations c.calls (length c.continuations)) (sym new) boxed;
     }
@@ -182,6 +187,7 @@ called-good c b good number = record {
   mode = good.mode;
   values = good.values;
   failure = good.failure;
+  ball = good.ball;
   boxes = pushed-boxes c.frames.boxes c.calls c.continuations b number good.boxes;
   boxed = boxed-along c.frames.boxes (with_box c.frames.boxes b) c.continuations c.continuations c.calls (c.calls + 1)
       (length c.continuations) (length c.continuations) (reverse c.frames.choices)

@@ -1,5 +1,5 @@
 -- Moments that follow one another: what was there is still there, so earlier choice points mean what they meant.
-use Rattle.std.proofs.Common.{◌≡◌, ℕ, ◌+◌, ◌-◌, ◌<◌, ◌≤◌, List, [], ◌∷◌, ◌++◌, length, take, drop, map, All, pos, refl, sym, ap, ◌∙◌}
+use Rattle.std.proofs.Common.{◌≡◌, ℕ, ◌-◌, ◌<◌, ◌≤◌, List, [], ◌∷◌, ◌++◌, length, take, drop, map, All, pos, refl, sym, ap, ◌∙◌}
 use Rattle.std.proofs.Common.{subst, arith, length-append}
 use Rattle.std.proofs.lemmas.List.{get_or-take, take-take}
 use Rattle.std.proofs.Math.Seq.{take-length, take-append_seam}
@@ -104,13 +104,13 @@ pub item-rises : (n : ℕ) (t : Stored) (v w : Level) (i : Item) → Rises v w �
 item-rises n t v w (item.Goal r m) h a = ap (λ (x : Term ℕ). world.Goal (goal_named t x) m) (term-rises v w r h a.0)
 item-rises n t v w (item.Cut m) h a = refl
 item-rises n t v w (item.Exit k r) h a = ap (λ (x : Term ℕ). world.Exit k (goal_named t x)) (term-rises v w r h a.0)
-item-rises n t v w (item.Try k r) h a = ap (λ (x : Term ℕ). world.Try world.First k (goal_named t x)) (term-rises v w r h a.0)
+item-rises n t v w (item.Execute k r) h a = ap (λ (x : Term ℕ). world.Execute world.First k (goal_named t x)) (term-rises v w r h a.0)
 
 pub is-item-rises : (n : ℕ) (v w : Level) (i : Item) → Rises v w → IsItem n v.terms i → IsItem n w.terms i
 is-item-rises n v w (item.Goal r m) h a = goal-rises n v w r h a
 is-item-rises n v w (item.Cut m) h a = tt
 is-item-rises n v w (item.Exit k r) h a = goal-rises n v w r h a
-is-item-rises n v w (item.Try k r) h a = goal-rises n v w r h a
+is-item-rises n v w (item.Execute k r) h a = goal-rises n v w r h a
 
 pub items-rise : (n : ℕ) (t : Stored) (v w : Level) (I : List Item) → Rises v w → AreItems n v.terms I → map (item_term t w) I
     ≡ map (item_term t v) I

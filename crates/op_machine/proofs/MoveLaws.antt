@@ -1,5 +1,5 @@
 -- Each move keeps what is owed.
-use Rattle.std.proofs.Common.{◌≡◌, ℕ, ◌+◌, ◌-◌, ◌≤◌, ◌==◌, nat_le, Bool, true, false, List, [], ◌∷◌, Option, Some, None, refl, sym, ap}
+use Rattle.std.proofs.Common.{◌≡◌, ℕ, ℤ, ◌+◌, ◌-◌, ◌≤◌, ◌==◌, nat_le, Bool, true, false, List, [], ◌∷◌, Option, Some, None, refl, sym, ap}
 use Rattle.std.proofs.Common.{◌∙◌, append_assoc, if◌then◌else◌, arith}
 use Rattle.std.proofs.lemmas.Bool.Decides.{nat_tests}
 use Rattle.op_logic.specs.Term.{Term, shift}
@@ -8,19 +8,24 @@ use Rattle.op_trace.specs.declared.port.Port.TheVariants as port
 use Rattle.op_trace.specs.declared.barrier.Barrier.{Barrier}
 use Rattle.op_trace.specs.declared.barrier.Barrier.TheVariants.{Call, InCondition, AtSuccess}
 use Rattle.op_trace.specs.Database.{Text, text_eq, Clause}
-use Rattle.op_trace.specs.World.{World, same_barrier, Tries, First, Item, Goal, Cut, Exit, Try, Turn, Shown, Solved}
-use Rattle.op_trace.specs.Act.{Yield, Fails, Gives, Gives_again, Act, Setup}
-use Rattle.op_trace.specs.Visit.{Verdict, Failed, CutTo, Stopped, Spent, Visited, gives, with_turns, and_then, event_of, with_event, pays}
-use Rattle.op_trace.specs.Visit.{reaches, cut, shows, Control, TrueGoal, FailGoal, CutGoal, Conjunction, Disjunction, IfThenElse}
-use Rattle.op_trace.specs.Visit.{BoxedGoal, control, entered, Choice, Redo, Branch, More, Fail, Condition, matched, try_clause}
-use Rattle.op_trace.specs.Visit.{alternatives}
-use Rattle.op_trace.specs.Visit.{Again, Inside, Clauses, Tried, inside, counted_as, acts, tries_again, entered_box, exits, yields}
+use Rattle.op_trace.specs.World.{World, same_barrier, Execution, Item, Goal, Cut, Exit, Execute, open_boxes, Turn, Shown, Solved}
+use Rattle.op_trace.specs.Act.{Yield, Fails, Succeeds, Succeeds_again, Runs, Throws, Halts, Act, Setup}
+use Rattle.op_trace.specs.Visit.{Verdict, Failed, CutTo, Thrown, Stopped, Halted, Spent, is_open, around, fails, raises}
+use Rattle.op_trace.specs.Visit.{Visited, gives, with_turns, and_then, event_of, with_event, pays}
+use Rattle.op_trace.specs.Visit.{reaches, cut, Control, TrueGoal, FailGoal, CutGoal, Conjunction, Disjunction, IfThenElse}
+use Rattle.op_trace.specs.Visit.{BoxedGoal, control, entered, Choice, Redo, Branch, More, Fail}
+use Rattle.op_trace.specs.Visit.{Condition, matched, try_clause}
+use Rattle.op_trace.specs.Visit.{Again, Inside, Clauses, WithoutProcedure, inside, counted_as, acts}
+use Rattle.op_trace.specs.Visit.{executes_again, entered_box, exits, yields}
 use Rattle.op_trace.specs.Visit.{branches, after, boxed, selected, solved, visit, visit_with}
 use Rattle.op_trace.proofs.WalkEquations.{visit_equations}
 use Rattle.op_trace.proofs.WalkBarriers.{Only, visit-only}
-use Rattle.op_machine.specs.Resume.{resume, keep, with_more, State, Forward, Backward, Over, owed, Moved, silent, paid, invoked, chosen}
-use Rattle.op_machine.specs.Resume.{head_unified, tried, branched, at_solution, move, world_of, entered_state, acted, yielded, tried_again}
-use Rattle.op_machine.specs.inner.Barriers.{Behind, InStep}
+use Rattle.op_trace.proofs.WalkBalls.{LeavesOnly, visit_throws}
+use Rattle.op_machine.specs.Resume.{resume, keep, with_more, State, Forward, Backward, Throwing, Over, owed, Moved}
+use Rattle.op_machine.specs.Resume.{silent, showing, paid, invoked, chosen, leaving}
+use Rattle.op_machine.specs.Resume.{head_unified, tried, branched, at_solution, move, world_of}
+use Rattle.op_machine.specs.Resume.{entered_state, acted, yielded, executed_again}
+use Rattle.op_machine.specs.inner.Barriers.{left_to, Behind, InStep}
 
 -- a walk that leads to another, and then to a third
 pub and_then-assoc : (v : Visited) (h i : Verdict → World → Visited)
@@ -44,6 +49,21 @@ resume-Stopped s (More [] k g σ J ∷ K) w = resume-Stopped s K w
 resume-Stopped s (More (c ∷ cs) k g σ J ∷ K) w = resume-Stopped s K w
 resume-Stopped s (Fail k g σ J ∷ K) w = resume-Stopped s K w
 
+pub resume-Halted : (s : Setup) (K : List Choice) (i : ℤ) (w : World) → resume s K (Halted i) w ≡ gives (Halted i) w
+unfolding resume
+resume-Halted s [] i w = refl
+resume-Halted s (Redo k g σ J ∷ K) i w = resume-Halted s K i w
+resume-Halted s (Branch t m σ J ∷ K) i w = resume-Halted s K i w
+resume-Halted s (Again t k g σ J ∷ K) i w = resume-Halted s K i w
+resume-Halted s (Condition n t m σ J ∷ K) i w = resume-Halted s K i w
+resume-Halted s (More [] k g σ J ∷ K) i w = resume-Halted s K i w
+resume-Halted s (More (c ∷ cs) k g σ J ∷ K) i w = resume-Halted s K i w
+resume-Halted s (Fail k g σ J ∷ K) i w = resume-Halted s K i w
+
+-- what a move comes to
+abbrev pub comes : Setup → Moved → Visited
+comes s m = with_turns m.turns (owed s m.state)
+
 pub resume-Spent : (s : Setup) (K : List Choice) (w : World) → resume s K Spent w ≡ gives Spent w
 unfolding resume
 resume-Spent s [] w = refl
@@ -54,6 +74,44 @@ resume-Spent s (Condition n t m σ J ∷ K) w = resume-Spent s K w
 resume-Spent s (More [] k g σ J ∷ K) w = resume-Spent s K w
 resume-Spent s (More (c ∷ cs) k g σ J ∷ K) w = resume-Spent s K w
 resume-Spent s (Fail k g σ J ∷ K) w = resume-Spent s K w
+
+-- a ball goes up to the next box that it leaves
+pub resume-ball : (s : Setup) (K : List Choice) (b : Term Text) (o : List ℕ) (w : World)
+    → resume s K (Thrown b o) w ≡ resume s (left_to o K) (Thrown b o) w
+unfolding resume
+resume-ball s [] b o w = refl
+resume-ball s (Redo k g σ J ∷ K) b o w = resume-ball s K b o w
+resume-ball s (Branch t m σ J ∷ K) b o w = resume-ball s K b o w
+resume-ball s (Again t k g σ J ∷ K) b o w = resume-ball s K b o w
+resume-ball s (Condition n t m σ J ∷ K) b o w = resume-ball s K b o w
+resume-ball s (More [] k g σ J ∷ K) b o w = resume-ball s K b o w
+resume-ball s (More (c ∷ cs) k g σ J ∷ K) b o w = resume-ball s K b o w
+resume-ball s (Fail k g σ J ∷ K) b o w = go (is_open k o) refl (resume-ball s K b o w)
+  where
+    go : (t : Bool) → is_open k o ≡ t → resume s K (Thrown b o) w ≡ resume s (left_to o K) (Thrown b o) w
+        → and_then (reaches t (raises k g σ J b (around k o)) (gives (Thrown b o)) w) (resume s K)
+        ≡ resume s (if t then Fail k g σ J ∷ K else left_to o K) (Thrown b o) w
+    go true e below =
+        ap (λ (x : Bool). and_then (reaches x (raises k g σ J b (around k o)) (gives (Thrown b o)) w) (resume s K)) (sym e)
+    go false e below = below
+
+pub leaving-row : (s : Setup) (K : List Choice) (b : Term Text) (o : List ℕ) (w : World)
+    → resume s K (Thrown b o) w ≡ comes s (leaving b o K w)
+unfolding resume owed
+leaving-row s [] b o w = refl
+leaving-row s (Redo k g σ J ∷ K) b o w = leaving-row s K b o w
+leaving-row s (Branch t m σ J ∷ K) b o w = leaving-row s K b o w
+leaving-row s (Again t k g σ J ∷ K) b o w = leaving-row s K b o w
+leaving-row s (Condition n t m σ J ∷ K) b o w = leaving-row s K b o w
+leaving-row s (More [] k g σ J ∷ K) b o w = leaving-row s K b o w
+leaving-row s (More (c ∷ cs) k g σ J ∷ K) b o w = leaving-row s K b o w
+leaving-row s (Fail k g σ J ∷ K) b o w = go (is_open k o) (leaving-row s K b o w)
+  where
+    go : (t : Bool) → resume s K (Thrown b o) w ≡ comes s (leaving b o K w)
+        → and_then (reaches t (raises k g σ J b (around k o)) (gives (Thrown b o)) w) (resume s K)
+        ≡ comes s (if t then showing port.Exception k g σ J w (Throwing b (around k o) K (with_event w)) else leaving b o K w)
+    go true below = refl
+    go false below = below
 
 -- a cut leads to the choice points that it keeps
 pub resume-cut : (s : Setup) (K : List Choice) (m : Barrier) (w : World) → resume s K (CutTo m) w ≡ resume s (keep m K) Failed w
@@ -67,7 +125,7 @@ resume-cut s (More (c ∷ cs) k g σ J ∷ K) m w = resume-cut s K m w
 resume-cut s (Fail k g σ J ∷ K) m w = go (same_barrier m (Call k)) (resume-cut s K m w)
   where
     go : (b : Bool) → resume s K (CutTo m) w ≡ resume s (keep m K) Failed w
-        → and_then (reaches b (λ u. shows port.Fail k g σ J u (gives Failed)) (gives (CutTo m)) w) (resume s K)
+        → and_then (reaches b (fails k g σ J) (gives (CutTo m)) w) (resume s K)
         ≡ resume s (if b then Fail k g σ J ∷ K else keep m K) Failed w
     go true below = refl
     go false below = below
@@ -81,23 +139,24 @@ resume-cut s (Condition n t b σ J ∷ K) m w = go (same_barrier m (InCondition 
     go false false below = below
 
 -- with items behind it whose cuts keep the same, a cut can be made at once
-pub cut-equation : (s : Setup) (m : Barrier) (J : List Item) (K : List Choice) (r : Verdict) (w : World) → Behind m K J → Only J r
+pub cut-equation : (s : Setup) (c : ℕ) (m : Barrier) (J : List Item) (K : List Choice) (r : Verdict) (w : World) → Behind c m K J → Only J r
+    → LeavesOnly (open_boxes J) c r
     → and_then (cut m r w) (resume s K) ≡ resume s (keep m K) r w
-cut-equation s m J K Failed w b o = resume-cut s K m w
-cut-equation s m J K (CutTo n) w b o =
-    resume-cut s K n w ∙ (ap (λ (L : List Choice). resume s L Failed w) (sym (b n o)) ∙ sym (resume-cut s (keep m K) n w))
-cut-equation s m J K Stopped w b o = resume-Stopped s K w ∙ sym (resume-Stopped s (keep m K) w)
-cut-equation s m J K Spent w b o = resume-Spent s K w ∙ sym (resume-Spent s (keep m K) w)
+cut-equation s c m J K Failed w b o l = resume-cut s K m w
+cut-equation s c m J K (CutTo n) w b o l =
+    resume-cut s K n w ∙ (ap (λ (L : List Choice). resume s L Failed w) (sym (b.0 n o)) ∙ sym (resume-cut s (keep m K) n w))
+cut-equation s c m J K (Thrown x p) w b o l =
+    resume-ball s K x p w ∙ (ap (λ (L : List Choice). resume s L (Thrown x p) w) (sym (b.1 p l)) ∙ sym (resume-ball s (keep m K) x p w))
+cut-equation s c m J K Stopped w b o l = resume-Stopped s K w ∙ sym (resume-Stopped s (keep m K) w)
+cut-equation s c m J K (Halted i) w b o l = resume-Halted s K i w ∙ sym (resume-Halted s (keep m K) i w)
+cut-equation s c m J K Spent w b o l = resume-Spent s K w ∙ sym (resume-Spent s (keep m K) w)
 
-pub cuts-equation : (s : Setup) (m : Barrier) (J : List Item) (K : List Choice) (σ : Bindings Text) (w : World) → Behind m K J
+pub cuts-equation : (s : Setup) (m : Barrier) (J : List Item) (K : List Choice) (σ : Bindings Text) (w : World) → Behind w.calls m K J
     → and_then (and_then (visit s J σ w) (cut m)) (resume s K) ≡ and_then (visit s J σ w) (resume s (keep m K))
 cuts-equation s m J K σ w b =
     and_then-assoc (visit s J σ w) (cut m) (resume s K)
-    ∙ ap (with_turns (visit s J σ w).turns) (cut-equation s m J K (visit s J σ w).verdict (visit s J σ w).world b (visit-only s J σ w))
-
--- what a move comes to
-abbrev pub comes : Setup → Moved → Visited
-comes s m = with_turns m.turns (owed s m.state)
+    ∙ ap (with_turns (visit s J σ w).turns)
+    (cut-equation s w.calls m J K (visit s J σ w).verdict (visit s J σ w).world b (visit-only s J σ w) (visit_throws s J σ w).0)
 
 pub paid-equation : (t : Bool) (s : Setup) (n : ℕ) (w : World) (h : World → Visited) (m : World → Moved) (K : List Choice)
     → (and_then (h (record w { steps = w.steps + n })) (resume s K) ≡ comes s (m (record w { steps = w.steps + n })))
@@ -127,7 +186,7 @@ tried-equation s c k g σ J w K =
     (matched-equation s c k g J (record w { steps = w.steps + 1 })
     (unify text_eq (s.budget - (w.steps + 1)) σ ((g, shift w.variables c.head) ∷ [])) K)
 
--- a walk whose equation makes a choice point
+-- a walk whose row makes a choice point
 pub push-equation : (s : Setup) (v : Visited) (c : Choice) (K : List Choice)
     → and_then (and_then v (after (visit s) s c)) (resume s K) ≡ and_then v (resume s (c ∷ K))
 unfolding resume
@@ -146,7 +205,7 @@ pub entered_box-equation : (i : Inside) (s : Setup) (k : ℕ) (g : Term Text) (J
     → and_then (entered_box (visit s) s i k g σ J w) (resume s K) ≡ owed s (entered_state i k g J K σ w)
 unfolding owed resume
 entered_box-equation (Clauses cs) s k g J σ w K = sym (resume-with_more s cs k g σ J K Failed w)
-entered_box-equation Tried s k g J σ w K = refl
+entered_box-equation WithoutProcedure s k g J σ w K = refl
 
 pub boxed-equation : (s : Setup) (g : Term Text) (J : List Item) (σ : Bindings Text) (w : World) (K : List Choice)
     → and_then (boxed (visit s) s g J σ w) (resume s K) ≡ comes s (invoked g J K σ w)
@@ -158,8 +217,8 @@ boxed-equation s g J σ w K =
     (and_then-assoc (entered_box (visit s) s (inside w.database g) k g σ J (with_event u)) (after (visit s) s (Fail k g σ J)) (resume s K)
     ∙ entered_box-equation (inside w.database g) s k g J σ (with_event u) (Fail k g σ J ∷ K))
 
-pub acted-equation : (t : Bool) (s : Setup) (a : Act) (w : World) (h : Yield → World → Visited)
-    (m : Yield → World → Moved) (K : List Choice)
+pub acted-equation : (t : Bool) (s : Setup) (a : Act) (w : World) (h : Yield → World → Visited) (m : Yield → World → Moved)
+    (K : List Choice)
     → nat_le (w.steps + a.cost) s.budget ≡ t
     → ((u : World) → u.steps ≤ s.budget → and_then (h a.yield u) (resume s K) ≡ comes s (m a.yield u))
     → and_then (acts t s a w h) (resume s K) ≡ comes s (acted t s a w m)
@@ -175,17 +234,22 @@ pub yields-equation : (s : Setup) (k : ℕ) (g : Term Text) (J : List Item) (σ 
     → and_then (yields (visit s) s (visit_with (visit s) s J) k g J σ y w) (resume s K) ≡ comes s (yielded k g J K σ y w)
 unfolding owed visit_with
 yields-equation s k g J σ Fails w K below = refl
-yields-equation s k g J σ (Gives τ) w K below =
+yields-equation s k g J σ (Succeeds τ) w K below =
     ap (λ (v : Visited). and_then v (resume s K)) (sym (visit_equations s (Exit k g ∷ J) τ w below))
-yields-equation s k g J σ (Gives_again τ t) w K below =
+yields-equation s k g J σ (Succeeds_again τ t) w K below =
     push-equation s (exits (visit s) s (visit_with (visit s) s J) k g J τ w) (Again t k g σ J) K
     ∙ ap (λ (v : Visited). and_then v (resume s (Again t k g σ J ∷ K))) (sym (visit_equations s (Exit k g ∷ J) τ w below))
+yields-equation s k g J σ (Runs b) w K below =
+    ap (λ (v : Visited). and_then v (resume s K)) (sym (visit_equations s (Goal b (Call k) ∷ Exit k g ∷ J) σ w below))
+yields-equation s k g J σ (Throws b) w K below = refl
+yields-equation s k g J σ (Halts i) w K below = resume-Halted s K i w
 
-pub again-equation : (s : Setup) (t : Tries) (k : ℕ) (g : Term Text) (σ : Bindings Text) (J : List Item) (w : World) (K : List Choice)
-    → and_then (tries_again (visit s) s t k g σ J w) (resume s K) ≡ comes s (tried_again s t k g σ J K w)
+pub again-equation : (s : Setup) (t : Execution) (k : ℕ) (g : Term Text) (σ : Bindings Text) (J : List Item) (w : World) (K : List Choice)
+    → and_then (executes_again (visit s) s t k g σ J w) (resume s K) ≡ comes s (executed_again s t k g σ J K w)
 unfolding owed
 again-equation s t k g σ J w K =
-    paid-equation (nat_le (w.steps + 1) s.budget) s 1 w (visit s (Try t k g ∷ J) σ) (λ u. silent (Forward (Try t k g ∷ J) K σ u)) K refl
+    paid-equation (nat_le (w.steps + 1) s.budget) s 1 w (visit s (Execute t k g ∷ J) σ) (λ u. silent (Forward
+    (Execute t k g ∷ J) K σ u)) K refl
 
 pub branched-equation : (s : Setup) (t : Term Text) (m : Barrier) (σ : Bindings Text) (J : List Item) (w : World) (K : List Choice)
     → and_then (branches (visit s) s t m σ J w) (resume s K) ≡ comes s (branched s t m σ J K w)
@@ -195,7 +259,7 @@ branched-equation s t m σ J w K =
 
 pub selected-equation : (s : Setup) (q : Control) (t : Term Text) (m : Barrier) (J : List Item) (σ : Bindings Text) (w : World)
     (K : List Choice)
-    → Behind m K J → and_then (selected (visit s) s q t m J σ w) (resume s K) ≡ comes s (chosen q t m J K σ w)
+    → Behind w.calls m K J → and_then (selected (visit s) s q t m J σ w) (resume s K) ≡ comes s (chosen q t m J K σ w)
 unfolding owed
 selected-equation s TrueGoal t m J σ w K b = refl
 selected-equation s FailGoal t m J σ w K b = refl
@@ -248,12 +312,11 @@ move-equation s (Forward (Cut m ∷ J) K σ w) below h =
     ap (λ (v : Visited). and_then v (resume s K)) (visit_equations s (Cut m ∷ J) σ w below)
     ∙ (ap (λ (v : Visited). and_then (and_then v (cut m)) (resume s K)) (sym (visit_equations s J σ w below))
     ∙ cuts-equation s m J K σ w h.0.0)
-move-equation s (Forward (Try t k g ∷ J) K σ w) below h =
+move-equation s (Forward (Execute t k g ∷ J) K σ w) below h =
     let a : Act = s.act (s.budget - w.steps) t g σ w in
-    ap (λ (v : Visited). and_then v (resume s K)) (visit_equations s (Try t k g ∷ J) σ w below)
+    ap (λ (v : Visited). and_then v (resume s K)) (visit_equations s (Execute t k g ∷ J) σ w below)
     ∙ acted-equation (nat_le (w.steps + a.cost) s.budget) s a w (yields (visit s) s (visit_with (visit s) s J) k g J σ)
-    (yielded k g J K σ) K
-    refl
+    (yielded k g J K σ) K refl
     (λ u fits. yields-equation s k g J σ a.yield u K fits)
 move-equation s (Forward (Goal t m ∷ J) K σ w) below h =
     ap (λ (v : Visited). and_then v (resume s K)) (visit_equations s (Goal t m ∷ J) σ w below)
@@ -271,4 +334,5 @@ move-equation s (Backward (More (c ∷ cs) k g σ J ∷ K) w) below h =
     push-equation s v (More cs k g σ J) K
     ∙ (ap (with_turns v.turns) (sym (resume-with_more s cs k g σ J K v.verdict v.world))
     ∙ tried-equation s c k g σ J w (with_more cs k g σ J K))
+move-equation s (Throwing b o K w) below h = leaving-row s K b o w
 move-equation s (Over r w) below h = refl

@@ -6,15 +6,16 @@ use Rattle.op_logic.specs.Term.{Term, shift}
 use Rattle.op_logic.specs.Bind.{Bindings, solve, unify, Solved as Result}
 use Rattle.op_trace.specs.declared.barrier.Barrier.{Barrier}
 use Rattle.op_trace.specs.Database.{Text, text_eq, Clause}
-use Rattle.op_trace.specs.World.{World, Tries, First, Item, Goal, Cut, Exit, Try, Solved}
-use Rattle.op_trace.specs.Act.{Yield, Fails, Gives, Gives_again, Act, Setup}
+use Rattle.op_trace.specs.World.{World, Execution, Item, Goal, Cut, Exit, Execute, Solved}
+use Rattle.op_trace.specs.Act.{Yield, Fails, Succeeds, Succeeds_again, Runs, Throws, Halts, Act, Setup}
 use Rattle.op_trace.specs.Visit.{Stopped, Control, TrueGoal, FailGoal, CutGoal, Conjunction, Disjunction, IfThenElse, BoxedGoal, control}
 use Rattle.op_trace.specs.declared.port.Port.TheVariants as port
-use Rattle.op_trace.specs.Visit.{with_event, Inside, Clauses, Tried, inside, counted_as, entered, Choice, Redo, Branch, More, Again, Fail}
-use Rattle.op_trace.specs.Visit.{Condition}
+use Rattle.op_trace.specs.Visit.{with_event, is_open, around, Inside, Clauses, WithoutProcedure, inside, counted_as, entered, Choice}
+use Rattle.op_trace.specs.Visit.{Redo, Branch, More, Again, Fail, Condition}
 use Rattle.op_trace.proofs.WalkSteps.{IsLess, within-less}
-use Rattle.op_machine.specs.Resume.{keep, with_more, State, Forward, Backward, Over, Moved, silent, paid, pay, chosen, head_unified, tried}
-use Rattle.op_machine.specs.Resume.{branched, showing, entered_state, acted, yielded, tried_again, move, world_of}
+use Rattle.op_machine.specs.Resume.{keep, with_more, State, Forward, Backward, Throwing, Over, Moved, silent}
+use Rattle.op_machine.specs.Resume.{paid, pay, chosen, head_unified, tried}
+use Rattle.op_machine.specs.Resume.{branched, showing, entered_state, acted, yielded, executed_again, leaving, move, world_of}
 use Rattle.op_machine.specs.inner.Bounds.{IsGoalFirst, Counted}
 
 abbrev pub count_in : State → ℕ
@@ -38,7 +39,7 @@ pub entered-onward : (i : Inside) (s : Setup) (t : Term Text) (J : List Item) (K
     → IsOnward s w (showing port.Call (w.calls + 1) t σ J (record w { calls = w.calls + 1 })
     (entered_state i (w.calls + 1) t J (Fail (w.calls + 1) t σ J ∷ K) σ (with_event (record w { calls = w.calls + 1 }))))
 entered-onward (Clauses cs) s t J K σ w = record { count = omega arith; steps = omega arith }
-entered-onward Tried s t J K σ w = record { count = omega arith; steps = omega arith }
+entered-onward WithoutProcedure s t J K σ w = record { count = omega arith; steps = omega arith }
 
 pub chosen-onward : (q : Control) (s : Setup) (t : Term Text) (m : Barrier) (J : List Item) (K : List Choice) (σ : Bindings Text)
     (w : World)
@@ -84,14 +85,31 @@ acted-onward true s a k g J K σ w test below = go a.yield
   where
     go : (y : Yield) → IsOnward s w (yielded k g J K σ y (record (counted_as w a.after) { steps = w.steps + a.cost }))
     go Fails = record { count = omega arith; steps = omega arith }
-    go (Gives τ) = record { count = omega arith; steps = omega arith }
-    go (Gives_again τ x) = record { count = omega arith; steps = omega arith }
+    go (Succeeds τ) = record { count = omega arith; steps = omega arith }
+    go (Succeeds_again τ x) = record { count = omega arith; steps = omega arith }
+    go (Runs b) = record { count = omega arith; steps = omega arith }
+    go (Throws b) = record { count = omega arith; steps = omega arith }
+    go (Halts i) = record { count = omega arith; steps = omega arith }
 acted-onward false s a k g J K σ w test below = record { count = omega arith; steps = below }
 
-pub again-onward : (s : Setup) (t : Tries) (k : ℕ) (g : Term Text) (σ : Bindings Text) (J : List Item) (K : List Choice) (w : World)
-    → w.steps ≤ s.budget → IsOnward s w (tried_again s t k g σ J K w)
+pub again-onward : (s : Setup) (t : Execution) (k : ℕ) (g : Term Text) (σ : Bindings Text) (J : List Item) (K : List Choice) (w : World)
+    → w.steps ≤ s.budget → IsOnward s w (executed_again s t k g σ J K w)
 again-onward s t k g σ J K w below =
     paid-onward (nat_le (w.steps + 1) s.budget) s 1 w _ refl below (λ fits. record { count = omega arith; steps = omega arith })
+
+pub leaving-onward : (s : Setup) (b : Term Text) (o : List ℕ) (K : List Choice) (w : World) → IsOnward s w (leaving b o K w)
+leaving-onward s b o [] w = record { count = omega arith; steps = omega arith }
+leaving-onward s b o (Redo k g σ J ∷ K) w = leaving-onward s b o K w
+leaving-onward s b o (Branch t m σ J ∷ K) w = leaving-onward s b o K w
+leaving-onward s b o (More cs k g σ J ∷ K) w = leaving-onward s b o K w
+leaving-onward s b o (Again t k g σ J ∷ K) w = leaving-onward s b o K w
+leaving-onward s b o (Condition n t m σ J ∷ K) w = leaving-onward s b o K w
+leaving-onward s b o (Fail k g σ J ∷ K) w = go (is_open k o) (leaving-onward s b o K w)
+  where
+    go : (t : Bool) → IsOnward s w (leaving b o K w)
+        → IsOnward s w (if t then showing port.Exception k g σ J w (Throwing b (around k o) K (with_event w)) else leaving b o K w)
+    go true l = record { count = omega arith; steps = omega arith }
+    go false l = l
 
 pub move-onward : (s : Setup) (t : State) → (world_of t).steps ≤ s.budget → IsOnward s (world_of t) (move s t)
 move-onward s (Forward [] K σ w) below = go (w.solutions + 1 == s.wanted)
@@ -106,7 +124,7 @@ move-onward s (Forward [] K σ w) below = go (w.solutions + 1 == s.wanted)
     go false = record { count = omega arith; steps = omega arith }
 move-onward s (Forward (Exit k g ∷ J) K σ w) below = record { count = omega arith; steps = omega arith }
 move-onward s (Forward (Cut m ∷ J) K σ w) below = record { count = omega arith; steps = omega arith }
-move-onward s (Forward (Try t k g ∷ J) K σ w) below =
+move-onward s (Forward (Execute t k g ∷ J) K σ w) below =
     let a : Act = s.act (s.budget - w.steps) t g σ w in
     acted-onward (nat_le (w.steps + a.cost) s.budget) s a k g J K σ w refl below
 move-onward s (Forward (Goal t m ∷ J) K σ w) below =
@@ -120,14 +138,16 @@ move-onward s (Backward (Again t k g σ J ∷ K) w) below = again-onward s t k g
 move-onward s (Backward (Fail k g σ J ∷ K) w) below = record { count = omega arith; steps = omega arith }
 move-onward s (Backward (More [] k g σ J ∷ K) w) below = record { count = omega arith; steps = omega arith }
 move-onward s (Backward (More (c ∷ cs) k g σ J ∷ K) w) below = tried-onward s c k g σ J (with_more cs k g σ J K) w below
+move-onward s (Throwing b o K w) below = leaving-onward s b o K w
 move-onward s (Over r w) below = record { count = omega arith; steps = omega arith }
 
 -- what is left to do: steps, a cut or a try, and to be at the end
 abbrev pub live : State → ℕ
 live (Forward (Cut m ∷ J) K σ w) = 2
-live (Forward (Try t k g ∷ J) K σ w) = 2
+live (Forward (Execute t k g ∷ J) K σ w) = 2
 live (Forward I K σ w) = 1
 live (Backward K w) = 1
+live (Throwing b o K w) = 1
 live (Over r w) = 0
 
 abbrev pub weight : Setup → State → ℕ
@@ -136,6 +156,7 @@ weight s t = 3 * (s.budget - (world_of t).steps) + live t
 abbrev pub IsOver : State → Type 0
 IsOver (Forward I K σ w) = ⊥
 IsOver (Backward K w) = ⊥
+IsOver (Throwing b o K w) = ⊥
 IsOver (Over r w) = Unit {0}
 
 -- the last choice point has a clause, if it is one of clauses
@@ -155,9 +176,10 @@ paid-lighter true s n w h test below k =
     lighter (Forward [] K σ u) f h = omega arith
     lighter (Forward (Exit k g ∷ J) K σ u) f h = omega arith
     lighter (Forward (Cut m ∷ J) K σ u) f h = omega arith
-    lighter (Forward (Try t k g ∷ J) K σ u) f h = omega arith
+    lighter (Forward (Execute t k g ∷ J) K σ u) f h = omega arith
     lighter (Forward (Goal t m ∷ J) K σ u) f h = omega arith
     lighter (Backward K u) f h = omega arith
+    lighter (Throwing b o K u) f h = omega arith
     lighter (Over r u) f h = omega arith
 paid-lighter false s n w h test below k = omega arith
 
@@ -167,7 +189,7 @@ first-live [] K σ w h = absurd h
 first-live (Goal t m ∷ J) K σ w h = refl
 first-live (Cut m ∷ J) K σ w h = absurd h
 first-live (Exit k g ∷ J) K σ w h = absurd h
-first-live (Try t k g ∷ J) K σ w h = absurd h
+first-live (Execute t k g ∷ J) K σ w h = absurd h
 
 -- a try fails, or its box exits
 pub acted-lighter : (t : Bool) (s : Setup) (a : Act) (k : ℕ) (g : Term Text) (J : List Item) (K : List Choice) (σ : Bindings Text)
@@ -176,12 +198,33 @@ pub acted-lighter : (t : Bool) (s : Setup) (a : Act) (k : ℕ) (g : Term Text) (
     → weight s (acted t s a w (yielded k g J K σ)).state < 3 * (s.budget - w.steps) + 2
 acted-lighter true s a k g J K σ w test below = go a.yield
   where
-    go : (y : Yield) → weight s (yielded k g J K σ y (record (counted_as w a.after) { steps = w.steps + a.cost })).state
-        < 3 * (s.budget - w.steps) + 2
+    go : (y : Yield) → weight s (yielded k g J K σ y (record (counted_as w a.after) { steps = w.steps + a.cost })).state < 3 *
+        (s.budget - w.steps) + 2
     go Fails = omega arith
-    go (Gives τ) = omega arith
-    go (Gives_again τ x) = omega arith
+    go (Succeeds τ) = omega arith
+    go (Succeeds_again τ x) = omega arith
+    go (Runs b) = omega arith
+    go (Throws b) = omega arith
+    go (Halts i) = omega arith
 acted-lighter false s a k g J K σ w test below = omega arith
+
+-- a ball that leaves no box is the end
+pub leaving-lighter : (s : Setup) (b : Term Text) (o : List ℕ) (K : List Choice) (w : World) → (leaving b o K w).turns ≡ []
+    → weight s (leaving b o K w).state < 3 * (s.budget - w.steps) + 1
+leaving-lighter s b o [] w e = omega arith
+leaving-lighter s b o (Redo k g σ J ∷ K) w e = leaving-lighter s b o K w e
+leaving-lighter s b o (Branch t m σ J ∷ K) w e = leaving-lighter s b o K w e
+leaving-lighter s b o (More cs k g σ J ∷ K) w e = leaving-lighter s b o K w e
+leaving-lighter s b o (Again t k g σ J ∷ K) w e = leaving-lighter s b o K w e
+leaving-lighter s b o (Condition n t m σ J ∷ K) w e = leaving-lighter s b o K w e
+leaving-lighter s b o (Fail k g σ J ∷ K) w e = go (is_open k o) (λ f. leaving-lighter s b o K w f) e
+  where
+    go : (t : Bool) → ((leaving b o K w).turns ≡ [] → weight s (leaving b o K w).state < 3 * (s.budget - w.steps) + 1)
+        → (if t then showing port.Exception k g σ J w (Throwing b (around k o) K (with_event w)) else leaving b o K w).turns ≡ []
+        → weight s (if t then showing port.Exception k g σ J w (Throwing b (around k o) K (with_event w)) else leaving b o K w).state
+        < 3 * (s.budget - w.steps) + 1
+    go true l f = cc
+    go false l f = l f
 
 -- a silent move that isn't at the end makes the state lighter
 pub move-lighter : (s : Setup) (t : State) → (world_of t).steps ≤ s.budget → (IsOver t → ⊥) → HasClauses t → Counted s t → (move s t).turns
@@ -190,7 +233,7 @@ pub move-lighter : (s : Setup) (t : State) → (world_of t).steps ≤ s.budget �
 move-lighter s (Forward [] K σ w) below live has counted e = cc
 move-lighter s (Forward (Exit k g ∷ J) K σ w) below live has counted e = cc
 move-lighter s (Forward (Cut m ∷ J) K σ w) below live has counted e = omega (arith, first-live J (keep m K) σ w counted.3.0)
-move-lighter s (Forward (Try t k g ∷ J) K σ w) below live has counted e =
+move-lighter s (Forward (Execute t k g ∷ J) K σ w) below live has counted e =
     let a : Act = s.act (s.budget - w.steps) t g σ w in
     acted-lighter (nat_le (w.steps + a.cost) s.budget) s a k g J K σ w refl below
 move-lighter s (Forward (Goal t m ∷ J) K σ w) below live has counted e =
@@ -212,4 +255,5 @@ move-lighter s (Backward (More (c ∷ cs) k g σ J ∷ K) w) below live has coun
     (unify text_eq (s.budget - (w.steps + 1)) σ ((g, shift w.variables c.head) ∷ [])) fits
     (within-less {A = Option (Bindings Text)} (s.budget - (w.steps + 1))
     (solve text_eq (s.budget - (w.steps + 1)) σ ((g, shift {N = Text} w.variables c.head) ∷ []))))
+move-lighter s (Throwing b o K w) below live has counted e = leaving-lighter s b o K w e
 move-lighter s (Over r w) below live has counted e = absurd (live tt)

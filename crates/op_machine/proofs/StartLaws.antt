@@ -1,6 +1,6 @@
 -- A machine that has made no move.
 use Rattle.std.proofs.Common.{◌≡◌, ℕ, zero, suc, ◌+◌, ◌<◌, ◌≤◌, List, [], ◌∷◌, ◌++◌, length, map, take, reverse, refl, sym, ap, ◌∙◌, subst}
-use Rattle.std.proofs.Common.{arith}
+use Rattle.std.proofs.Common.{None, arith}
 use Rattle.op_logic.specs.Term.{Term, shift, atom}
 use Rattle.op_logic.specs.Bind.{Bindings}
 use Rattle.op_logic.specs.Laws.{rename_bindings}
@@ -14,7 +14,7 @@ use Rattle.op_trace.specs.World as world
 use Rattle.op_trace.specs.declared.barrier.Barrier.TheVariants.{Call}
 use Rattle.op_trace.specs.Database.{Text}
 use Rattle.op_trace.specs.World.{World, loaded}
-use Rattle.op_trace.specs.Act.{Setup, setup_for}
+use Rattle.op_trace.specs.Builtins.{setup_for}
 use Rattle.op_trace.specs.Run.{started}
 use Rattle.op_machine.specs.declared.core_state.Core.{Core}
 use Rattle.op_machine.specs.declared.core_state.Mode.{Mode}
@@ -27,7 +27,7 @@ use Rattle.op_store.specs.Stored.{Stored, database_of}
 use Rattle.op_machine.specs.Program.{goal_named}
 use Rattle.op_machine.specs.Meaning.{Level, level_in, setup_of, world_in, state_with, state_of, items_in, item_term, bindings_in}
 use Rattle.op_machine.specs.Meaning.{choice_points_of, Frame}
-use Rattle.op_machine.specs.inner.Invariant.{IsGood, IsGoal, AreContinuations, AreFrames, AreValues, IsFailure, IsMode, IsSound}
+use Rattle.op_machine.specs.inner.Invariant.{IsGood, IsGoal, AreContinuations, AreFrames, AreValues, IsFailure, IsBall, IsMode, IsSound}
 use Rattle.op_machine.specs.inner.Continuations.{continuation_in}
 use Rattle.op_frames.specs.declared.boxes.BoxFrame.{BoxFrame}
 use Rattle.op_machine.specs.inner.Boxes.{exits, innermost, AreBoxes, AreBoxed}
@@ -37,7 +37,7 @@ use Rattle.op_machine.specs.inner.Barriers.{InStep}
 use Rattle.op_machine.specs.inner.Turns.{IsBegun}
 use Rattle.op_machine.specs.inner.Start.{first_continuations, IsMade}
 use Rattle.op_machine.specs.declared.start.Parts.{Parts}
-use Rattle.op_machine.specs.declared.choice_points.Held.{Held}
+use Rattle.op_machine.specs.declared.choice_points.Alternative.{Alternative}
 use Rattle.op_frames.specs.Frames.{Framed}
 use Rattle.op_trace.specs.declared.port.Port.TheVariants as port
 use Rattle.op_machine.proofs.NamedVariables.{values-stay}
@@ -55,6 +55,7 @@ pub record IsFirst (c : Core) (q : Goal) (body : ℕ) : Type 0 where
   pub names : c.names ≡ q.names
   pub values : AreValues (take c.floor.terms c.bindings.terms) c.values.items q.names
   pub failure : IsFailure (take c.floor.terms c.bindings.terms) c.failure
+  pub ball : c.ball ≡ None
   pub floor_there : c.floor.terms ≤ length c.bindings.terms
   pub numbers : (c.calls ≡ 0) × (c.steps ≡ 0) × (c.events ≡ 0) × (c.solutions ≡ 0) × (c.conditions ≡ 0)
 
@@ -91,7 +92,7 @@ first-state c q body n query f =
     ∙ ap (λ (x : Term ℕ). world.Goal (goal_named t x) (Call 0) ∷ []) f.value in
     let bound : bindings_in t v ≡ [] = ap (λ (ps : List (ℕ × ℕ)). rename_bindings (name_at t.names) (resolved c.bindings.terms ps))
     f.bound in
-    ap (state_with t v c.frames.choices (world_in c)) f.mode
+    ap (state_with t v c.frames (world_in c) c.ball) f.mode
     ∙ (ap (λ (F : List Frame). Forward (items_in t v 1) (choice_points_of t v (reverse F)) (bindings_in t v) (world_in c)) f.frames
     ∙ (ap (λ I. Forward I [] (bindings_in t v) (world_in c)) items
     ∙ (ap (λ (σ : Bindings Text). Forward (world.Goal (goal_named t q.body) (Call 0) ∷ []) [] σ (world_in c)) bound
@@ -148,6 +149,7 @@ first-good c q body query f =
           (subst (λ (L : List (List Item)). 1 < length L) (sym f.continuations) (omega arith));
       values = subst (AreValues (take c.floor.terms c.bindings.terms) c.values.items) (sym f.names) f.values;
       failure = f.failure;
+      ball = subst (IsBall n) (sym f.ball) tt;
       boxes = first-boxes c q body f;
       boxed = subst (λ (F : List Frame). AreBoxed c.frames.boxes c.continuations c.calls (length c.continuations) (reverse F))
           (sym f.frames) tt;
@@ -161,18 +163,19 @@ first-sound c q body query f limit =
       good = first-good c q body query f;
       counted = subst (Counted (setup_of c)) (sym s)
           (record { steps = omega arith; calls = omega arith; conditions = omega arith }, omega arith, omega arith, tt, tt);
-      in_step = subst InStep (sym s) ((λ n h. absurd h, tt), (omega arith, tt), tt);
+      in_step = subst InStep (sym s) (((λ n h. absurd h, λ o h. refl), tt), (omega arith, tt), tt);
       limit = limit;
     }
 
 -- a machine of these parts
-abbrev pub core_of : Stored → Framed Held → Parts → ℕ → ℕ → Core
+abbrev pub core_of : Stored → Framed Alternative → Parts → ℕ → ℕ → Core
 core_of t f p budget wanted = record {
   store = t;
   bindings = p.bindings;
   continuations = p.continuations;
   frames = f;
   mode = mode.Forward p.items;
+  ball = None;
   seen = record { chrono = 0; call = 0; parent = 0; depth = 0; port = port.Call; goal = p.body };
   names = p.names;
   values = p.values;
@@ -187,7 +190,8 @@ core_of t f p budget wanted = record {
   wanted = wanted;
 }
 
-pub first-core : (t : Stored) (f : Framed Held) (p : Parts) (q : Goal) (budget wanted : ℕ) → IsMade q p → f.choices ≡ [] → f.boxes ≡ []
+pub first-core : (t : Stored) (f : Framed Alternative) (p : Parts) (q : Goal) (budget wanted : ℕ) → IsMade q p → f.choices ≡ [] →
+    f.boxes ≡ []
     → IsFirst (core_of t f p budget wanted) q p.body
 first-core t f p q budget wanted made choices boxes = record {
   continuations = made.continuations;
@@ -201,6 +205,7 @@ first-core t f p q budget wanted made choices boxes = record {
   names = made.names;
   values = made.values;
   failure = made.failure;
+  ball = refl;
   floor_there = made.floor_there;
   numbers = (refl, refl, refl, refl, refl);
 }

@@ -1,12 +1,15 @@
 -- Moves, one after another, up to a turn or the ending.
-use Rattle.std.proofs.Common.{◌≡◌, ℕ, suc, ◌+◌, ◌^◌, ◌<◌, ◌≤◌, List, [], ◌∷◌, length, reverse, refl, sym, ap, ◌∙◌, subst, arith}
+use Rattle.std.proofs.Common.{◌≡◌, ℕ, suc, ◌+◌, ◌<◌, ◌≤◌, List, [], ◌∷◌, length, reverse, Option, refl, sym, ap, ◌∙◌, subst}
+use Rattle.std.proofs.Common.{arith}
 use Rattle.op_trace.specs.Database.{Clause}
 use Rattle.op_trace.specs.World.{World, Turn}
 use Rattle.op_trace.specs.Outside.{Outside}
-use Rattle.op_trace.specs.Act.{Setup, setup_for}
+use Rattle.op_trace.specs.Act.{Setup}
+use Rattle.op_trace.specs.Builtins.{setup_for}
 use Rattle.op_trace.specs.Visit.{with_turns, More}
 use Rattle.op_machine.specs.declared.core_state.Core.{Core}
-use Rattle.op_machine.specs.declared.core_state.Ending.{Ending}
+use Rattle.op_machine.specs.declared.core_state.Outcome.{Outcome}
+use Rattle.op_machine.specs.declared.turn.Ending.{Ending}
 use Rattle.op_machine.specs.declared.core_state.Mode.{Mode}
 use Rattle.op_machine.specs.declared.core_state.Mode.TheVariants as mode
 use Rattle.op_machine.specs.declared.core_state.Step.{Step}
@@ -16,10 +19,15 @@ use Rattle.op_machine.specs.declared.choice_points.ChoiceKind.{ChoiceKind}
 use Rattle.op_machine.specs.declared.choice_points.ChoiceKind.TheVariants as kind
 use Rattle.op_store.specs.Stored.{Stored}
 use Rattle.op_machine.specs.Meaning.{Level, level_at, level_in, setup_of, world_in, state_of, state_with, items_in, term_in, bindings_in}
-use Rattle.op_machine.specs.Meaning.{choice_points_of, choice_point_by}
+use Rattle.op_machine.specs.Meaning.{choice_points_of, choice_point_by, verdict_of}
+use Rattle.op_machine.specs.Machine.{ending_for, HasBallNames}
+use Rattle.op_frames.specs.Frames.{Framed}
+use Rattle.op_logic.specs.Term.{Term}
+use Rattle.op_trace.specs.Run.{ending_of}
+use Rattle.op_machine.specs.declared.choice_points.Alternative.{Alternative}
 use Rattle.op_machine.specs.inner.Invariant.{IsSound, AreFrames, IsKind, Fits}
 use Rattle.op_machine.specs.inner.Bounds.{Counted, event_bound}
-use Rattle.op_machine.specs.Resume.{State, Forward, Backward, Over, Moved, owed, move, world_of}
+use Rattle.op_machine.specs.Resume.{State, Forward, Backward, Throwing, Over, Moved, owed, move, world_of}
 use Rattle.op_machine.specs.inner.Barriers.{InStep}
 use Rattle.op_machine.specs.Outer.{state_at, turns_at}
 use Rattle.op_machine.specs.inner.Moves.{Advances, turns_of}
@@ -30,13 +38,15 @@ use Rattle.op_machine.proofs.OuterLaws.{move-equation-outer}
 use Rattle.op_machine.proofs.BarrierLaws.{move-in_step}
 use Rattle.op_machine.proofs.ProgressLaws.{count_in, IsOnward, move-onward, move-lighter, weight, IsOver, HasClauses}
 
-pub world-with : (t : Stored) (v : Level) (F : List Frame) (w : World) (q : Mode) → world_of (state_with t v F w q) ≡ w
-world-with t v F w (mode.Forward n) = refl
-world-with t v F w mode.Backward = refl
-world-with t v F w (mode.Over e) = refl
+pub world-with : (t : Stored) (v : Level) (x : Framed Alternative) (w : World) (b : Option (Term ℕ)) (q : Mode)
+    → world_of (state_with t v x w b q) ≡ w
+world-with t v x w b (mode.Forward n) = refl
+world-with t v x w b mode.Backward = refl
+world-with t v x w b (mode.Throwing n) = refl
+world-with t v x w b (mode.Over e) = refl
 
 pub world-is : (c : Core) → world_of (state_of c) ≡ world_in c
-world-is c = world-with c.store (level_in c) c.frames.choices (world_in c) c.mode
+world-is c = world-with c.store (level_in c) c.frames (world_in c) c.ball c.mode
 
 pub counted-numbers : (s : Setup) (t : State) → s.budget ≤ 1000000000 → Counted s t
     → ((world_of t).steps ≤ s.budget) × ((world_of t).events ≤ event_bound (world_of t).steps)
@@ -44,6 +54,7 @@ pub counted-numbers : (s : Setup) (t : State) → s.budget ≤ 1000000000 → Co
     × ((world_of t).conditions ≤ (world_of t).steps)
 counted-numbers s (Forward I K σ w) b h = (h.0.steps, omega arith, omega arith, h.0.calls, h.0.conditions)
 counted-numbers s (Backward K w) b h = (h.0.steps, omega arith, omega arith, h.0.calls, h.0.conditions)
+counted-numbers s (Throwing x p K w) b h = (h.0.steps, omega arith, omega arith, h.0.calls, h.0.conditions)
 counted-numbers s (Over r w) b h = (h.0.steps, omega arith, omega arith, h.0.calls, h.0.conditions)
 
 pub bound-top : (n : ℕ) → n ≤ 1000000000 → event_bound n ≤ 2000000004000000000
@@ -144,12 +155,19 @@ showed-on first mid new s t one w a = record {
   count = omega (arith, w.count, (advance-onward mid new s w.follows.sound a).0, ap length one);
 }
 
-pub ended-at : (first mid : Core) (e : Ending) → Walked first mid → mid.mode ≡ mode.Over e → Ended first mid e
+-- an outcome is answered as this ending
+pub ended-at : (first mid : Core) (r : Outcome) (e : Ending) → Walked first mid → mid.mode ≡ mode.Over r
+    → ending_of (verdict_of mid.store mid.frames mid.ball r) ≡ ending_for mid.store.names e → HasBallNames (length mid.store.names) e
+    → Ended first mid e
 unfolding owed
-ended-at first mid e w m = record {
+ended-at first mid r e w m is names = record {
   walked = w;
+  verdict = verdict_of mid.store mid.frames mid.ball r;
+  is = is;
   owed = λ g o. w.owed g o
-      ∙ ap (λ (q : Mode). owed (setup_of mid) (state_at g o (state_with mid.store (level_in mid) mid.frames.choices (world_in mid) q))) m;
+      ∙ ap (λ (q : Mode). owed (setup_of mid) (state_at g o
+      (state_with mid.store (level_in mid) mid.frames (world_in mid) mid.ball q))) m;
+  names = names;
 }
 
 pub walked-self : (c : Core) → IsSound c → Walked c c
@@ -178,26 +196,28 @@ frames-clauses t floor v (f ∷ F) w a = go f.kept.kind a.2.kind
     go (kind.Fail c) k = tt
     go (kind.Condition c m) k = tt
 
-pub has-clauses : (t : Stored) (floor : ℕ) (v : Level) (F : List Frame) (w : World) (q : Mode) → AreFrames t floor v (reverse F)
-    → HasClauses (state_with t v F w q)
-has-clauses t floor v F w (mode.Forward i) a = tt
-has-clauses t floor v F w mode.Backward a = frames-clauses t floor v (reverse F) w a
-has-clauses t floor v F w (mode.Over e) a = tt
+pub has-clauses : (t : Stored) (floor : ℕ) (v : Level) (x : Framed Alternative) (w : World) (b : Option (Term ℕ)) (q : Mode)
+    → AreFrames t floor v (reverse x.choices) → HasClauses (state_with t v x w b q)
+has-clauses t floor v x w b (mode.Forward i) a = tt
+has-clauses t floor v x w b mode.Backward a = frames-clauses t floor v (reverse x.choices) w a
+has-clauses t floor v x w b (mode.Throwing i) a = tt
+has-clauses t floor v x w b (mode.Over e) a = tt
 
-pub not-over : (t : Stored) (v : Level) (F : List Frame) (w : World) (q : Mode) → ((e : Ending) → q ≡ mode.Over e → ⊥)
-    → IsOver (state_with t v F w q) → ⊥
-not-over t v F w (mode.Forward i) no_end o = o
-not-over t v F w mode.Backward no_end o = o
-not-over t v F w (mode.Over e) no_end o = no_end e refl
+pub not-over : (t : Stored) (v : Level) (x : Framed Alternative) (w : World) (b : Option (Term ℕ)) (q : Mode)
+    → ((e : Outcome) → q ≡ mode.Over e → ⊥) → IsOver (state_with t v x w b q) → ⊥
+not-over t v x w b (mode.Forward i) no_end o = o
+not-over t v x w b mode.Backward no_end o = o
+not-over t v x w b (mode.Throwing i) no_end o = o
+not-over t v x w b (mode.Over e) no_end o = no_end e refl
 
-pub lighter-on : (mid new : Core) → IsSound mid → ((e : Ending) → mid.mode ≡ mode.Over e → ⊥)
+pub lighter-on : (mid new : Core) → IsSound mid → ((e : Outcome) → mid.mode ≡ mode.Over e → ⊥)
     → Advances mid new (moved_from mid) step.Silent
     → weight (setup_of new) (state_of new) < weight (setup_of mid) (state_of mid)
 lighter-on mid new s no_end a =
     let l : weight (setup_of mid) (moved_from mid).state < weight (setup_of mid) (state_of mid) =
     move-lighter (setup_of mid) (state_of mid) (below-budget mid s)
-    (not-over mid.store (level_in mid) mid.frames.choices (world_in mid) mid.mode no_end)
-    (has-clauses mid.store mid.floor.terms (level_in mid) mid.frames.choices (world_in mid) mid.mode s.good.frames) s.counted
+    (not-over mid.store (level_in mid) mid.frames (world_in mid) mid.ball mid.mode no_end)
+    (has-clauses mid.store mid.floor.terms (level_in mid) mid.frames (world_in mid) mid.ball mid.mode s.good.frames) s.counted
     (sym a.turns) in
     subst (λ (x : Setup). weight x (state_of new) < weight (setup_of mid) (state_of mid)) (setup-same mid new a.budget a.wanted)
     (subst (λ (t : State). weight (setup_of mid) t < weight (setup_of mid) (state_of mid)) (sym a.state) l)

@@ -3,8 +3,8 @@ use Rattle.std.specs.Prelude.{◌≡◌, ℕ, ◌≤◌, ◌++◌}
 use Rattle.op_logic.specs.Term.{Term}
 use Rattle.op_logic.specs.Bind.{Bindings}
 use Rattle.op_trace.specs.Database.{Text}
-use Rattle.op_trace.specs.World.{World, Tries}
-use Rattle.op_trace.specs.Act.{Yield, Fails, Gives, Gives_again, Act}
+use Rattle.op_trace.specs.World.{World, Execution}
+use Rattle.op_trace.specs.Act.{Yield, Fails, Succeeds, Succeeds_again, Runs, Throws, Halts, Act}
 
 -- these bindings are those with some before them, which are newer
 pub record Extends (old new : Bindings Text) : Type 0 where
@@ -14,8 +14,11 @@ pub record Extends (old new : Bindings Text) : Type 0 where
 -- a solution adds bindings, and drops none
 abbrev pub OnlyBinds : Bindings Text → Yield → Type 0
 OnlyBinds σ Fails = Unit {0}
-OnlyBinds σ (Gives τ) = Extends σ τ
-OnlyBinds σ (Gives_again τ t) = Extends σ τ
+OnlyBinds σ (Succeeds τ) = Extends σ τ
+OnlyBinds σ (Succeeds_again τ t) = Extends σ τ
+OnlyBinds σ (Runs b) = Unit {0}
+OnlyBinds σ (Throws b) = Unit {0}
+OnlyBinds σ (Halts n) = Unit {0}
 
 -- two acts that were not interrupted are the same
 pub record IsSameAct (a b : Act) : Type 0 where
@@ -24,7 +27,7 @@ pub record IsSameAct (a b : Act) : Type 0 where
   pub yield : a.yield ≡ b.yield
 
 -- an act is the same for all numbers of steps left that cover it
-pub record KeepsActRules (act : ℕ → Tries → Term Text → Bindings Text → World → Act) : Type 0 where
-  pub binds : (left : ℕ) (t : Tries) (g : Term Text) (σ : Bindings Text) (w : World) → OnlyBinds σ (act left t g σ w).yield
-  pub same : (m n : ℕ) (t : Tries) (g : Term Text) (σ : Bindings Text) (w : World) → (act m t g σ w).cost ≤ m → (act m t g σ w).cost ≤ n
+pub record KeepsActRules (act : ℕ → Execution → Term Text → Bindings Text → World → Act) : Type 0 where
+  pub binds : (left : ℕ) (t : Execution) (g : Term Text) (σ : Bindings Text) (w : World) → OnlyBinds σ (act left t g σ w).yield
+  pub same : (m n : ℕ) (t : Execution) (g : Term Text) (σ : Bindings Text) (w : World) → (act m t g σ w).cost ≤ m → (act m t g σ w).cost ≤ n
       → IsSameAct (act m t g σ w) (act n t g σ w)

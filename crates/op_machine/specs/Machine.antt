@@ -1,18 +1,22 @@
 -- What callers see of a machine, and what its calls answer.
-use Rattle.std.specs.Prelude.{◌≡◌, ℕ, ◌+◌, ◌&&◌, not, Bool, true, false, List, [], ◌∷◌, ◌++◌}
+use Rattle.std.specs.Prelude.{◌≡◌, ℕ, ◌+◌, ◌&&◌, not, Bool, true, false, List, [], ◌∷◌, ◌++◌, Option}
+use Rattle.op_logic.specs.Term.{Term}
+use Rattle.op_logic.specs.Names.{HasNames, named}
+use Rattle.op_trace.specs.Database.{Text}
 use Rattle.op_trace.specs.World.{World, Event, Turn, Shown, Solved, loaded}
 use Rattle.op_trace.specs.Outside.{Outside, Beyond, Taking, follow, at}
-use Rattle.op_trace.specs.Act.{Setup, setup_for}
+use Rattle.op_trace.specs.Act.{Setup}
+use Rattle.op_trace.specs.Builtins.{setup_for}
 use Rattle.op_trace.specs.Run.{Run, ran}
 use Rattle.op_trace.specs.Ending as ending
 use Rattle.op_machine.specs.declared.continuations.Item.{Item}
 use Rattle.op_frames.specs.Frames.{Framed}
-use Rattle.op_machine.specs.declared.choice_points.Held.{Held}
+use Rattle.op_machine.specs.declared.choice_points.Alternative.{Alternative}
 use Rattle.op_machine.specs.declared.core_state.Core.{Core}
 use Rattle.op_machine.specs.declared.core_state.Mode.{Mode}
 use Rattle.op_machine.specs.declared.core_state.Seen.{Seen}
-use Rattle.op_machine.specs.declared.core_state.Ending.{Ending}
-use Rattle.op_machine.specs.declared.core_state.Ending.TheVariants as outcome
+use Rattle.op_machine.specs.declared.turn.Ending.{Ending}
+use Rattle.op_machine.specs.declared.turn.Ending.TheVariants as answer
 use Rattle.op_machine.specs.declared.turn.Last.{Last}
 use Rattle.op_machine.specs.declared.turn.Last.TheVariants as last
 use Rattle.op_machine.specs.declared.turn.Turn as declared
@@ -29,8 +33,10 @@ pub record Kept : Type 0 where
   pub tables : Stored
   pub bindings : bind.State
   pub continuations : List (List Item)
-  pub frames : Framed Held
+  pub frames : Framed Alternative
   pub mode : Mode
+  -- the ball that was thrown last
+  pub ball : Option (Term ℕ)
   pub seen : Seen
   -- the goal's named variables
   pub names : List (List ℕ × ℕ)
@@ -51,6 +57,7 @@ kept_of c l f = record {
   continuations = c.continuations;
   frames = c.frames;
   mode = c.mode;
+  ball = c.ball;
   seen = c.seen;
   names = c.names;
   last = l;
@@ -82,7 +89,7 @@ abbrev pub level_now : Kept → Level
 level_now k = level_of k.bindings k.continuations
 
 abbrev pub state_now : Kept → State
-state_now k = state_with k.tables (level_now k) k.frames.choices (world_now k) k.mode
+state_now k = state_with k.tables (level_now k) k.frames (world_now k) k.ball k.mode
 
 -- the turns that are still to come, the ending, and the world at it, over what lies outside, where these bytes were written before
 unfoldable pub to_come : Kept → Outside → List ℕ → Run
@@ -114,13 +121,24 @@ answered k = k.events + k.solutions
 abbrev pub with_turn : Turn → Run → Run
 with_turn t r = record { turns = t ∷ r.turns; ending = r.ending; world = r.world }
 
-abbrev pub ending_for : Ending → ending.Ending
-ending_for outcome.Stopped = ending.Stopped
-ending_for outcome.Failed = ending.Failed
-ending_for outcome.Spent = ending.Spent
+abbrev pub ending_for : List Text → Ending → ending.Ending
+ending_for names answer.Stopped = ending.Stopped
+ending_for names answer.Failed = ending.Failed
+ending_for names (answer.Thrown b) = ending.Thrown (named names b)
+ending_for names (answer.Halted n) = ending.Halted n
+ending_for names answer.Spent = ending.Spent
 
-abbrev pub only_ending : Ending → World → Run
-only_ending e w = record { turns = []; ending = ending_for e; world = w }
+abbrev pub only_ending : List Text → Ending → World → Run
+only_ending names e w = record { turns = []; ending = ending_for names e; world = w }
+
+-- the names of the ball of an ending are among the first n
+abbrev pub HasBallNames : ℕ → Ending → Type 0
+HasBallNames n (answer.Thrown b) = HasNames n b
+HasBallNames n e = Unit {0}
+
+abbrev pub TurnHasNames : ℕ → declared.Turn → Type 0
+TurnHasNames n (turn.Ended e) = HasBallNames n e
+TurnHasNames n t = Unit {0}
 
 -- of the turns that were to come the first was answered, in this world, and these are left; or none were, the ending was answered, and
 -- nothing else is left
@@ -131,7 +149,8 @@ Answers turn.Solution old new before after w =
     (before ≡ with_turn (Solved (bindings_in new.tables (level_now new)) w) after) × (has_solution new ≡ true)
     × (answered new ≡ answered old + 1)
 Answers (turn.Ended e) old new before after w =
-    (before ≡ only_ending e w) × (after ≡ before) × (has_event new ≡ false) × (has_solution new ≡ false) × (answered new ≡ answered old)
+    (before ≡ only_ending new.tables.names e w) × (after ≡ before) × (has_event new ≡ false) × (has_solution new ≡ false) ×
+    (answered new ≡ answered old)
 
 -- A machine goes on over a host, which comes to what it is now by a taking and by writing some bytes. Whatever the source of the input
 -- still has, and whatever was written before, the turn is that of the run over it, and the rest of the run is left over what lies outside

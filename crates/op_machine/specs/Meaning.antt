@@ -1,6 +1,6 @@
 -- What a machine's parts mean: over texts, the items, choice points, bindings and world of a walk.
-use Rattle.std.specs.Prelude.{ℕ, List, [], ◌∷◌, map, reverse, take}
-use Rattle.op_logic.specs.Term.{Term}
+use Rattle.std.specs.Prelude.{ℕ, List, [], ◌∷◌, map, reverse, take, Option, Some, None}
+use Rattle.op_logic.specs.Term.{Term, atom}
 use Rattle.op_logic.specs.Bind.{Bindings}
 use Rattle.op_logic.specs.Laws.{rename_bindings}
 use Rattle.op_logic.specs.Names.{name_at}
@@ -10,29 +10,31 @@ use Rattle.op_bind.specs.State as bind
 use Rattle.op_trace.specs.World as world
 use Rattle.op_trace.specs.Database.{Text}
 use Rattle.op_trace.specs.World.{World, Event, loaded}
-use Rattle.op_trace.specs.Act.{Setup, setup_for}
+use Rattle.op_trace.specs.Act.{Setup}
+use Rattle.op_trace.specs.Builtins.{setup_for}
 use Rattle.op_trace.specs.Visit as visit
 use Rattle.op_trace.specs.Visit.{Verdict}
 use Rattle.op_machine.specs.declared.continuations.Item.{Item}
 use Rattle.op_machine.specs.declared.continuations.Item.TheVariants as item
 use Rattle.op_frames.specs.declared.choice.Choice.{Choice}
+use Rattle.op_frames.specs.Frames.{Framed, open_from}
 use Rattle.op_machine.specs.declared.choice_points.ChoiceKind.{ChoiceKind}
 use Rattle.op_machine.specs.declared.choice_points.ChoiceKind.TheVariants as kind
-use Rattle.op_machine.specs.declared.choice_points.Held.{Held}
+use Rattle.op_machine.specs.declared.choice_points.Alternative.{Alternative}
 use Rattle.op_machine.specs.declared.core_state.Core.{Core}
 use Rattle.op_machine.specs.declared.core_state.Mode.{Mode}
 use Rattle.op_machine.specs.declared.core_state.Mode.TheVariants as mode
-use Rattle.op_machine.specs.declared.core_state.Ending.{Ending}
-use Rattle.op_machine.specs.declared.core_state.Ending.TheVariants as ending
+use Rattle.op_machine.specs.declared.core_state.Outcome.{Outcome}
+use Rattle.op_machine.specs.declared.core_state.Outcome.TheVariants as outcome
 use Rattle.op_machine.specs.declared.core_state.Seen.{Seen}
 use Rattle.op_machine.specs.inner.Continuations.{continuation_in}
 use Rattle.op_store.specs.Stored.{Stored, database_of}
 use Rattle.op_machine.specs.Program.{clauses_from, goal_named}
-use Rattle.op_machine.specs.Resume.{State, Forward, Backward, Over}
+use Rattle.op_machine.specs.Resume.{State, Forward, Backward, Throwing, Over}
 
 -- a choice point with what the machine keeps with it
 abbrev pub Frame : Type 0
-Frame = Choice Held
+Frame = Choice Alternative
 
 -- the terms, the bindings and the continuations of a moment
 pub record Level : Type 0 where
@@ -51,7 +53,7 @@ abbrev pub item_term : Stored → Level → Item → world.Item
 item_term t v (item.Goal r m) = world.Goal (term_in t v r) m
 item_term t v (item.Cut m) = world.Cut m
 item_term t v (item.Exit k r) = world.Exit k (term_in t v r)
-item_term t v (item.Try k r) = world.Try world.First k (term_in t v r)
+item_term t v (item.Execute k r) = world.Execute world.First k (term_in t v r)
 
 abbrev pub items_in : Stored → Level → ℕ → List world.Item
 items_in t v n = map (item_term t v) (continuation_in v.continuations n)
@@ -113,18 +115,30 @@ goal_now c g = term_in c.store (level_in c) g
 abbrev pub choice_points_in : Core → List visit.Choice
 choice_points_in c = choice_points_of c.store (level_in c) (reverse c.frames.choices)
 
-abbrev pub verdict_of : Ending → Verdict
-verdict_of ending.Stopped = visit.Stopped
-verdict_of ending.Failed = visit.Failed
-verdict_of ending.Spent = visit.Spent
+-- the ball that was thrown, over texts; where none was, nothing is meant
+abbrev pub ball_text : Stored → Option (Term ℕ) → Term Text
+ball_text t None = atom []
+ball_text t (Some b) = goal_named t b
 
-abbrev pub state_with : Stored → Level → List Frame → World → Mode → State
-state_with t v F w (mode.Forward n) = Forward (items_in t v n) (choice_points_of t v (reverse F)) (bindings_in t v) w
-state_with t v F w mode.Backward = Backward (choice_points_of t v (reverse F)) w
-state_with t v F w (mode.Over e) = Over (verdict_of e) w
+-- the numbers of a box and of those around it, the innermost first
+abbrev pub open_in : Framed Alternative → ℕ → List ℕ
+open_in x n = map (λ (p : ℕ × ℕ). p.0) (open_from x.boxes n)
+
+abbrev pub verdict_of : Stored → Framed Alternative → Option (Term ℕ) → Outcome → Verdict
+verdict_of t x b outcome.Stopped = visit.Stopped
+verdict_of t x b outcome.Failed = visit.Failed
+verdict_of t x b (outcome.Thrown n) = visit.Thrown (ball_text t b) (open_in x n)
+verdict_of t x b (outcome.Halted i) = visit.Halted i
+verdict_of t x b outcome.Spent = visit.Spent
+
+abbrev pub state_with : Stored → Level → Framed Alternative → World → Option (Term ℕ) → Mode → State
+state_with t v x w b (mode.Forward n) = Forward (items_in t v n) (choice_points_of t v (reverse x.choices)) (bindings_in t v) w
+state_with t v x w b mode.Backward = Backward (choice_points_of t v (reverse x.choices)) w
+state_with t v x w b (mode.Throwing n) = Throwing (ball_text t b) (open_in x n) (choice_points_of t v (reverse x.choices)) w
+state_with t v x w b (mode.Over e) = Over (verdict_of t x b e) w
 
 abbrev pub state_of : Core → State
-state_of c = state_with c.store (level_in c) c.frames.choices (world_in c) c.mode
+state_of c = state_with c.store (level_in c) c.frames (world_in c) c.ball c.mode
 
 abbrev pub event_seen : Stored → bind.State → Seen → Event
 event_seen t s e = record {

@@ -7,18 +7,21 @@ use Rattle.op_trace.specs.declared.port.Port.TheVariants as port
 use Rattle.op_trace.specs.declared.barrier.Barrier.{Barrier}
 use Rattle.op_trace.specs.declared.barrier.Barrier.TheVariants.{Call, InCondition, AtSuccess}
 use Rattle.op_trace.specs.Database.{Text, text_eq, Clause}
-use Rattle.op_trace.specs.World.{World, same_barrier, Tries, First, Item, Goal, Cut, Exit, Try, Turn, Shown, Solved}
-use Rattle.op_trace.specs.Act.{Yield, Fails, Gives, Gives_again, Act, Setup}
-use Rattle.op_trace.specs.Visit.{Verdict, Failed, CutTo, Stopped, Spent, Visited, gives, and_then, event_of, with_event, Control, TrueGoal}
-use Rattle.op_trace.specs.Visit.{FailGoal, CutGoal, Conjunction, Disjunction, IfThenElse, BoxedGoal, control, Inside, Clauses, Tried}
-use Rattle.op_trace.specs.Visit.{inside, entered, Choice, Redo}
+use Rattle.op_trace.specs.World.{World, same_barrier, Execution, First, Item, Goal, Cut, Exit, Execute, open_boxes, Turn, Shown, Solved}
+use Rattle.op_trace.specs.Act.{Yield, Fails, Succeeds, Succeeds_again, Runs, Throws, Halts, Act, Setup}
+use Rattle.op_trace.specs.Visit.{Verdict, Failed, CutTo, Thrown, Stopped, Halted, Spent, is_open, around, Visited}
+use Rattle.op_trace.specs.Visit.{gives, and_then, event_of, with_event, Control, TrueGoal}
+use Rattle.op_trace.specs.Visit.{FailGoal, CutGoal, Conjunction, Disjunction, IfThenElse, BoxedGoal, control, Inside, Clauses}
+use Rattle.op_trace.specs.Visit.{WithoutProcedure, inside, entered, Choice, Redo}
 use Rattle.op_trace.specs.Visit.{Branch, More, Again, Fail, Condition, counted_as, after, visit}
 
 -- where no choice point is left, a cut leaves nothing more to fail
 abbrev pub at_top : Verdict → World → Visited
 at_top Failed w = gives Failed w
 at_top (CutTo m) w = gives Failed w
+at_top (Thrown b o) w = gives (Thrown b o) w
 at_top Stopped w = gives Stopped w
+at_top (Halted n) w = gives (Halted n) w
 at_top Spent w = gives Spent w
 
 -- what is left to do after a result: what the last choice point does, then what is left by the others
@@ -51,16 +54,19 @@ abbrev pub keep : Barrier → List Choice → List Choice
 keep m [] = []
 keep m (c ∷ K) = if stays c m then c ∷ K else (if goes c m then K else keep m K)
 
--- a machine goes on with its items, or goes back to its last choice point, or is at the end
+-- a machine goes on with its items, or goes back to its last choice point, or a ball goes up from the innermost of these open boxes, or it
+-- is at the end
 pub data State : Type 0 where
   Forward : List Item → List Choice → Bindings Text → World → State
   Backward : List Choice → World → State
+  Throwing : Term Text → List ℕ → List Choice → World → State
   Over : Verdict → World → State
 
 -- the turns to come, the verdict and the world at the end
 unfoldable pub owed : Setup → State → Visited
 owed s (Forward I K σ w) = and_then (visit s I σ w) (resume s K)
 owed s (Backward K w) = resume s K Failed w
+owed s (Throwing b o K w) = resume s K (Thrown b o) w
 owed s (Over r w) = gives r w
 
 -- One small move, with the turn that it shows, if it shows one.
@@ -89,7 +95,7 @@ with_more (c ∷ cs) k g σ J K = More (c ∷ cs) k g σ J ∷ K
 -- a box was entered, over these choice points
 abbrev pub entered_state : Inside → ℕ → Term Text → List Item → List Choice → Bindings Text → World → State
 entered_state (Clauses cs) k g J K σ w = Backward (with_more cs k g σ J K) w
-entered_state Tried k g J K σ w = Forward (Try First k g ∷ J) K σ w
+entered_state WithoutProcedure k g J K σ w = Forward (Execute First k g ∷ J) K σ w
 
 abbrev pub invoked : Term Text → List Item → List Choice → Bindings Text → World → Moved
 invoked g J K σ w =
@@ -107,8 +113,11 @@ performed s a w h = acted (nat_le (w.steps + a.cost) s.budget) s a w h
 
 abbrev pub yielded : ℕ → Term Text → List Item → List Choice → Bindings Text → Yield → World → Moved
 yielded k g J K σ Fails w = silent (Backward K w)
-yielded k g J K σ (Gives τ) w = silent (Forward (Exit k g ∷ J) K τ w)
-yielded k g J K σ (Gives_again τ t) w = silent (Forward (Exit k g ∷ J) (Again t k g σ J ∷ K) τ w)
+yielded k g J K σ (Succeeds τ) w = silent (Forward (Exit k g ∷ J) K τ w)
+yielded k g J K σ (Succeeds_again τ t) w = silent (Forward (Exit k g ∷ J) (Again t k g σ J ∷ K) τ w)
+yielded k g J K σ (Runs b) w = silent (Forward (Goal b (Call k) ∷ Exit k g ∷ J) K σ w)
+yielded k g J K σ (Throws b) w = silent (Throwing b (k ∷ open_boxes J) K w)
+yielded k g J K σ (Halts n) w = silent (Over (Halted n) w)
 
 -- a condition comes next, and the else branch is kept as a choice point
 abbrev pub if_then_else_chosen : Term Text → Term Text → Term Text → Barrier → List Item → List Choice → Bindings Text → World → Moved
@@ -146,27 +155,40 @@ at_solution s K σ w =
 abbrev pub branched : Setup → Term Text → Barrier → Bindings Text → List Item → List Choice → World → Moved
 branched s t m σ J K w = pay s 1 w (λ u. silent (Forward (Goal t m ∷ J) K σ u))
 
--- a further try: one step, and the try
-abbrev pub tried_again : Setup → Tries → ℕ → Term Text → Bindings Text → List Item → List Choice → World → Moved
-tried_again s t k g σ J K w = pay s 1 w (λ u. silent (Forward (Try t k g ∷ J) K σ u))
+-- a further execution: one step, and the execution
+abbrev pub executed_again : Setup → Execution → ℕ → Term Text → Bindings Text → List Item → List Choice → World → Moved
+executed_again s t k g σ J K w = pay s 1 w (λ u. silent (Forward (Execute t k g ∷ J) K σ u))
+
+-- a ball leaves the next open box, which shows it; where there is none, it is the end
+abbrev pub leaving : Term Text → List ℕ → List Choice → World → Moved
+leaving b o [] w = silent (Over (Thrown b o) w)
+leaving b o (Redo k g σ J ∷ K) w = leaving b o K w
+leaving b o (Branch t m σ J ∷ K) w = leaving b o K w
+leaving b o (More cs k g σ J ∷ K) w = leaving b o K w
+leaving b o (Again t k g σ J ∷ K) w = leaving b o K w
+leaving b o (Fail k g σ J ∷ K) w =
+    if is_open k o then showing port.Exception k g σ J w (Throwing b (around k o) K (with_event w)) else leaving b o K w
+leaving b o (Condition n t m σ J ∷ K) w = leaving b o K w
 
 abbrev pub move : Setup → State → Moved
 move s (Forward [] K σ w) = at_solution s K σ w
 move s (Forward (Exit k g ∷ J) K σ w) = showing port.Exit k g σ J w (Forward J (Redo k g σ J ∷ K) σ (with_event w))
 move s (Forward (Cut m ∷ J) K σ w) = silent (Forward J (keep m K) σ w)
-move s (Forward (Try t k g ∷ J) K σ w) = performed s (s.act (s.budget - w.steps) t g σ w) w (yielded k g J K σ)
+move s (Forward (Execute t k g ∷ J) K σ w) = performed s (s.act (s.budget - w.steps) t g σ w) w (yielded k g J K σ)
 move s (Forward (Goal t m ∷ J) K σ w) = pay s 1 w (chosen (control t) t m J K σ)
 move s (Backward [] w) = silent (Over Failed w)
 move s (Backward (Redo k g σ J ∷ K) w) = showing port.Redo k g σ J w (Backward K (with_event w))
 move s (Backward (Branch t m σ J ∷ K) w) = branched s t m σ J K w
 move s (Backward (Condition n t m σ J ∷ K) w) = branched s t m σ J K w
 move s (Backward (Fail k g σ J ∷ K) w) = showing port.Fail k g σ J w (Backward K (with_event w))
-move s (Backward (Again t k g σ J ∷ K) w) = tried_again s t k g σ J K w
+move s (Backward (Again t k g σ J ∷ K) w) = executed_again s t k g σ J K w
 move s (Backward (More [] k g σ J ∷ K) w) = silent (Backward K w)
 move s (Backward (More (c ∷ cs) k g σ J ∷ K) w) = tried s c k g σ J (with_more cs k g σ J K) w
+move s (Throwing b o K w) = leaving b o K w
 move s (Over r w) = silent (Over r w)
 
 abbrev pub world_of : State → World
 world_of (Forward I K σ w) = w
 world_of (Backward K w) = w
+world_of (Throwing b o K w) = w
 world_of (Over r w) = w

@@ -2,10 +2,12 @@
 pub mod Barriers
 pub mod Bounds
 pub mod Boxes
+pub mod BuiltinKinds
 pub mod Continuations
 pub mod Cuts
 pub mod GoalKinds
 pub mod Invariant
+pub mod Leaving
 pub mod Moves
 pub mod Start
 pub mod Turns

@@ -1,20 +1,33 @@
-ghost use Rattle.std.specs.Prelude.{◌≡◌, ◌≤◌, ◌∷◌, length, IfOk};
+ghost use Rattle.std.specs.Prelude.{◌≡◌, ◌≤◌, ◌∷◌, length, IfOk, Some};
 ghost use Rattle.op_machine.specs.Meaning.{world_in, level_in, items_now, bindings_now, choice_points_in, setup_of, state_of};
-ghost use Rattle.op_machine.specs.Meaning.{choice_point_of, item_term};
-ghost use Rattle.op_machine.specs.inner.Invariant.{IsGood, IsItem, IsFrame, IsSound, Fits, HasItems, CanGrow};
+ghost use Rattle.op_machine.specs.Meaning.{choice_point_of, item_term, verdict_of};
+ghost use Rattle.op_machine.specs.Machine.{ending_for, HasBallNames};
+ghost use Rattle.op_trace.specs.Run.{ending_of};
+ghost use Rattle.op_machine.specs.inner.Invariant.{IsGood, IsItem, IsFrame, IsBall, IsSound, Fits, HasItems, CanGrow};
 ghost use Rattle.op_machine.specs.inner.Moves.{Keeps, Advances};
-ghost use Rattle.op_machine.specs.inner.Boxes.{IsTried};
+ghost use Rattle.op_machine.specs.inner.Boxes.{IsTried, IsEntered};
 ghost use Rattle.op_machine.specs.Resume.{Forward, move, Backward, at_solution};
 ghost use Rattle.op_machine.specs.inner.Turns.{Turned};
 ghost use Rattle.op_machine.specs.declared.core_state.Mode.TheVariants as mode;
 
-use crate::choice_points::{ChoiceKind, Held};
+use crate::choice_points::{Alternative, ChoiceKind};
 use crate::continuations::Item;
-use crate::core_state::{Core, Ending, Mode, Step};
-use crate::turn::Turn;
+use crate::core_state::{Core, Mode, Outcome, Step};
+use crate::turn::{Ending, Turn};
 use op_base::Memory;
 use op_frames::Choice;
+use op_term::Term;
 use op_trace::Port;
+
+// A copy of the ball that was thrown.
+fn ball_copy(ball: &Option<Term>) -> Result<Term, Memory>
+    ensures { IfOk result (λ b. ball.now ≡ Some b) }
+{
+    match ball {
+        Some(ball) => Ok(ball.copy()?),
+        None => Err(Memory),
+    }
+}
 
 impl Core {
     // Small moves, up to the next turn or the ending.
@@ -24,14 +37,30 @@ impl Core {
         ensures keeps { Keeps self.old self.new }
     {
         loop {
-            if let Mode::Over { ending } = self.mode {
-                return Ok(Turn::Ended(ending));
+            if let Mode::Over { outcome } = self.mode {
+                return Ok(Turn::Ended(self.ending(outcome)?));
             }
             match self.advance()? {
                 Step::Silent => {}
                 Step::Event => return Ok(Turn::Event),
                 Step::Solution => return Ok(Turn::Solution),
             }
+        }
+    }
+
+    // An outcome as it is answered, with a copy of the ball.
+    fn ending(&self, outcome: Outcome) -> Result<Ending, Memory>
+        requires { IsBall (length self.now.store.names) self.now.ball }
+        ensures ending { IfOk result (λ e. ending_of (verdict_of self.now.store self.now.frames self.now.ball outcome)
+            ≡ ending_for self.now.store.names e) }
+        ensures names { IfOk result (λ e. HasBallNames (length self.now.store.names) e) }
+    {
+        match outcome {
+            Outcome::Stopped => Ok(Ending::Stopped),
+            Outcome::Failed => Ok(Ending::Failed),
+            Outcome::Thrown { .. } => Ok(Ending::Thrown(ball_copy(&self.ball)?)),
+            Outcome::Halted { status } => Ok(Ending::Halted(status)),
+            Outcome::Spent => Ok(Ending::Spent),
         }
     }
 
@@ -45,7 +74,8 @@ impl Core {
         match self.mode {
             Mode::Forward { items } => self.forward(items),
             Mode::Backward => self.backward(),
-            Mode::Over { ending: _ } => Ok(Step::Silent),
+            Mode::Throwing { inner } => Ok(self.leave_box(inner)),
+            Mode::Over { outcome: _ } => Ok(Step::Silent),
         }
     }
 
@@ -70,6 +100,7 @@ impl Core {
         requires fits { Fits self.old }
         requires item { IsItem (length self.old.store.names) self.old.bindings.terms item }
         requires there { HasItems self.old rest }
+        requires entered { IsEntered self.old.frames.boxes self.old.calls self.old.continuations item rest }
         ensures advances { IfOk result (Advances self.old self.new (move (setup_of self.old)
             (Forward (item_term self.old.store (level_in self.old) item ∷ items_now self.old rest) (choice_points_in self.old)
             (bindings_now self.old) (world_in self.old)))) }
@@ -83,7 +114,7 @@ impl Core {
                 Ok(Step::Silent)
             }
             Item::Exit { call, goal } => self.exit_box(call, goal, rest),
-            Item::Try { .. } => Ok(self.try_goal()),
+            Item::Execute { call, goal } => self.execute_goal(call, goal, rest),
         }
     }
 
@@ -103,7 +134,7 @@ impl Core {
             }
             None => {
                 self.mode = Mode::Over {
-                    ending: Ending::Failed,
+                    outcome: Outcome::Failed,
                 };
                 Ok(Step::Silent)
             }
@@ -111,7 +142,7 @@ impl Core {
     }
 
     // What a choice point, made at the present moment, does after a failure.
-    fn resume(&mut self, choice: &Choice<Held>) -> Result<Step, Memory>
+    fn resume(&mut self, choice: &Choice<Alternative>) -> Result<Step, Memory>
         requires good { IsGood self.old }
         requires fits { Fits self.old }
         requires frame { IsFrame self.old.store (level_in self.old) choice.now }
@@ -148,7 +179,7 @@ impl Core {
         self.solutions += 1;
         self.mode = if self.solutions == self.wanted {
             Mode::Over {
-                ending: Ending::Stopped,
+                outcome: Outcome::Stopped,
             }
         } else {
             Mode::Backward

@@ -2,7 +2,7 @@ ghost use Rattle.std.specs.Prelude.{◌≡◌, ◌+◌, length, IfOk, OnOk};
 ghost use Rattle.op_machine.specs.Meaning.{world_in, items_now, goal_now, bindings_now, choice_points_in, event_seen};
 ghost use Rattle.op_machine.specs.inner.Invariant.{IsGood, HasItems, HasGoal, HasCalled, CanGrow};
 ghost use Rattle.op_machine.specs.inner.Moves.{Keeps, Advances, exit_moved, box_invoked};
-ghost use Rattle.op_machine.specs.Resume.{Backward, showing, silent};
+ghost use Rattle.op_machine.specs.Resume.{Backward, showing};
 ghost use Rattle.op_trace.specs.Visit.{event_of, with_event};
 
 use crate::choice_points::ChoiceKind;
@@ -49,16 +49,6 @@ impl Core {
         Ok(number)
     }
 
-    // The first try of a goal without a procedure, which fails.
-    pub(crate) fn try_goal(&mut self) -> Step
-        requires good { IsGood self.old }
-        ensures advances { Advances self.old self.new (silent (Backward (choice_points_in self.old) (world_in self.old))) result }
-        ensures keeps { Keeps self.old self.new }
-    {
-        self.mode = Mode::Backward;
-        Step::Silent
-    }
-
     // The exit of a box, which is redone when the machine comes back to it.
     pub(crate) fn exit_box(&mut self, call: u64, goal: Ref, rest: u64) -> Result<Step, Memory>
         requires good { IsGood self.old }
@@ -91,7 +81,7 @@ impl Core {
     }
 
     // Shows an event of a box with these items behind it.
-    fn show_event(&mut self, port: Port, call: u64, goal: Ref, rest: u64)
+    pub(crate) fn show_event(&mut self, port: Port, call: u64, goal: Ref, rest: u64)
         requires there { HasItems self.old rest }
         requires fits { CanGrow self.old.events }
         ensures seen { event_seen self.old.store self.old.bindings self.new.seen

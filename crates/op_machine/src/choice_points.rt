@@ -43,9 +43,9 @@ pub enum ChoiceKind {
     },
 }
 
-/// What the machine keeps with a choice point.
+/// What is left to do at a choice point, which is kept with it.
 #[derive(Drop)]
-pub struct Held {
+pub struct Alternative {
     /// The goal of the box, or of the branch that is tried.
     pub goal: Ref,
     /// How many continuations there were when the choice point was made.
@@ -56,7 +56,7 @@ pub struct Held {
 }
 
 // Whether a cut to a barrier comes to a choice point and keeps it.
-fn stays(choice: &Choice<Held>, barrier: Barrier) -> bool
+fn stays(choice: &Choice<Alternative>, barrier: Barrier) -> bool
     ensures { result ≡ frame_stays choice.now barrier }
 {
     match &choice.kept.kind {
@@ -69,7 +69,7 @@ fn stays(choice: &Choice<Held>, barrier: Barrier) -> bool
 }
 
 // Whether a cut to a barrier comes to a choice point and drops it as the last.
-fn goes(choice: &Choice<Held>, barrier: Barrier) -> bool
+fn goes(choice: &Choice<Alternative>, barrier: Barrier) -> bool
     ensures { result ≡ frame_goes choice.now barrier }
 {
     match &choice.kept.kind {
@@ -79,7 +79,7 @@ fn goes(choice: &Choice<Held>, barrier: Barrier) -> bool
 }
 
 // How many of some choice points a cut to a barrier keeps.
-fn kept_by(choices: &[Choice<Held>], barrier: Barrier) -> u64
+fn kept_by(choices: &[Choice<Alternative>], barrier: Barrier) -> u64
     ensures within { result ≤ length choices.now }
     ensures kept { reverse (take result choices.now) ≡ keep_frames barrier (reverse choices.now) }
 {
@@ -121,7 +121,7 @@ impl Core {
         self.frames.push_choice(Choice {
             mark,
             rest,
-            kept: Held {
+            kept: Alternative {
                 goal,
                 continuations,
                 calls,
@@ -168,7 +168,7 @@ impl Core {
     }
 
     // The last choice point, which is dropped.
-    pub(crate) fn pop_choice_point(&mut self) -> Option<Choice<Held>>
+    pub(crate) fn pop_choice_point(&mut self) -> Option<Choice<Alternative>>
         ensures frames { MatchOption result (reverse self.old.frames.choices ≡ [])
             (λ f. reverse self.old.frames.choices ≡ f ∷ reverse self.new.frames.choices) }
         ensures empty { IfNone result (reverse self.new.frames.choices ≡ []) }
@@ -179,7 +179,7 @@ impl Core {
     }
 
     // Back to the bindings, the continuations and the boxes that were there when a choice point was made.
-    pub(crate) fn restore(&mut self, choice: &Choice<Held>)
+    pub(crate) fn restore(&mut self, choice: &Choice<Alternative>)
         requires earlier { IsEarlier choice.now (level_in self.old) }
         requires some { 0 < choice.now.kept.continuations }
         requires calls { CanGrow choice.now.kept.calls }

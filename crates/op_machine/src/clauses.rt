@@ -43,7 +43,7 @@ fn places_law(snapshot: &Snapshot)
 }
 
 impl Core {
-    // A box is entered: the clauses of its goal's procedure are tried by going back to them, and a goal without a procedure is tried.
+    // A box is entered: the clauses of its goal's procedure are tried by going back to them, and a goal without a procedure is executed.
     pub(crate) fn enter_box(&mut self, call: u64, goal: Ref, rest: u64) -> Result<(), Memory>
         requires good { IsGood self.old }
         requires there { HasItems self.old rest }
@@ -64,7 +64,7 @@ impl Core {
                 self.mode = Mode::Backward;
             }
             None => {
-                let items = self.add(Item::Try { call, goal }, rest)?;
+                let items = self.add(Item::Execute { call, goal }, rest)?;
                 self.mode = Mode::Forward { items };
             }
         }

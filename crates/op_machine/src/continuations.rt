@@ -21,8 +21,8 @@ pub enum Item {
     Cut { barrier: Barrier },
     /// The exit of a box that was called with a goal.
     Exit { call: u64, goal: Ref },
-    /// The first try of the goal that a box was called with, which has no procedure.
-    Try { call: u64, goal: Ref },
+    /// The first execution of the goal that a box was called with, which has no procedure.
+    Execute { call: u64, goal: Ref },
 }
 
 /// An item before a continuation, with the innermost box that is open behind it and how many there are.
@@ -166,7 +166,7 @@ fn opened_before(cells: &Vec<Cell>, item: &Item, rest: u64) -> (u64, u64)
         Item::Goal { .. } => (parent, depth),
         Item::Cut { .. } => (parent, depth),
         Item::Exit { call, .. } => (*call, depth + 1),
-        Item::Try { call, .. } => (*call, depth + 1),
+        Item::Execute { call, .. } => (*call, depth + 1),
     }
 }
 

@@ -1,18 +1,23 @@
-use crate::choice_points::Held;
+use crate::choice_points::Alternative;
 use crate::continuations::Continuations;
 use op_bind::{Bindings, Mark, Ref};
 use op_frames::Frames;
 use op_reader::Names;
 use op_store::Store;
+use op_term::Term;
 use op_trace::Port;
 
 /// How a run ended.
 #[derive(Clone, Copy, Debug, PartialEq, Eq)]
-pub enum Ending {
+pub enum Outcome {
     /// The wanted solution was found.
     Stopped,
     /// No alternative was left.
     Failed,
+    /// The ball has left all boxes that had a choice point: this one is the next around them, or 0.
+    Thrown { inner: u64 },
+    /// The run was halted with a number.
+    Halted { status: i64 },
     /// One more step would have passed the budget.
     Spent,
 }
@@ -24,8 +29,10 @@ pub enum Mode {
     Forward { items: u64 },
     /// The last choice point.
     Backward,
+    /// The ball goes up to the choice point of this box, or of one around it.
+    Throwing { inner: u64 },
     /// Nothing.
-    Over { ending: Ending },
+    Over { outcome: Outcome },
 }
 
 /// What a move has shown.
@@ -53,8 +60,10 @@ pub struct Core {
     pub store: Store,
     pub bindings: Bindings,
     pub continuations: Continuations,
-    pub frames: Frames<Held>,
+    pub frames: Frames<Alternative>,
     pub mode: Mode,
+    // the ball that was thrown last
+    pub ball: Option<Term>,
     pub seen: Seen,
     pub names: Names,
     // the variables that have names, made before all else

@@ -1,4 +1,4 @@
-ghost use Rattle.std.specs.Prelude.{◌≡◌, ◌≢◌, ◌<◌, take};
+ghost use Rattle.std.specs.Prelude.{◌≡◌, ◌≢◌, ◌<◌, length, take};
 ghost use Rattle.op_logic.specs.Names.{IsTable};
 ghost use Rattle.op_store.specs.Stored.{first_names};
 ghost use Rattle.std.specs.Bool.{OnTrue, OnFalse};
@@ -33,10 +33,10 @@ pub enum GoalKind {
     Boxed,
 }
 
-/// A law for proofs: the names of a store are a table, in which those of the control constructs come first.
+/// A law for proofs: the names of a store are a table, which begins with those that come first.
 pub(crate) fn names_law(store: &Store)
     ensures table { IsTable store.now.names }
-    ensures begins { take 8 store.now.names ≡ first_names }
+    ensures begins { take (length first_names) store.now.names ≡ first_names }
 {
     let _ = store.symbols().count();
 }

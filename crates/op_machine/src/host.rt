@@ -2,7 +2,7 @@ ghost use Rattle.std.specs.Prelude.{◌≡◌, ◌++◌, ℕ, List, [], refl};
 ghost use Rattle.op_trace.specs.Outside.{Beyond, Taking, nothing, and_then, no_outside};
 ghost use Rattle.op_machine.specs.Host.{IsNothing, joins_nothing};
 
-/// What lies outside a traced program. A program without builtins asks nothing of it.
+/// What lies outside a traced program. The builtins of control ask nothing of it.
 pub trait Host {
     /// What lies outside, by the bytes that the source of its input still has.
     ghost outside: { Self → Beyond };

@@ -4,6 +4,8 @@
 mod advance;
 mod boxes;
 mod budget;
+mod builtin_kind;
+mod builtins;
 mod choice_points;
 mod clauses;
 mod continuations;
@@ -13,12 +15,13 @@ mod goal_kind;
 mod host;
 pub mod laws;
 mod machine;
+mod made_terms;
 mod start;
+mod throwing;
 mod turn;
 mod view;
 
-pub use core_state::Ending;
 pub use host::{Host, Nothing};
 pub use machine::Machine;
-pub use turn::{Cause, MachineFault, Turn};
-pub use view::{EventView, SolutionView};
+pub use turn::{Cause, Ending, MachineFault, Turn};
+pub use view::SolutionView;

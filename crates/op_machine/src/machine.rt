@@ -3,18 +3,19 @@ ghost use Rattle.std.specs.Prelude.{IfOk, OnOk, OnErr, IsErrOf, IfSome, is_some}
 ghost use Rattle.op_store.specs.Queries.{IsSoundGoal};
 ghost use Rattle.op_store.specs.Stored.{database_of};
 ghost use Rattle.op_logic.specs.Names.{named};
-ghost use Rattle.op_trace.specs.Act.{setup_for};
+ghost use Rattle.op_trace.specs.Builtins.{setup_for};
 ghost use Rattle.op_trace.specs.Run.{run};
 ghost use Rattle.op_trace.specs.World.{loaded};
 ghost use Rattle.op_trace.specs.Outside.{Outside, nothing, at};
 ghost use Rattle.op_machine.specs.Host.{Leaves};
-ghost use Rattle.op_machine.specs.Machine.{last_after};
+ghost use Rattle.op_machine.specs.Machine.{last_after, TurnHasNames};
 
-use crate::core_state::{Core, Ending, Mode, Seen};
+use crate::core_state::{Core, Mode, Seen};
 use crate::host::Host;
 use crate::turn::{Cause, Last, MachineFault, Turn};
-use crate::view::{EventView, SolutionView};
+use crate::view::SolutionView;
 use op_base::{Memory, Steps};
+use op_event::EventView;
 use op_store::{Goal, Store};
 use op_term::Symbols;
 use op_trace::Port;
@@ -50,7 +51,7 @@ impl Model for Machine {
 
 impl Machine {
     ghost use Rattle.op_machine.specs.Machine.{to_come, Goes, answered, event_now, has_event, has_solution};
-    ghost use Rattle.op_machine.specs.View.{event_in};
+    ghost use Rattle.op_event.specs.View.{event_in};
 
     /// A machine before the first turn of a goal's run over the clauses of a store: the run may take `budget` steps,
     /// from 1 to 1,000,000,000, and ends at the solution numbered `wanted`, from 1, or at none for 0. The turns to come are those
@@ -95,6 +96,7 @@ impl Machine {
     ) -> Result<Turn, MachineFault>
         ensures goes { IfOk result (λ t. Goes t self.old self.new
             (H.went host.old host.new) (H.outside host.old) (H.outside host.new)) }
+        ensures ball { IfOk result (TurnHasNames (length self.new.tables.names)) }
         ensures left { OnErr result (Leaves (H.went host.old host.new)) }
         ensures unasked { self.old.faulted ≡ true → H.went host.old host.new nothing [] }
         ensures cost { OnOk result (steps.new ≡ steps.old + (self.new.steps - self.old.steps)) }
@@ -120,7 +122,7 @@ impl Machine {
         let solutions = self.core.solutions;
         match self.core.turn() {
             Ok(turn) => {
-                self.last = last_of(turn);
+                self.last = last_of(&turn);
                 steps.tick(self.core.steps - before);
                 Ok(turn)
             }
@@ -153,7 +155,7 @@ impl Machine {
         self.core.frames.choices().len() as u64
     }
 
-    /// The event that was the last turn; None where the last turn was no event or a fault was answered.
+    /// The event that was the last turn, lent until the next one; None where the last turn was no event or a fault was answered.
     pub fn event(&self) -> Option<EventView<'_>>
         ensures there { is_some result ≡ has_event self.now }
         ensures event { IfSome result (λ v. event_in v ≡ event_now self.now) }
@@ -163,8 +165,14 @@ impl Machine {
         if self.faulted || self.last != Last::Event {
             return None;
         }
+        let seen = &self.core.seen;
         Some(EventView::new(
-            self.core.seen,
+            seen.chrono,
+            seen.call,
+            seen.parent,
+            seen.depth,
+            seen.port,
+            &seen.goal,
             &self.core.bindings,
             self.core.store.symbols(),
         ))
@@ -198,8 +206,8 @@ fn reset_counts(core: &mut Core, steps: u64, events: u64, solutions: u64)
     core.solutions = solutions;
 }
 
-fn last_of(turn: Turn) -> Last
-    ensures { result ≡ last_after turn }
+fn last_of(turn: &Turn) -> Last
+    ensures { result ≡ last_after turn.now }
 {
     match turn {
         Turn::Event => Last::Event,

@@ -1,5 +1,5 @@
 ghost use Rattle.std.specs.Prelude.{◌≡◌, ◌<◌, ◌≤◌, length, IfOk, OnOk};
-ghost use Rattle.op_logic.specs.Term.{atom, var as variable, IsWithin};
+ghost use Rattle.op_logic.specs.Term.{var as variable, IsWithin};
 ghost use Rattle.op_term.specs.Places.{term_at};
 ghost use Rattle.op_store.specs.Queries.{IsSoundGoal};
 ghost use Rattle.op_machine.specs.inner.Invariant.{IsSound, AreValues};
@@ -10,6 +10,7 @@ ghost use Rattle.op_machine.specs.inner.Start.{IsMade};
 
 use crate::continuations::{Continuations, Item};
 use crate::core_state::{Core, Mode, Seen};
+use crate::made_terms::load_atom;
 use op_base::Memory;
 use op_bind::{Bindings, Mark, Ref};
 use op_frames::Frames;
@@ -51,19 +52,6 @@ fn load_variable(alloc: Global, bindings: &mut Bindings, var: u64) -> Result<Ref
     bindings.load(&builder.finish(root), 0)
 }
 
-// A Ref to the atom `fail`, by the number that a store gives it.
-fn load_failure(alloc: Global, bindings: &mut Bindings) -> Result<Ref, Memory>
-    ensures there { IfOk result (λ r. r < length bindings.new.terms) }
-    ensures value { IfOk result (λ r. term_at bindings.new.terms r ≡ atom 1) }
-    ensures bound { OnOk result (bindings.new.bound ≡ bindings.old.bound) }
-    ensures count { OnOk result (bindings.new.count ≡ bindings.old.count) }
-    ensures grows { OnOk result (Grows bindings.old bindings.new) }
-{
-    let mut builder = Builder::new(alloc);
-    let root = builder.atom(FAIL)?;
-    bindings.load(&builder.finish(root), 0)
-}
-
 // A Ref to each variable that has a name.
 fn load_values(alloc: Global, bindings: &mut Bindings, names: &Names) -> Result<Vec<Ref>, Memory>
     requires { AreCounted bindings.old.count names.now }
@@ -88,7 +76,7 @@ pub(crate) fn parts_of(alloc: Global, goal: &Goal) -> Result<Parts, Memory>
     let mut bindings = Bindings::new(alloc);
     let first = bindings.fresh(goal.vars)?;
     let values = load_values(alloc, &mut bindings, &names)?;
-    let failure = load_failure(alloc, &mut bindings)?;
+    let failure = load_atom(alloc, &mut bindings, FAIL)?;
     let floor = bindings.mark();
     let body = bindings.load(&goal.body, first)?;
     let mut continuations = Continuations::new(alloc);
@@ -143,6 +131,7 @@ impl Core {
             continuations,
             frames: Frames::new(alloc),
             mode: Mode::Forward { items },
+            ball: None,
             seen: Seen {
                 chrono: 0,
                 call: 0,

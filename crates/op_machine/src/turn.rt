@@ -1,8 +1,23 @@
-use crate::core_state::Ending;
 use op_base::Memory;
+use op_term::Term;
+
+/// How a run ended.
+#[derive(Drop)]
+pub enum Ending {
+    /// The wanted solution was found.
+    Stopped,
+    /// No alternative was left.
+    Failed,
+    /// A ball has left all boxes.
+    Thrown(Term),
+    /// The run was halted with a number.
+    Halted(i64),
+    /// One more step would have passed the budget.
+    Spent,
+}
 
 /// What a machine answers: the next turn of its run, or its ending.
-#[derive(Clone, Copy, Debug, PartialEq, Eq)]
+#[derive(Drop)]
 pub enum Turn {
     /// An event.
     Event,

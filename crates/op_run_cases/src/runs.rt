@@ -2,13 +2,17 @@ ghost use Rattle.std.specs.Prelude.{◌≡◌, ◌<◌, ◌≤◌, length, IfOk}
 ghost use Rattle.op_logic.specs.Names.{HasNames};
 ghost use Rattle.op_bind.specs.State.{value_of};
 ghost use Rattle.op_store.specs.Queries.{IsSoundGoal};
+ghost use Rattle.op_machine.specs.Machine.{HasBallNames, TurnHasNames};
 
 use op_base::{Memory, Steps};
 use op_bind::{Bindings, Ref};
-use op_machine::{Ending, EventView, Machine, MachineFault, Nothing, SolutionView, Turn};
+use op_case_lines::escaped;
+use op_desk::Bytes;
+use op_event::{EventView, Port};
+use op_machine::{Ending, Machine, MachineFault, Nothing, SolutionView, Turn};
 use op_store::{Goal, Locked, Store};
-use op_term::{Node, Symbols};
-use op_trace::Port;
+use op_term::{Node, Symbols, Term, Whole};
+use op_writer::{Style, write_text};
 use std::alloc::Global;
 use std::marker::Brand;
 use std::sync::ledger::{Blank, Ledger};
@@ -19,15 +23,59 @@ fn word(port: Port) -> &'static str {
         Port::Exit => "exit",
         Port::Redo => "redo",
         Port::Fail => "fail",
+        Port::Exception => "exception",
     }
 }
 
-fn ending_word(ending: Ending) -> &'static str {
-    match ending {
-        Ending::Stopped => "stopped",
-        Ending::Failed => "failed",
-        Ending::Spent => "spent",
+// A ball, quoted, with the operators of the program.
+fn add_ball(alloc: Global, line: &mut String, store: &Store, ball: &Term) -> Result<(), Memory>
+    requires { HasNames (length store.now.names) ball.now }
+{
+    let whole = Whole::new(ball);
+    let root = whole.root();
+    let ops = store.ops();
+    let symbols = store.symbols();
+    let mut text = Bytes::new(alloc);
+    let written = write_text(
+        alloc,
+        ops,
+        Style::Quoted,
+        symbols,
+        &whole,
+        &root,
+        1200,
+        u64::MAX,
+        &mut text,
+    );
+    if written.is_err() {
+        return Err(Memory);
     }
+    line.push_str(&escaped(alloc, text.as_slice())?)?;
+    Ok(())
+}
+
+// The ending, and the steps.
+fn add_ending(
+    alloc: Global,
+    line: &mut String,
+    machine: &Machine,
+    ending: &Ending,
+) -> Result<(), Memory>
+    requires { HasBallNames (length machine.now.tables.names) ending.now }
+{
+    match ending {
+        Ending::Stopped => line.push_str("stopped")?,
+        Ending::Failed => line.push_str("failed")?,
+        Ending::Thrown(ball) => {
+            line.push_str("thrown ")?;
+            add_ball(alloc, line, machine.store(), ball)?;
+        }
+        Ending::Halted(status) => write!(line, "halted {status}")?,
+        Ending::Spent => line.push_str("spent")?,
+    }
+    let used = machine.used_steps();
+    write!(line, " {used}")?;
+    Ok(())
 }
 
 // A value's outermost part.
@@ -73,7 +121,7 @@ fn add_event(line: &mut String, view: &EventView<'_>) -> Result<(), Memory> {
     let parent = view.parent();
     let depth = view.depth();
     write!(line, "{chrono} {call} {parent} {depth} {port}")?;
-    add_first(line, view.bindings(), &view.goal())?;
+    add_first(line, view.bindings(), view.goal())?;
     Ok(line.push_str("|")?)
 }
 
@@ -91,7 +139,9 @@ fn add_solution(line: &mut String, view: &SolutionView<'_>) -> Result<(), Memory
 }
 
 // Adds the turn that a machine came to.
-fn add_turn(line: &mut String, machine: &Machine, turn: Turn) -> Result<(), Memory> {
+fn add_turn(alloc: Global, line: &mut String, machine: &Machine, turn: &Turn) -> Result<(), Memory>
+    requires { TurnHasNames (length machine.now.tables.names) turn.now }
+{
     match turn {
         Turn::Event => {
             if let Some(view) = machine.event() {
@@ -103,16 +153,14 @@ fn add_turn(line: &mut String, machine: &Machine, turn: Turn) -> Result<(), Memo
                 add_solution(line, &view)?;
             }
         }
-        Turn::Ended(ending) => {
-            let word = ending_word(ending);
-            let used = machine.used_steps();
-            write!(line, "{word} {used}")?;
-        }
+        Turn::Ended(ending) => add_ending(alloc, line, machine, ending)?,
     }
     Ok(())
 }
 
-fn next<L: Ledger>(machine: &mut Machine, steps: &mut Steps<L>) -> Result<Turn, Memory> {
+fn next<L: Ledger>(machine: &mut Machine, steps: &mut Steps<L>) -> Result<Turn, Memory>
+    ensures { IfOk result (TurnHasNames (length machine.new.tables.names)) }
+{
     match machine.next(&mut Nothing, steps) {
         Ok(turn) => Ok(turn),
         Err(MachineFault::Memory) | Err(MachineFault::Ended(_)) => Err(Memory),
@@ -121,13 +169,14 @@ fn next<L: Ledger>(machine: &mut Machine, steps: &mut Steps<L>) -> Result<Turn, 
 
 // Adds all turns, up to a thousand.
 fn add_turns<L: Ledger>(
+    alloc: Global,
     line: &mut String,
     machine: &mut Machine,
     steps: &mut Steps<L>,
 ) -> Result<(), Memory> {
     for _ in 0..1000 {
         let turn = next(machine, steps)?;
-        add_turn(line, machine, turn)?;
+        add_turn(alloc, line, machine, &turn)?;
         if let Turn::Ended(_) = turn {
             break;
         }
@@ -137,6 +186,7 @@ fn add_turns<L: Ledger>(
 
 // Adds how many events there are, and the ending.
 fn add_count<L: Ledger>(
+    alloc: Global,
     line: &mut String,
     machine: &mut Machine,
     steps: &mut Steps<L>,
@@ -148,7 +198,7 @@ fn add_count<L: Ledger>(
             Turn::Solution => {}
             Turn::Ended(ending) => {
                 write!(line, "{events} ")?;
-                add_turn(line, machine, Turn::Ended(ending))?;
+                add_ending(alloc, line, machine, &ending)?;
                 break;
             }
         }
@@ -185,19 +235,21 @@ pub enum Shown {
 }
 
 fn add_shown<L: Ledger>(
+    alloc: Global,
     line: &mut String,
     machine: &mut Machine,
     steps: &mut Steps<L>,
     shown: Shown,
 ) -> Result<(), Memory> {
     match shown {
-        Shown::Turns => add_turns(line, machine, steps),
-        Shown::Count => add_count(line, machine, steps),
+        Shown::Turns => add_turns(alloc, line, machine, steps),
+        Shown::Count => add_count(alloc, line, machine, steps),
         Shown::ChoicePoints => add_choice_points(line, machine, steps),
     }
 }
 
 fn run_by<L: Ledger>(
+    alloc: Global,
     line: &mut String,
     machine: &mut Machine,
     blank: Blank,
@@ -208,15 +260,25 @@ fn run_by<L: Ledger>(
     requires some { 0 < L.parts }
 {
     let mut steps = Steps::<L>::new(blank);
-    add_shown(line, machine, &mut steps, shown)
+    add_shown(alloc, line, machine, &mut steps, shown)
 }
 
-fn add_run(line: &mut String, machine: &mut Machine, shown: Shown) -> Result<(), Memory> {
-    run_by::<Brand>(line, machine, Blank::new(1), shown)
+fn add_run(
+    alloc: Global,
+    line: &mut String,
+    machine: &mut Machine,
+    shown: Shown,
+) -> Result<(), Memory> {
+    run_by::<Brand>(alloc, line, machine, Blank::new(1), shown)
 }
 
-fn machine_run(line: &mut String, mut machine: Machine, shown: Shown) -> Result<(), Memory> {
-    add_run(line, &mut machine, shown)
+fn machine_run(
+    alloc: Global,
+    line: &mut String,
+    mut machine: Machine,
+    shown: Shown,
+) -> Result<(), Memory> {
+    add_run(alloc, line, &mut machine, shown)
 }
 
 // A run of a goal that was read.
@@ -234,7 +296,7 @@ fn goal_run(
     requires bounded { budget ≤ 1000000000 }
 {
     let machine = Machine::start(alloc, store, goal, budget, wanted)?;
-    machine_run(line, machine, shown)
+    machine_run(alloc, line, machine, shown)
 }
 
 // The goal that a text is behind a program, or which of them is none.

@@ -1,9 +1,9 @@
 -- Bounds on what a machine counts: between two steps each box that is open or can be entered again shows few events.
 use Rattle.std.specs.Prelude.{ℕ, suc, ◌+◌, ◌*◌, ◌<◌, ◌≤◌, List, [], ◌∷◌, length}
-use Rattle.op_trace.specs.World.{World, Item, Goal, Cut, Exit, Try, open_boxes}
+use Rattle.op_trace.specs.World.{World, Item, Goal, Cut, Exit, Execute, open_boxes}
 use Rattle.op_trace.specs.Act.{Setup}
 use Rattle.op_trace.specs.Visit.{Choice, Redo, Branch, More, Again, Fail, Condition}
-use Rattle.op_machine.specs.Resume.{State, Forward, Backward, Over}
+use Rattle.op_machine.specs.Resume.{State, Forward, Backward, Throwing, Over}
 
 -- how many events the choice points show by themselves
 abbrev pub pending : List Choice → ℕ
@@ -20,14 +20,15 @@ abbrev pub IsGoalFirst : List Item → Type 0
 IsGoalFirst (Goal t m ∷ J) = Unit {0}
 IsGoalFirst I = ⊥
 
--- of the boxes that exit, or whose goal is tried, each has a number that was given out, and fewer are open behind it; behind a cut comes a
+-- of the boxes that exit, or whose goal is executed, each has a number that was given out, and fewer are open behind it; behind a cut
+-- comes a
 -- goal
 abbrev pub IsNested : ℕ → List Item → Type 0
 IsNested n [] = Unit {0}
 IsNested n (Goal t m ∷ J) = IsNested n J
 IsNested n (Cut m ∷ J) = IsGoalFirst J × IsNested n J
 IsNested n (Exit k g ∷ J) = (length (open_boxes J) < k) × (k ≤ n) × IsNested n J
-IsNested n (Try t k g ∷ J) = (length (open_boxes J) < k) × (k ≤ n) × IsNested n J
+IsNested n (Execute t k g ∷ J) = (length (open_boxes J) < k) × (k ≤ n) × IsNested n J
 
 abbrev pub AreNested : ℕ → List Choice → Type 0
 AreNested n [] = Unit {0}
@@ -52,5 +53,7 @@ Counted s (Forward I K σ w) =
     Counts s w × (w.events + (2 * length (open_boxes I) + pending K) ≤ event_bound w.steps) × (w.solutions ≤ w.steps)
     × IsNested w.calls I × AreNested w.calls K
 Counted s (Backward K w) =
+    Counts s w × (w.events + pending K ≤ event_bound w.steps) × (w.solutions ≤ suc w.steps) × AreNested w.calls K
+Counted s (Throwing b o K w) =
     Counts s w × (w.events + pending K ≤ event_bound w.steps) × (w.solutions ≤ suc w.steps) × AreNested w.calls K
 Counted s (Over r w) = Counts s w × (w.events ≤ event_bound w.steps) × (w.solutions ≤ suc w.steps)

@@ -1,5 +1,5 @@
 -- What holds of a machine's parts between two moves.
-use Rattle.std.specs.Prelude.{◌≡◌, ℕ, ◌+◌, ◌^◌, ◌<◌, ◌≤◌, List, [], ◌∷◌, length, reverse, take, All}
+use Rattle.std.specs.Prelude.{◌≡◌, ℕ, ◌+◌, ◌^◌, ◌<◌, ◌≤◌, List, [], ◌∷◌, length, reverse, take, All, Option, Some, None}
 use Rattle.op_logic.specs.Term.{Term, var, atom}
 use Rattle.op_logic.specs.Names.{HasNames, HaveNames}
 use Rattle.op_term.specs.Places.{term_at}
@@ -27,7 +27,7 @@ abbrev pub IsItem : ℕ → List (Term ℕ) → Item → Type 0
 IsItem n ts (item.Goal r m) = IsGoal n ts r
 IsItem n ts (item.Cut m) = Unit {0}
 IsItem n ts (item.Exit k r) = IsGoal n ts r
-IsItem n ts (item.Try k r) = IsGoal n ts r
+IsItem n ts (item.Execute k r) = IsGoal n ts r
 
 abbrev pub AreItems : ℕ → List (Term ℕ) → List Item → Type 0
 AreItems n ts [] = Unit {0}
@@ -72,6 +72,7 @@ AreFrames t floor v (f ∷ F) = IsEarlier f v × IsLevel t floor (level_at f v) 
 abbrev pub IsMode : ℕ → Mode → Type 0
 IsMode n (mode.Forward m) = m < n
 IsMode n mode.Backward = Unit {0}
+IsMode n (mode.Throwing m) = Unit {0}
 IsMode n (mode.Over e) = Unit {0}
 
 -- a Ref to each variable that has a name
@@ -84,6 +85,11 @@ AreValues ts _ _ = ⊥
 abbrev pub IsFailure : List (Term ℕ) → ℕ → Type 0
 IsFailure ts r = (r < length ts) × (term_at ts r ≡ atom 1)
 
+-- the names of the ball that was thrown are among the first n
+abbrev pub IsBall : ℕ → Option (Term ℕ) → Type 0
+IsBall n None = Unit {0}
+IsBall n (Some b) = HasNames n b
+
 -- each number leads to what is there
 pub record IsGood (c : Core) : Type 0 where
   pub level : IsLevel c.store c.floor.terms (level_in c)
@@ -91,6 +97,7 @@ pub record IsGood (c : Core) : Type 0 where
   pub mode : IsMode (length c.continuations) c.mode
   pub values : AreValues (take c.floor.terms c.bindings.terms) c.values.items c.names
   pub failure : IsFailure (take c.floor.terms c.bindings.terms) c.failure
+  pub ball : IsBall (length c.store.names) c.ball
   pub boxes : AreBoxes c.frames.boxes c.calls c.continuations
   pub boxed : AreBoxed c.frames.boxes c.continuations c.calls (length c.continuations) (reverse c.frames.choices)
 

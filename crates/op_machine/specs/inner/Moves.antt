@@ -2,12 +2,15 @@
 use Rattle.std.specs.Prelude.{◌≡◌, ℕ, ◌-◌, ◌≤◌, List, [], ◌∷◌, if◌then◌else◌, Option}
 use Rattle.op_logic.specs.Term.{Term, shift, Args, args_of, nth_arg}
 use Rattle.op_term.specs.Places.{term_at}
-use Rattle.op_logic.specs.Bind.{unify, Solved as Result}
+use Rattle.op_logic.specs.Bind.{apply, follow, unify, Solved as Result}
 use Rattle.op_trace.specs.World as world
 use Rattle.op_trace.specs.declared.barrier.Barrier.{Barrier}
 use Rattle.op_trace.specs.declared.barrier.Barrier.TheVariants.{Call}
-use Rattle.op_trace.specs.Database.{Text, text_eq, Clause}
+use Rattle.op_trace.specs.Database.{Text, text_eq}
 use Rattle.op_trace.specs.World.{World, Turn, Shown, Solved}
+use Rattle.op_trace.specs.Act.{Act}
+use Rattle.op_trace.specs.Body.{divided}
+use Rattle.op_trace.specs.Builtins.{act_of_goal, throw, run_goal, run_division}
 use Rattle.op_trace.specs.Visit.{control, inside, is_true}
 use Rattle.op_trace.specs.Visit as visit
 use Rattle.op_bind.specs.declared.places.Clause.{Clause as NumberedClause}
@@ -16,11 +19,17 @@ use Rattle.op_machine.specs.declared.core_state.Core.{Core}
 use Rattle.op_machine.specs.declared.core_state.Step.{Step}
 use Rattle.op_machine.specs.declared.core_state.Step.TheVariants as step
 use Rattle.op_machine.specs.Meaning.{setup_of, world_in, items_now, goal_now, bindings_now, choice_points_in, state_of, event_seen}
-use Rattle.op_machine.specs.inner.Invariant.{IsGood, IsSeen}
+use Rattle.op_machine.specs.Meaning.{ball_text, open_in}
+use Rattle.op_machine.specs.inner.Invariant.{IsGood, IsSeen, HasGoal}
+use Rattle.op_bind.specs.Grown.{Grows}
+use Rattle.op_bind.specs.State.{bindings}
 use Rattle.op_store.specs.Stored.{database_of}
-use Rattle.op_machine.specs.Resume.{State, entered_state, Moved, Forward, Backward, silent, pay, keep, if_then_else_chosen, chosen, invoked}
+use Rattle.op_machine.specs.declared.builtin_kind.Around.{Around}
+use Rattle.op_machine.specs.inner.BuiltinKinds.{body_around, first_argument, more_arguments}
+use Rattle.op_machine.specs.Resume.{State, entered_state, Moved, Forward, Backward, Throwing, silent, pay}
+use Rattle.op_machine.specs.Resume.{keep, if_then_else_chosen, chosen, invoked}
 use Rattle.op_machine.specs.Resume.{head_unified, tried}
-use Rattle.op_machine.specs.Resume.{branched, move}
+use Rattle.op_machine.specs.Resume.{branched, performed, yielded, leaving, move}
 
 -- the turn that a machine shows after a step
 abbrev pub turns_of : Step → Core → List Turn
@@ -109,11 +118,57 @@ abbrev pub if_then_else_before : Core → ℕ → ℕ → ℕ → Barrier → �
 if_then_else_before c a b e m n = if_then_else_chosen (goal_now c a) (goal_now c b) (goal_now c e) m (items_now c n) (choice_points_in c)
     (bindings_now c) (world_in c)
 
+-- the move of an execution that does this, for a goal before a continuation, in the box of this number
+abbrev pub act_moved : Core → Act → ℕ → ℕ → ℕ → Moved
+act_moved c a k g n = performed (setup_of c) a (world_in c) (yielded k (goal_now c g) (items_now c n) (choice_points_in c) (bindings_now c))
+
+abbrev pub steps_left : Core → ℕ
+steps_left c = c.budget - c.steps
+
+-- a goal that has no procedure is executed
+abbrev pub goal_executed : Core → ℕ → ℕ → ℕ → Moved
+goal_executed c k g n = act_moved c (act_of_goal (steps_left c) (goal_now c g) (bindings_now c) (world_in c)) k g n
+
+-- a ball is thrown, a copy of this term
+abbrev pub ball_thrown : Core → Term Text → ℕ → ℕ → ℕ → Moved
+ball_thrown c t k g n = act_moved c (throw (steps_left c) (bindings_now c) t (world_in c)) k g n
+
+-- a term, as it stands in a ball, goes up from a box
+abbrev pub ball_raised : Core → ℕ → ℕ → Moved
+ball_raised c b k = silent (Throwing (apply (bindings_now c) (goal_now c b)) (open_in c.frames k) (choice_points_in c) (world_in c))
+
+-- the first argument of a goal runs in its box
+abbrev pub argument_run : Core → Around → ℕ → ℕ → ℕ → Moved
+argument_run c r k g n = act_moved c (run_goal (body_around r) (follow (bindings_now c) (first_argument (goal_now c g)))
+    (more_arguments (goal_now c g)) (steps_left c) (bindings_now c) (world_in c)) k g n
+
+-- a goal is converted, and runs in the box of another
+abbrev pub goal_run : Core → Around → ℕ → ℕ → ℕ → ℕ → Moved
+goal_run c r q k g n = act_moved c (run_division (divided (bindings_now c) (goal_now c q)) (body_around r) (goal_now c q) (steps_left c)
+    (bindings_now c) (world_in c)) k g n
+
+-- a body runs in a box
+abbrev pub body_run : Core → ℕ → ℕ → ℕ → ℕ → Moved
+body_run c b k g n = silent (Forward (world.Goal (goal_now c b) (Call k) ∷ world.Exit k (goal_now c g) ∷ items_now c n)
+    (choice_points_in c) (bindings_now c) (world_in c))
+
+-- a ball goes up from a box
+abbrev pub ball_moved : Core → ℕ → Moved
+ball_moved c n = leaving (ball_text c.store c.ball) (open_in c.frames n) (choice_points_in c) (world_in c)
+
 -- the program and the goal's names stay, also where memory is wanting, and steps never fall
 pub record Keeps (old new : Core) : Type 0 where
   pub store : new.store ≡ old.store
   pub names : new.names ≡ old.names
   pub later : old.steps ≤ new.steps
+
+-- a term was made, and all else is as it was
+pub record Makes (old new : Core) (r : ℕ) : Type 0 where
+  pub rest : new ≡ record old { bindings = new.bindings }
+  pub grows : Grows old.bindings new.bindings
+  pub bindings : bindings new.bindings ≡ bindings old.bindings
+  pub count : new.bindings.count ≡ old.bindings.count
+  pub there : HasGoal new r
 
 -- the parts have made a move
 pub record Advances (old new : Core) (m : Moved) (s : Step) : Type 0 where

@@ -1,20 +1,21 @@
 -- What a machine's parts come to at the next turn.
-use Rattle.std.specs.Prelude.{◌≡◌, ℕ, ◌+◌, ◌≤◌, List, [], ◌∷◌}
+use Rattle.std.specs.Prelude.{◌≡◌, ℕ, ◌+◌, ◌≤◌, List, [], ◌∷◌, length}
 use Rattle.op_trace.specs.declared.barrier.Barrier.TheVariants.{Call}
 use Rattle.op_trace.specs.World.{Turn, Shown, Solved, Goal, loaded}
 use Rattle.op_trace.specs.Outside.{Outside, at}
-use Rattle.op_trace.specs.Act.{setup_for}
-use Rattle.op_trace.specs.Run.{started}
-use Rattle.op_trace.specs.Visit.{gives, with_turns}
+use Rattle.op_trace.specs.Builtins.{setup_for}
+use Rattle.op_trace.specs.Run.{started, ending_of}
+use Rattle.op_trace.specs.Visit.{Verdict, gives, with_turns}
 use Rattle.op_machine.specs.declared.core_state.Core.{Core}
-use Rattle.op_machine.specs.declared.core_state.Ending.{Ending}
+use Rattle.op_machine.specs.declared.turn.Ending.{Ending}
 use Rattle.op_machine.specs.declared.turn.Turn as declared
 use Rattle.op_machine.specs.declared.turn.Turn.TheVariants as turn
 use Rattle.op_logic.specs.Term.{Term}
-use Rattle.op_machine.specs.Meaning.{setup_of, world_in, state_of, event_seen, bindings_now, verdict_of}
+use Rattle.op_machine.specs.Meaning.{setup_of, world_in, state_of, event_seen, bindings_now}
 use Rattle.op_machine.specs.inner.Invariant.{IsSound, IsSeen}
 use Rattle.op_machine.specs.Resume.{owed, Forward}
 use Rattle.op_machine.specs.Outer.{state_at, turn_at}
+use Rattle.op_machine.specs.Machine.{ending_for, HasBallNames}
 use Rattle.op_store.specs.Stored.{Stored, database_of}
 use Rattle.op_machine.specs.Program.{goal_named}
 
@@ -45,10 +46,13 @@ pub record Showed (old new : Core) (t : Turn) : Type 0 where
       ≡ with_turns (turn_at h o t ∷ []) (owed (setup_of new) (state_at h o (state_of new)))
   pub count : turns_in new ≡ turns_in old + 1
 
--- by silent moves, to the end
+-- by silent moves, to the end, with the verdict that this ending answers
 pub record Ended (old new : Core) (e : Ending) : Type 0 where
   pub walked : Walked old new
-  pub owed : (h : Outside) (o : List ℕ) → owed (setup_of old) (state_at h o (state_of old)) ≡ gives (verdict_of e) (at h o (world_in new))
+  pub verdict : Verdict
+  pub is : ending_of verdict ≡ ending_for new.store.names e
+  pub owed : (h : Outside) (o : List ℕ) → owed (setup_of old) (state_at h o (state_of old)) ≡ gives verdict (at h o (world_in new))
+  pub names : HasBallNames (length new.store.names) e
 
 abbrev pub Turned : Core → Core → declared.Turn → Type 0
 Turned old new turn.Event = Showed old new (Shown (event_seen new.store new.bindings new.seen) (world_in new)) × IsSeen new

@@ -11,7 +11,7 @@ pub load-requires : goal.load-requires
 load-requires c =
     let q : Goal = c.args.goal.now in
     let first : c.in_ok-first.first ≡ 0 = c.in_ok-first.ensures.number ∙ ap (λ (s : State). s.count) c.new-bindings.ensures in
-    let count : c.load_failure.new.bindings.count ≡ q.vars =
+    let count : c.load_atom.new.bindings.count ≡ q.vars =
     c.in_ok-failure.ensures.count ∙ (c.in_ok-values.ensures.count
     ∙ (ap (λ (s : State). s.count) c.in_ok-first.ensures.ok
     ∙ (ap (λ (s : State). s.count + q.vars) c.new-bindings.ensures ∙ omega arith))) in
@@ -21,7 +21,7 @@ load-requires c =
 pub returns : goal.returns
 returns c =
     parts-made _ c.args.goal.now c.in_ok-first.first c.new-bindings.result c.fresh.new.self c.load_values.new.bindings
-    c.load_failure.new.bindings c.new-continuations.result
+    c.load_atom.new.bindings c.new-continuations.result
     c.new-bindings.ensures c.in_ok-first.ensures.number c.in_ok-first.ensures.ok c.in_ok-values.ensures.bound c.in_ok-values.ensures.count
     (subst (λ (ns : List (List ℕ × ℕ)). AreValues c.load_values.new.bindings.terms c.in_ok-values.values.items ns)
     c.in_ok-names.ensures c.in_ok-values.ensures.values)

@@ -1,7 +1,7 @@
 use Rattle.std.proofs.Common.{◌≤◌, sym, ap, ◌∙◌, subst, arith}
 use Rattle.op_machine.specs.declared.core_state.Core.{Core}
 use Rattle.op_machine.specs.Meaning.{level_in}
-use Rattle.op_machine.specs.inner.Invariant.{IsFrame, IsGood, Fits}
+use Rattle.op_machine.specs.inner.Invariant.{IsFrame, IsGood, IsMode, Fits}
 use Rattle.op_machine.specs.inner.Boxes.{IsTried}
 use Rattle.op_machine.proofs.StepLaws.{fits-at}
 use Rattle.op_machine.proofs.InvariantLaws.{restored-good, popped-frame, popped-tried, popped-calls}
@@ -13,7 +13,7 @@ resume-requires-clause-good c =
     let popped : Core = c.pop_choice_point.new.self in
     subst IsGood (sym c.restore.ensures.back)
     (restored-good old popped c.in-Some.choice c.requires.good c.in-Some.ensures.frames c.in-Some.ensures.rest
-    (ap (λ (x : Core). x.mode) c.in-Some.ensures.rest ∙ c.requires.mode)
+    (λ m. subst (IsMode m) (sym (ap (λ (x : Core). x.mode) c.in-Some.ensures.rest ∙ c.requires.mode)) tt)
     c.in-Some.ensures.boxes c.restore.ensures.stays)
 
 pub resume-requires-clause-frame : goal.resume-requires-clause-frame

@@ -1,7 +1,7 @@
 use Rattle.std.proofs.Common.{ℕ, ◌+◌, ◌≤◌, refl, sym, subst, arith}
 use Rattle.op_frames.specs.Frames.{Framed}
 use Rattle.op_frames.specs.declared.boxes.BoxFrame.{BoxFrame}
-use Rattle.op_machine.specs.declared.choice_points.Held.{Held}
+use Rattle.op_machine.specs.declared.choice_points.Alternative.{Alternative}
 use Rattle.op_machine.specs.declared.core_state.Core.{Core}
 use Rattle.op_machine.specs.inner.Invariant.{IsGood}
 use Rattle.op_machine.specs.inner.Boxes.{IsCalled}
@@ -20,7 +20,7 @@ pub returns-clause-called : goal.returns-clause-called
 returns-clause-called c =
     let old : Core = c.args.self.now in
     let b : BoxFrame = record { number = old.calls + 1; parent = c.parent-parent.result; goal = c.args.goal; mark = c.mark-mark.result } in
-    subst (λ (x : Framed Held). IsCalled x.boxes (old.calls + 1) old.continuations (old.calls + 1) c.args.goal c.args.rest)
+    subst (λ (x : Framed Alternative). IsCalled x.boxes (old.calls + 1) old.continuations (old.calls + 1) c.args.goal c.args.rest)
     (sym c.in_ok-push_box.ensures.ok)
     (pushed-called old.frames.boxes old.calls old.continuations b c.args.rest refl c.parent-parent.ensures c.requires.there
     c.requires.good.boxes)
@@ -29,5 +29,5 @@ pub returns-clause-good : goal.returns-clause-good
 returns-clause-good c =
     let old : Core = c.args.self.now in
     let b : BoxFrame = record { number = old.calls + 1; parent = c.parent-parent.result; goal = c.args.goal; mark = c.mark-mark.result } in
-    subst (λ (x : Framed Held). IsGood (record old { calls = old.calls + 1; frames = x })) (sym c.in_ok-push_box.ensures.ok)
+    subst (λ (x : Framed Alternative). IsGood (record old { calls = old.calls + 1; frames = x })) (sym c.in_ok-push_box.ensures.ok)
     (called-good old b c.requires.good refl)

@@ -1,4 +1,4 @@
-use Rattle.std.proofs.Common.{List, Some, None, sym, ap, ◌∙◌}
+use Rattle.std.proofs.Common.{sym, ◌∙◌}
 use Rattle.op_term.specs.Places.{term_at}
 use Rattle.op_machine.specs.declared.core_state.Core.{Core}
 use Rattle.op_machine.proofs.ProcedureOf.{inside-found, inside-none}

@@ -1,4 +1,4 @@
-use Rattle.std.proofs.Common.{List, sym, ◌∙◌, subst, ap}
+use Rattle.std.proofs.Common.{List, sym, ◌∙◌, subst, ap, arith}
 use Rattle.op_frames.specs.declared.boxes.BoxFrame.{BoxFrame}
 use Rattle.op_machine.specs.declared.core_state.Core.{Core}
 use Rattle.op_machine.specs.inner.Boxes.{IsCalled}
@@ -15,6 +15,15 @@ enter_box-requires-clause-called c =
     subst (λ (x : Core). at x pushed.frames.boxes) (sym c.in_ok-push_choice_point.ensures.rest)
     (subst (λ (x : Core). at x pushed.frames.boxes) (sym c.show_event.ensures.rest)
     (subst (λ (B : List BoxFrame). at boxed B) (sym same) c.in_ok-call.ensures.called))
+
+pub push_choice_point-requires-clause-tried : goal.push_choice_point-requires-clause-tried
+push_choice_point-requires-clause-tried c =
+    omega (
+      arith,
+      c.in_ok-call.ensures.number,
+      c.in_ok-call.ensures.calls,
+      ap (λ (x : Core). x.calls) c.show_event.ensures.rest,
+    )
 
 pub returns-clause-advances : goal.returns-clause-advances
 returns-clause-advances c =

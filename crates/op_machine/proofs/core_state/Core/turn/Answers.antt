@@ -6,7 +6,9 @@ use Rattle.op_machine.proofs.TurnLaws.{sound-fits, moved_from, ended-at, walked-
 use Rattle.op_machine.proofs.core_state.Core.turn.Goals as goal
 
 pub returns-in-Over-clause-turned : goal.returns-in-Over-clause-turned
-returns-in-Over-clause-turned c = ended-at c.args.self.now c.loop-self.self c.in-Over.ending c.loop-self.invariant c.in-Over.is
+returns-in-Over-clause-turned c =
+    ended-at c.args.self.now c.loop-self.self c.in-Over.outcome c.in_ok-ending.field-0 c.loop-self.invariant c.in-Over.is
+    c.in_ok-ending.ensures.ending c.in_ok-ending.ensures.names
 
 pub loop-self-smaller : goal.loop-self-smaller
 loop-self-smaller c =

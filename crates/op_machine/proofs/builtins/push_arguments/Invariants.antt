@@ -1,0 +1,12 @@
+use Rattle.std.proofs.Common.{◌≡◌, ◌<◌, ◌++◌, length, map, All}
+use Rattle.op_logic.specs.Term.{args_of}
+use Rattle.op_term.specs.Places.{term_at}
+use Rattle.op_machine.proofs.AddedArguments.{arguments_between}
+use Rattle.op_machine.proofs.builtins.push_arguments.Given as goal
+
+abbrev pub invariant-loop-i : goal.invariant-loop-i
+invariant-loop-i l = record {
+  there : All (λ r. r < length l.bindings.terms) l.parts.items;
+  terms : map (term_at l.bindings.terms) l.parts.items ≡ map (term_at l.bindings.terms) l.fn.parts.items
+      ++ arguments_between l.from l.i (args_of (term_at l.bindings.terms l.goal));
+}
