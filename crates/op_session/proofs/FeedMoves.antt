@@ -10,14 +10,13 @@ use Rattle.op_session.specs.inner.Reader.{IsReader}
 use Rattle.op_trace.specs.World.{World, Event}
 use Rattle.op_trace.specs.Run.{Run, events_of, worlds_of, steps_at}
 use Rattle.op_trace.specs.Ending as ending
-use Rattle.op_machine.specs.declared.core_state.Ending.{Ending}
-use Rattle.op_machine.specs.declared.core_state.Ending.TheVariants as outcome
-use Rattle.op_machine.specs.Machine.{Kept, ending_for, event_now, world_now}
+use Rattle.op_machine.specs.Machine.{Kept, event_now, world_now}
 use Rattle.op_session.specs.declared.feed.Feed.{Feed}
-use Rattle.op_session.specs.Line.{event_line}
+use Rattle.op_session.specs.declared.feed.End.{End}
+use Rattle.op_event.specs.Line.{event_line}
 use Rattle.op_session.specs.Moves.{Stand, At, next_from, moved, event_count, end_found}
 use Rattle.op_session.specs.Session.{line_at}
-use Rattle.op_session.specs.inner.Feeding.{to_show, AtEnd, Feeds, ShowsEvent, ShowsEnd, Shows, Arrives, ArrivesAt, Finds, IsHere, next_of}
+use Rattle.op_session.specs.inner.Feeding.{to_show, found_at, AtEnd, Feeds, ShowsEvent, ShowsEnd, Shows, Arrives, ArrivesAt, Finds, IsHere}
 
 -- where a list goes on
 pub record GoesOn {X : Type 0} (xs : List X) (p : ℕ) (x : X) (ys : List X) : Type 0 where
@@ -82,6 +81,8 @@ pub moved_end : (run : Run) (s : Stand) (x : ending.Ending) → moved run s (end
 }
 moved_end run s ending.Stopped = refl
 moved_end run s ending.Failed = refl
+moved_end run s (ending.Thrown b) = refl
+moved_end run s (ending.Halted i) = refl
 moved_end run s ending.Spent = refl
 
 pub next_here : (run : Run) (p : ℕ) → p < event_count run → next_from run p ≡ At (p + 1)
@@ -126,7 +127,7 @@ finds_event traced s t k n f e later same =
     }
 
 -- the end is found, where nothing stands behind the place
-pub finds_end : (traced : Traced) (s : Stand) (t : Stored) (k n : Kept) (e : Ending) → Feeds traced s
+pub finds_end : (traced : Traced) (s : Stand) (t : Stored) (k n : Kept) (e : End) → Feeds traced s
     (record { machine = k; ended = None; commands = t }) → ShowsEnd k n e → k.steps ≤ n.steps → n.tables.table ≡ k.tables.table
     → Arrives traced s (record { machine = n; ended = Some e; commands = t }) (end_found traced.run.ending)
 finds_end traced s t k n e f h later same =
@@ -144,19 +145,19 @@ finds_end traced s t k n e f h later same =
       feeds = rw (moved_end traced.run s traced.run.ending) (record {
         events = none ∙ sym h.events;
         worlds = no_worlds ∙ sym h.worlds;
-        ending = f.ending ∙ h.ending ∙ sym h.same_ending;
+        ending = f.ending ∙ h.same_ending;
         world = f.world ∙ h.world ∙ sym h.same_world;
         within = within;
         steps = rw (← place) (sym (steps ∙ world));
         least = omega arith;
-        looked = record { furthest = refl; place = place; ending = f.ending ∙ h.ending };
+        looked = record { furthest = refl; place = place; ending = ap end_found f.ending ∙ h.ending };
         operators = same ∙ f.operators;
         reads = f.reads;
       });
     }
 
 -- and again
-pub finds_end_again : (traced : Traced) (s : Stand) (t : Stored) (k : Kept) (e : Ending) → Feeds traced s
+pub finds_end_again : (traced : Traced) (s : Stand) (t : Stored) (k : Kept) (e : End) → Feeds traced s
     (record { machine = k; ended = Some e; commands = t }) → Arrives traced s (record { machine = k; ended = Some e; commands = t })
     (end_found traced.run.ending)
 finds_end_again traced s t k e f =
@@ -178,46 +179,40 @@ finds_end_again traced s t k e f =
       });
     }
 
-pub finds_by : (traced : Traced) (s : Stand) (feed : Feed) (e : Ending) → traced.run.ending ≡ ending_for e
-    → Arrives traced s feed (end_found traced.run.ending) → Finds traced s feed (next_of (Some e))
-finds_by traced s feed outcome.Stopped h a = subst (λ x. Arrives traced s feed (end_found x)) h a
-finds_by traced s feed outcome.Failed h a = subst (λ x. Arrives traced s feed (end_found x)) h a
-finds_by traced s feed outcome.Spent h a = subst (λ x. Arrives traced s feed (end_found x)) h a
+pub finds_by : (traced : Traced) (s : Stand) (feed : Feed) (e : End) → end_found traced.run.ending ≡ found_at e
+    → Arrives traced s feed (end_found traced.run.ending) → Finds traced s feed (Some e)
+finds_by traced s feed e h a = subst (λ x. Arrives traced s feed x) h a
 
 -- after the machine was asked
-pub finds_asked : (traced : Traced) (s : Stand) (t : Stored) (k n : Kept) (was o : Option Ending) → is_some was ≡ false
+pub finds_asked : (traced : Traced) (s : Stand) (t : Stored) (k n : Kept) (was o : Option End) → is_some was ≡ false
     → Feeds traced s (record { machine = k; ended = was; commands = t }) → Shows k n o → k.steps ≤ n.steps
-    → n.tables.table ≡ k.tables.table → Finds traced s (record { machine = n; ended = o; commands = t }) (next_of o)
+    → n.tables.table ≡ k.tables.table → Finds traced s (record { machine = n; ended = o; commands = t }) o
 finds_asked traced s t k n (Some e) o none f h later same = absurd cc
 finds_asked traced s t k n None None none f h later same = finds_event traced s t k n f h later same
-finds_asked traced s t k n None (Some e) none f h later same = finds_by traced s _ e (f.ending
-    ∙ h.ending) (finds_end traced s t k n e f h later same)
+finds_asked traced s t k n None (Some e) none f h later same =
+    finds_by traced s _ e (ap end_found f.ending ∙ h.ending) (finds_end traced s t k n e f h later same)
 
 -- after it was not
-pub finds_known : (traced : Traced) (s : Stand) (t : Stored) (k : Kept) (o : Option Ending) → is_some o ≡ true
+pub finds_known : (traced : Traced) (s : Stand) (t : Stored) (k : Kept) (o : Option End) → is_some o ≡ true
     → Feeds traced s (record { machine = k; ended = o; commands = t }) → Finds traced s (record {
       machine = k;
       ended = o;
       commands = t;
-    }) (next_of o)
+    }) o
 finds_known traced s t k None some f = absurd cc
 finds_known traced s t k (Some e) some f = let l : AtEnd traced.run s e = f.looked in finds_by traced s _ e l.ending
     (finds_end_again traced s t k e f)
 
-pub here_asked : (k n : Kept) (o : Option Ending) → Shows k n o → IsHere (next_of o) n
+pub here_asked : (k n : Kept) (o : Option End) → Shows k n o → IsHere o n
 here_asked k n None h = h.here
-here_asked k n (Some outcome.Stopped) h = tt
-here_asked k n (Some outcome.Failed) h = tt
-here_asked k n (Some outcome.Spent) h = tt
+here_asked k n (Some e) h = tt
 
-pub here_known : (k : Kept) (o : Option Ending) → is_some o ≡ true → IsHere (next_of o) k
+pub here_known : (k : Kept) (o : Option End) → is_some o ≡ true → IsHere o k
 here_known k None some = absurd cc
-here_known k (Some outcome.Stopped) some = tt
-here_known k (Some outcome.Failed) some = tt
-here_known k (Some outcome.Spent) some = tt
+here_known k (Some e) some = tt
 
 -- commands that were read leave the feed where it stands
-pub feeds_reader : (traced : Traced) (s : Stand) (t u : Stored) (k : Kept) (o : Option Ending) → IsReader u
+pub feeds_reader : (traced : Traced) (s : Stand) (t u : Stored) (k : Kept) (o : Option End) → IsReader u
     → Feeds traced s (record { machine = k; ended = o; commands = t }) → Feeds traced s (record { machine = k; ended = o; commands = u })
 feeds_reader traced s t u k o reads f = record {
   events = f.events;

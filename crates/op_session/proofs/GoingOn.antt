@@ -53,11 +53,11 @@ outcome_program name goal l w b e h =
     sym (outcome_loaded name goal l w e) ∙ ap (λ b. cond b (with_goal w (goal_of w.table w.flags.quotes goal)) (unrunnable name)) (sym h)
 
 -- a goal that was read, by whether it can be run
-pub outcome_query : (w v : Database) (r : Result Query Found) (q : Query) (b : Bool) → v ≡ w → r ≡ Ok q → b ≡ is_runnable v q.body
+pub outcome_query : (w v : Database) (r : Result Query Found) (q : Query) (b : Bool) → v ≡ w → r ≡ Ok q → b ≡ is_runnable q.body
     → with_goal w r ≡ cond b (Session (traced_of 10000000 v q)) (unrunnable goal_name)
 outcome_query w v r q b e t h =
     sym (outcome_goal w r q t)
-    ∙ ap (λ (w : Database). cond (is_runnable w q.body) (Session (traced_of 10000000 w q)) (unrunnable goal_name)) (sym e)
+    ∙ ap (λ (w : Database). cond (is_runnable q.body) (Session (traced_of 10000000 w q)) (unrunnable goal_name)) (sym e)
     ∙ ap (λ b. cond b (Session (traced_of 10000000 v q)) (unrunnable goal_name)) (sym h)
 
 -- the text of a file, in a new store

@@ -2,7 +2,6 @@ pub mod BetweenBytes
 pub mod CallEnds
 pub mod CallOutcomes
 pub mod CommandTexts
-pub mod EventLines
 pub mod FeedMoves
 pub mod GoingOn
 pub mod MostSteps

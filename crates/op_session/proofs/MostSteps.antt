@@ -1,10 +1,10 @@
 -- The most steps of a machine that goes on.
-use Rattle.std.proofs.Common.{◌≡◌, ◌≤◌, max, sym, ap, subst, arith}
+use Rattle.std.proofs.Common.{◌≡◌, ◌≤◌, List, max, sym, ap, subst, arith}
 use Rattle.op_logic.specs.Bind.{Bindings}
 use Rattle.op_trace.specs.Database.{Text}
 use Rattle.op_trace.specs.World.{World, Event, Shown, Solved}
 use Rattle.op_trace.specs.Run.{Run}
-use Rattle.op_machine.specs.declared.core_state.Ending.{Ending}
+use Rattle.op_machine.specs.declared.turn.Ending.{Ending}
 use Rattle.op_machine.specs.declared.turn.Turn as declared
 use Rattle.op_machine.specs.declared.turn.Turn.TheVariants as turn
 use Rattle.op_machine.specs.Meaning.{bindings_in}
@@ -18,8 +18,8 @@ shown_most e w r = omega arith
 solved_most : (σ : Bindings Text) (w : World) (r : Run) → max w.steps (most_steps r) ≤ most_steps (with_turn (Solved σ w) r)
 solved_most σ w r = omega arith
 
-ending_most : (e : Ending) (w : World) → w.steps ≤ most_steps (only_ending e w)
-ending_most e w = omega arith
+ending_most : (names : List Text) (e : Ending) (w : World) → w.steps ≤ most_steps (only_ending names e w)
+ending_most names e w = omega arith
 
 pub answers_most : (t : declared.Turn) (old new : Kept) → Answers t old new (to_show old) (to_show new) (world_now new)
     → most_of new ≤ most_of old
@@ -34,6 +34,6 @@ answers_most turn.Solution old new a =
     omega arith
 answers_most (turn.Ended e) old new a =
     let h : new.steps ≤ most_steps (to_show old) =
-    subst (λ (r : Run). new.steps ≤ most_steps r) (sym a.0) (ending_most e (world_now new)) in
+    subst (λ (r : Run). new.steps ≤ most_steps r) (sym a.0) (ending_most new.tables.names e (world_now new)) in
     let k : most_steps (to_show new) ≡ most_steps (to_show old) = ap most_steps a.1 in
     omega arith

@@ -1,7 +1,7 @@
 -- Which goals can be run, by their outermost nodes, and a walk over the parts of a body.
-use Rattle.std.proofs.Common.{◌≡◌, ◌≢◌, ℕ, suc, ◌+◌, ◌<◌, ◌==◌, ◌&&◌, ◌||◌, Bool, true, false, cond, List, [], ◌∷◌, ◌++◌, map}
-use Rattle.std.proofs.Common.{Some, is_some, codes, refl, sym, ap, ◌∙◌, arith, sum_by, All}
-use Rattle.std.proofs.lemmas.Bool.Decides.{nat_tests}
+use Rattle.std.proofs.Common.{◌≡◌, ◌≢◌, ℕ, suc, ◌+◌, ◌<◌, ◌&&◌, ◌||◌, Bool, true, false, cond, List, [], ◌∷◌, ◌++◌, map}
+use Rattle.std.proofs.Common.{Some, codes, refl, sym, ap, ◌∙◌, arith, sum_by, All}
+use Rattle.std.specs.Prelude.{not}
 use Rattle.std.proofs.lemmas.List.{map-append}
 use Rattle.std.proofs.lemmas.List.Folds.{list_all-append}
 use Rattle.std.proofs.lemmas.List.Sums.{sum_by-append}
@@ -19,31 +19,24 @@ use Rattle.op_trace.specs.Visit.{control_of_disjunction, control_of_pair}
 use Rattle.op_bind.specs.declared.places.Clause.{Clause as NumberedClause}
 use Rattle.op_store.specs.declared.procedures.pi.Pi.{Pi}
 use Rattle.op_store.specs.NumberedProcedures.{NumberedProcedures, all_numbered_clauses, IsNumberedClause, AreNumberedProcedures}
-use Rattle.op_trace.specs.Database.{name_arity, indicator_of_term, Database, procedure_in}
-use Rattle.op_session.specs.Runnable.{has_box, is_defined, is_runnable}
-use Rattle.op_session.specs.inner.Parts.{is_goal, is_control_pair_name, is_control_pair, all_runnable}
+use Rattle.op_trace.specs.Database.{name_arity, indicator_of_term}
+use Rattle.op_store.specs.declared.names.locked.Locked.TheVariants.{Program}
+use Rattle.op_store.specs.Locked.{is_locked}
+use Rattle.op_session.specs.Runnable.{built, is_built, has_box, is_runnable}
+use Rattle.op_session.specs.inner.Parts.{is_control_pair_name, is_control_pair, all_runnable}
 
--- a compound is no control construct without parts
-no_control_atom : (w : Database) (g : Text) (m : ℕ)
-    → is_some (procedure_in w.procedures (name_arity g (suc m))) ≡ is_goal w (Some (name_arity g (suc m)))
-no_control_atom w g m = rw (never m) refl
-  where
-    never : (m : ℕ) → (suc m == 0) ≡ false
-    never m = grind (arith, nat_tests)
-
--- a compound's procedure, and what is asked of a goal of it
-pub goal-struct : (w : Database) (names : List Text) (t : Term ℕ) (f : Sym) (n : ℕ) → nodes.Struct f n ≡ head t
-    → is_some (procedure_in w.procedures (name_arity (name_at names f.0) n)) ≡ is_goal w (indicator_of_term (named names t))
-goal-struct w names (var v) f n e = absurd cc
-goal-struct w names (int i) f n e = absurd cc
-goal-struct w names (node g no_args) f n e = absurd cc
-goal-struct w names (node g (arg a ts)) f n e =
+-- a compound's name and arity, by its outermost node
+pub built-struct : (names : List Text) (t : Term ℕ) (f : Sym) (n : ℕ) → nodes.Struct f n ≡ head t
+    → is_built (Some (name_arity (name_at names f.0) n)) ≡ is_built (indicator_of_term (named names t))
+built-struct names (var v) f n e = absurd cc
+built-struct names (int i) f n e = absurd cc
+built-struct names (node g no_args) f n e = absurd cc
+built-struct names (node g (arg a ts)) f n e =
     let s : f ≡ name g = cc in
     let k : n ≡ suc (arity ts) = cc in
-    ap (λ (x : Sym). is_some (procedure_in w.procedures (name_arity (name_at names x.0) n))) s
-    ∙ ap (λ (m : ℕ). is_some (procedure_in w.procedures (name_arity (name_at names g) m))) k
-    ∙ ap (λ (m : ℕ). is_some (procedure_in w.procedures (name_arity (name_at names g) (suc m)))) (sym (arity-rename (name_at names) ts))
-    ∙ no_control_atom w (name_at names g) (arity (args_of (named names (node g ts))))
+    ap (λ (x : Sym). is_built (Some (name_arity (name_at names x.0) n))) s
+    ∙ ap (λ (m : ℕ). is_built (Some (name_arity (name_at names g) m))) k
+    ∙ ap (λ (m : ℕ). is_built (Some (name_arity (name_at names g) (suc m)))) (sym (arity-rename (name_at names) ts))
 
 -- a control construct of two parts is a compound of two arguments with the name `,`, `;` or `->`
 pub control_pair-two : (names : List Text) (t : Term ℕ) (f : Sym) (n : ℕ) → nodes.Struct f n ≡ head t → n ≡ 2
@@ -100,15 +93,20 @@ pair-boxed f a b e =
     by false false true d e = absurd cc
     by false false false d e = refl
 
--- an atom is a control construct without parts, or its procedure is asked for
-atom-met : (t f u c p : Bool)
-    → ((t || (f || (u || c))) || p)
-    ≡ cond (has_box (cond t TrueGoal (cond f FailGoal (cond u FailGoal (cond c CutGoal BoxedGoal))))) p true
-atom-met true f u c p = refl
-atom-met false true u c p = refl
-atom-met false false true c p = refl
-atom-met false false false true p = refl
-atom-met false false false false p = refl
+-- a name is asked for where it has a box, and those of the control constructs without parts are built
+atom-met : (t f u c h l : Bool)
+    → not (l && not (t || (f || (u || (c || (h || false))))))
+    ≡ cond (has_box (cond t TrueGoal (cond f FailGoal (cond u FailGoal (cond c CutGoal BoxedGoal)))))
+    (not (l && not (t || (f || (u || (c || (h || false))))))) true
+atom-met true f u c h true = refl
+atom-met true f u c h false = refl
+atom-met false true u c h true = refl
+atom-met false true u c h false = refl
+atom-met false false true c h true = refl
+atom-met false false true c h false = refl
+atom-met false false false true h true = refl
+atom-met false false false true h false = refl
+atom-met false false false false h l = refl
 
 and-one : (a b : Bool) → (a && (b && true)) ≡ (a && b)
 and-one true true = refl
@@ -116,57 +114,57 @@ and-one true false = refl
 and-one false b = refl
 
 -- the two parts of a control construct
-pub record Parts (w : Database) (names : List Text) (t : Term ℕ) : Type 0 where
+pub record Parts (names : List Text) (t : Term ℕ) : Type 0 where
   pub two : arity (args_of t) ≡ 2
-  pub run : is_runnable w (named names t)
-      ≡ (is_runnable w (named names (nth_arg (args_of t) 0)) && is_runnable w (named names (nth_arg (args_of t) 1)))
+  pub run : is_runnable (named names t)
+      ≡ (is_runnable (named names (nth_arg (args_of t) 0)) && is_runnable (named names (nth_arg (args_of t) 1)))
   pub less : size (nth_arg (args_of t) 0) + size (nth_arg (args_of t) 1) < size t
 
-pub parts-of : (w : Database) (names : List Text) (t : Term ℕ) → is_control_pair (named names t) ≡ true → Parts w names t
-parts-of w names (var v) e = absurd cc
-parts-of w names (int i) e = absurd cc
-parts-of w names (node f no_args) e = absurd cc
-parts-of w names (node f (arg a no_args)) e = absurd cc
-parts-of w names (node f (arg a (arg b no_args))) e =
+pub parts-of : (names : List Text) (t : Term ℕ) → is_control_pair (named names t) ≡ true → Parts names t
+parts-of names (var v) e = absurd cc
+parts-of names (int i) e = absurd cc
+parts-of names (node f no_args) e = absurd cc
+parts-of names (node f (arg a no_args)) e = absurd cc
+parts-of names (node f (arg a (arg b no_args))) e =
     let g : Text = name_at names f in
     let c : Term Text = named names a in
     let d : Term Text = named names b in
-    let p : Bool = is_defined w (indicator_of_term (node g (arg c (arg d no_args)))) in
+    let p : Bool = is_built (indicator_of_term (node g (arg c (arg d no_args)))) in
     record {
       two = refl;
       run =
-          ap (λ (x : Bool). cond x p (list_all (λ (b : Bool). b) (is_runnable w c ∷ is_runnable w d ∷ []))) (pair-unboxed g c d e)
-          ∙ and-one (is_runnable w c) (is_runnable w d);
+          ap (λ (x : Bool). cond x p (list_all (λ (b : Bool). b) (is_runnable c ∷ is_runnable d ∷ []))) (pair-unboxed g c d e)
+          ∙ and-one (is_runnable c) (is_runnable d);
       less = omega arith;
     }
-parts-of w names (node f (arg a (arg b (arg c ts)))) e = absurd cc
+parts-of names (node f (arg a (arg b (arg c ts)))) e = absurd cc
 
-pub part-names : (w : Database) (names : List Text) (t : Term ℕ) (n : ℕ) → is_control_pair (named names t) ≡ true → HasNames n t
+pub part-names : (names : List Text) (t : Term ℕ) (n : ℕ) → is_control_pair (named names t) ≡ true → HasNames n t
     → HasNames n (nth_arg (args_of t) 0) × HasNames n (nth_arg (args_of t) 1)
-part-names w names (var v) n e h = absurd cc
-part-names w names (int i) n e h = absurd cc
-part-names w names (node f no_args) n e h = absurd cc
-part-names w names (node f (arg a no_args)) n e h = absurd cc
-part-names w names (node f (arg a (arg b no_args))) n e h = (h.1.0, h.1.1.0)
-part-names w names (node f (arg a (arg b (arg c ts)))) n e h = absurd cc
+part-names names (var v) n e h = absurd cc
+part-names names (int i) n e h = absurd cc
+part-names names (node f no_args) n e h = absurd cc
+part-names names (node f (arg a no_args)) n e h = absurd cc
+part-names names (node f (arg a (arg b no_args))) n e h = (h.1.0, h.1.1.0)
+part-names names (node f (arg a (arg b (arg c ts)))) n e h = absurd cc
 
-pub other-part : (w : Database) (names : List Text) (t : Term ℕ) → is_control_pair (named names t) ≡ false
-    → is_goal w (indicator_of_term (named names t)) ≡ is_runnable w (named names t)
-other-part w names (var v) e = refl
-other-part w names (int i) e = refl
-other-part w names (node f no_args) e =
+pub other-part : (names : List Text) (t : Term ℕ) → is_control_pair (named names t) ≡ false
+    → is_built (indicator_of_term (named names t)) ≡ is_runnable (named names t)
+unfolding built
+other-part names (var v) e = refl
+other-part names (int i) e = refl
+other-part names (node f no_args) e =
     let g : Text = name_at names f in
     atom-met (text_eq g (codes "true")) (text_eq g (codes "fail")) (text_eq g (codes "false")) (text_eq g (codes "!"))
-    (is_defined w (indicator_of_term (node g no_args)))
-other-part w names (node f (arg a no_args)) e = refl
-other-part w names (node f (arg a (arg b no_args))) e =
+    (text_eq g (codes "halt")) (is_locked Program (name_arity g 0))
+other-part names (node f (arg a no_args)) e = refl
+other-part names (node f (arg a (arg b no_args))) e =
     let g : Text = name_at names f in
     let c : Term Text = named names a in
     let d : Term Text = named names b in
-    let p : Bool = is_defined w (indicator_of_term (node g (arg c (arg d no_args)))) in
-    sym (ap (λ (x : Bool). cond x p (list_all (λ (b : Bool). b) (is_runnable w c ∷ is_runnable w d ∷ []))) (pair-boxed g c d e))
-other-part w names (node f (arg a (arg b (arg c ts)))) e =
-    sym (no_control_atom w (name_at names f) (suc (suc (arity (args_of (named names (node f ts)))))))
+    let p : Bool = is_built (indicator_of_term (node g (arg c (arg d no_args)))) in
+    sym (ap (λ (x : Bool). cond x p (list_all (λ (b : Bool). b) (is_runnable c ∷ is_runnable d ∷ []))) (pair-boxed g c d e))
+other-part names (node f (arg a (arg b (arg c ts)))) e = refl
 
 size-some : (t : Term ℕ) → 0 < size t
 size-some (var v) = omega arith
@@ -196,45 +194,45 @@ and-turned false true = refl
 and-turned false false = refl
 
 -- the places that are left to be met
-module _ {A : Type 0} (w : Database) (names : List Text) (term : A → Term ℕ) where
+module _ {A : Type 0} (names : List Text) (term : A → Term ℕ) where
   abbrev pub shown : A → Term Text
   shown p = named names (term p)
 
   -- a part that is no control construct of two parts is met
-  pub met-one : (ps : List A) (p : A) (b : Bool) → is_control_pair (shown p) ≡ false → b ≡ is_goal w (indicator_of_term (shown p))
-      → all_runnable w (map shown (ps ++ p ∷ [])) ≡ (b && all_runnable w (map shown ps))
+  pub met-one : (ps : List A) (p : A) (b : Bool) → is_control_pair (shown p) ≡ false → b ≡ is_built (indicator_of_term (shown p))
+      → all_runnable (map shown (ps ++ p ∷ [])) ≡ (b && all_runnable (map shown ps))
   met-one ps p b other e =
-      ap (all_runnable w) (map-append shown ps (p ∷ []))
-      ∙ list_all-append (is_runnable w) (map shown ps) (shown p ∷ [])
-      ∙ and-turned (all_runnable w (map shown ps)) (is_runnable w (shown p))
-      ∙ ap (λ (x : Bool). x && all_runnable w (map shown ps)) (sym (e ∙ other-part w names (term p) other))
+      ap all_runnable (map-append shown ps (p ∷ []))
+      ∙ list_all-append is_runnable (map shown ps) (shown p ∷ [])
+      ∙ and-turned (all_runnable (map shown ps)) (is_runnable (shown p))
+      ∙ ap (λ (x : Bool). x && all_runnable (map shown ps)) (sym (e ∙ other-part names (term p) other))
 
   -- a control construct of two parts leaves its two parts
   pub met-two : (ps qs rs : List A) (p a b : A) → is_control_pair (shown p) ≡ true → qs ≡ ps ++ b ∷ [] → rs ≡ qs ++ a ∷ []
       → term a ≡ nth_arg (args_of (term p)) 0 → term b ≡ nth_arg (args_of (term p)) 1
-      → all_runnable w (map shown (ps ++ p ∷ [])) ≡ all_runnable w (map shown rs)
+      → all_runnable (map shown (ps ++ p ∷ [])) ≡ all_runnable (map shown rs)
   met-two ps qs rs p a b pair eq er ea eb =
-      let parts = parts-of w names (term p) pair in
-      let first : is_runnable w (named names (nth_arg (args_of (term p)) 0)) ≡ is_runnable w (shown a) =
-      ap (λ (t : Term ℕ). is_runnable w (named names t)) (sym ea) in
-      let second : is_runnable w (named names (nth_arg (args_of (term p)) 1)) ≡ is_runnable w (shown b) =
-      ap (λ (t : Term ℕ). is_runnable w (named names t)) (sym eb) in
-      let run : is_runnable w (shown p) ≡ (is_runnable w (shown a) && is_runnable w (shown b)) =
-      parts.run ∙ ap (λ (x : Bool). x && is_runnable w (named names (nth_arg (args_of (term p)) 1))) first
-      ∙ ap (λ (x : Bool). is_runnable w (shown a) && x) second in
-      let before : all_runnable w (map shown (ps ++ p ∷ [])) ≡ (all_runnable w (map shown ps) && (is_runnable w (shown p) && true)) =
-      ap (all_runnable w) (map-append shown ps (p ∷ [])) ∙ list_all-append (is_runnable w) (map shown ps) (shown p ∷ []) in
-      let one : all_runnable w (map shown (ps ++ b ∷ [])) ≡ (all_runnable w (map shown ps) && (is_runnable w (shown b) && true)) =
-      ap (all_runnable w) (map-append shown ps (b ∷ [])) ∙ list_all-append (is_runnable w) (map shown ps) (shown b ∷ []) in
-      let after : all_runnable w (map shown ((ps ++ b ∷ []) ++ a ∷ []))
-      ≡ (all_runnable w (map shown (ps ++ b ∷ [])) && (is_runnable w (shown a) && true)) =
-      ap (all_runnable w) (map-append shown (ps ++ b ∷ []) (a ∷ []))
-      ∙ list_all-append (is_runnable w) (map shown (ps ++ b ∷ [])) (shown a ∷ []) in
+      let parts = parts-of names (term p) pair in
+      let first : is_runnable (named names (nth_arg (args_of (term p)) 0)) ≡ is_runnable (shown a) =
+      ap (λ (t : Term ℕ). is_runnable (named names t)) (sym ea) in
+      let second : is_runnable (named names (nth_arg (args_of (term p)) 1)) ≡ is_runnable (shown b) =
+      ap (λ (t : Term ℕ). is_runnable (named names t)) (sym eb) in
+      let run : is_runnable (shown p) ≡ (is_runnable (shown a) && is_runnable (shown b)) =
+      parts.run ∙ ap (λ (x : Bool). x && is_runnable (named names (nth_arg (args_of (term p)) 1))) first
+      ∙ ap (λ (x : Bool). is_runnable (shown a) && x) second in
+      let before : all_runnable (map shown (ps ++ p ∷ [])) ≡ (all_runnable (map shown ps) && (is_runnable (shown p) && true)) =
+      ap all_runnable (map-append shown ps (p ∷ [])) ∙ list_all-append is_runnable (map shown ps) (shown p ∷ []) in
+      let one : all_runnable (map shown (ps ++ b ∷ [])) ≡ (all_runnable (map shown ps) && (is_runnable (shown b) && true)) =
+      ap all_runnable (map-append shown ps (b ∷ [])) ∙ list_all-append is_runnable (map shown ps) (shown b ∷ []) in
+      let after : all_runnable (map shown ((ps ++ b ∷ []) ++ a ∷ []))
+      ≡ (all_runnable (map shown (ps ++ b ∷ [])) && (is_runnable (shown a) && true)) =
+      ap all_runnable (map-append shown (ps ++ b ∷ []) (a ∷ []))
+      ∙ list_all-append is_runnable (map shown (ps ++ b ∷ [])) (shown a ∷ []) in
       let all : rs ≡ (ps ++ b ∷ []) ++ a ∷ [] = er ∙ ap (λ (xs : List A). xs ++ a ∷ []) eq in
-      before ∙ ap (λ (x : Bool). all_runnable w (map shown ps) && (x && true)) run
-      ∙ turned (all_runnable w (map shown ps)) (is_runnable w (shown a)) (is_runnable w (shown b))
-      ∙ ap (λ (x : Bool). x && (is_runnable w (shown a) && true)) (sym one) ∙ sym after
-      ∙ ap (λ (xs : List A). all_runnable w (map shown xs)) (sym all)
+      before ∙ ap (λ (x : Bool). all_runnable (map shown ps) && (x && true)) run
+      ∙ turned (all_runnable (map shown ps)) (is_runnable (shown a)) (is_runnable (shown b))
+      ∙ ap (λ (x : Bool). x && (is_runnable (shown a) && true)) (sym one) ∙ sym after
+      ∙ ap (λ (xs : List A). all_runnable (map shown xs)) (sym all)
     where
       turned : (x a b : Bool) → (x && ((a && b) && true)) ≡ ((x && (b && true)) && (a && true))
       turned true true true = refl
@@ -256,7 +254,7 @@ module _ {A : Type 0} (w : Database) (names : List Text) (term : A → Term ℕ)
   pub less-two : (ps qs rs : List A) (p a b : A) → is_control_pair (shown p) ≡ true → qs ≡ ps ++ b ∷ [] → rs ≡ qs ++ a ∷ []
       → term a ≡ nth_arg (args_of (term p)) 0 → term b ≡ nth_arg (args_of (term p)) 1 → weight rs < weight (ps ++ p ∷ [])
   less-two ps qs rs p a b pair eq er ea eb =
-      let parts = parts-of w names (term p) pair in
+      let parts = parts-of names (term p) pair in
       let less = parts.less in
       let sa : size (term a) ≡ size (nth_arg (args_of (term p)) 0) = ap size ea in
       let sb : size (term b) ≡ size (nth_arg (args_of (term p)) 1) = ap size eb in

@@ -7,7 +7,7 @@ use Rattle.std.specs.Io.KnownBytes.{Appends, Consumes, IsAtEnd}
 use Rattle.op_desk.specs.declared.chan.Chan.TheVariants.{Commands, Talk}
 use Rattle.op_trace.specs.Run.{steps_at}
 use Rattle.op_session.specs.Traced.{Traced}
-use Rattle.op_machine.specs.declared.core_state.Ending.{Ending}
+use Rattle.op_session.specs.declared.feed.End.{End}
 use Rattle.op_token.specs.declared.piece.Piece.TheVariants.{Text, NoEnd, Empty}
 use Rattle.op_token.specs.Cut.{cut_of, text_in}
 use Rattle.op_session.specs.declared.feed.Feed.{Feed}
@@ -52,7 +52,7 @@ costs_by traced t feed before after f e = record {
         step : (m : ℕ) → m ≤ feed.machine.steps → before + m ≤ after
         step m h = omega (arith, e)
 
-    least : (s : Stand) → Feeds traced s feed → (o : Option Ending) → Looked traced.run s o
+    least : (s : Stand) → Feeds traced s feed → (o : Option End) → Looked traced.run s o
         → before + steps_at traced.run (min s.furthest (event_count traced.run)) ≤ after
     least s f None l = let within = f.within in let l' : s.furthest ≡ s.place = l in at s s.place (omega arith) f.least
     least s f (Some x) l =

@@ -7,7 +7,7 @@ use Rattle.op_trace.specs.World as trace
 use Rattle.op_trace.specs.Run.{run}
 use Rattle.op_store.specs.declared.names.locked.Locked.TheVariants.{Program}
 use Rattle.op_trace.specs.Database.{Database}
-use Rattle.op_trace.specs.Act.{setup_for}
+use Rattle.op_trace.specs.Builtins.{setup_for}
 use Rattle.op_store.specs.Load.{Query, Found, Loaded, load_text, goal_of}
 use Rattle.op_session.specs.declared.status.Status.{Status}
 use Rattle.op_session.specs.declared.status.Status.TheVariants as status
@@ -58,7 +58,7 @@ goal_name = codes "(goal)"
 
 -- ten million steps
 abbrev pub with_query : Database → Query → Outcome
-with_query w q = if is_runnable w q.body then Session (traced_of 10000000 w q) else unrunnable goal_name
+with_query w q = if is_runnable q.body then Session (traced_of 10000000 w q) else unrunnable goal_name
 
 abbrev pub with_goal : Database → Result Query Found → Outcome
 with_goal w (Err f) = refused goal_name f

@@ -1,5 +1,4 @@
 pub mod Call
-pub mod Line
 pub mod Moves
 pub mod Promise
 pub mod Runnable

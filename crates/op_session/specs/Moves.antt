@@ -2,7 +2,7 @@
 -- which counts as n + 1, can be looked at, and is no place to stand at.
 use Rattle.std.specs.Prelude.{ℕ, ◌+◌, nat_le, List, [], ◌∷◌, length, max, if◌then◌else◌}
 use Rattle.op_trace.specs.World.{Turn, Shown, Solved}
-use Rattle.op_trace.specs.Ending.{Ending, Stopped, Failed, Spent}
+use Rattle.op_trace.specs.Ending.{Ending, Stopped, Failed, Thrown, Halted, Spent}
 use Rattle.op_trace.specs.Run.{Run, events_of}
 
 -- what goes on from one command to the next: where the user stands, and the furthest place that was looked at
@@ -25,6 +25,8 @@ event_count run = length (events_of run.turns)
 abbrev pub end_found : Ending → Found
 end_found Stopped = No_event
 end_found Failed = No_event
+end_found (Thrown b) = No_event
+end_found (Halted i) = No_event
 end_found Spent = Past_budget
 
 -- the next place after one

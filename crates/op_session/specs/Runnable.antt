@@ -1,32 +1,45 @@
--- Which goals can be run by now. A goal with a box can be where its procedure is one of the program: it has a clause, or it is dynamic. A
--- control construct without a box can be where its parts can. The builtins have no procedure (ISO/IEC 13211-1, 7.8 and 8).
-use Rattle.std.specs.Prelude.{Bool, true, false, List, [], ◌∷◌, Option, Some, None, is_some, if◌then◌else◌}
+-- Which goals can be run by now: all but those of a builtin that isn't built yet (ISO/IEC 13211-1, 7.8 and 8). A goal that has no procedure
+-- is run too. Of a control construct that has no box, the parts are asked.
+use Rattle.std.specs.Prelude.{ℕ, ◌==◌, ◌&&◌, not, Bool, true, false, List, [], ◌∷◌, Option, Some, None, codes, if◌then◌else◌}
 use Rattle.std.specs.List.{list_all}
 use Rattle.op_logic.specs.Term.{Term, var, int, node, Args, no_args, arg}
-use Rattle.op_trace.specs.Database.{Text, Clause, Indicator, indicator_of_term, Database, procedure_in, clauses_of_database}
+use Rattle.op_trace.specs.Database.{Text, Clause, Indicator, indicator_of_term, Database, clauses_of_database}
 use Rattle.op_trace.specs.Visit.{Control, BoxedGoal, control}
+use Rattle.op_store.specs.declared.names.locked.Locked.TheVariants.{Program}
+use Rattle.op_store.specs.Locked.{is_among, is_locked}
+
+-- the control constructs and builtins with so many arguments that are built, and the arrow of grammar rules, which has no procedure
+unfoldable pub built : ℕ → List Text
+built n =
+    if n == 0 then codes "true" ∷ codes "fail" ∷ codes "false" ∷ codes "!" ∷ codes "halt" ∷ []
+    else if n == 1 then codes "call" ∷ codes "throw" ∷ codes "\\+" ∷ codes "once" ∷ codes "halt" ∷ []
+    else if n == 2 then codes "," ∷ codes ";" ∷ codes "->" ∷ codes "-->" ∷ codes "call" ∷ []
+    else codes "call" ∷ []
+
+-- a builtin that isn't built yet
+abbrev pub is_unbuilt : Indicator → Bool
+is_unbuilt k = is_locked Program k && not (is_among (built k.arity) k.name)
+
+abbrev pub is_built : Option Indicator → Bool
+is_built None = true
+is_built (Some k) = not (is_unbuilt k)
 
 -- a goal of this kind has a box
 abbrev pub has_box : Control → Bool
 has_box BoxedGoal = true
 has_box c = false
 
--- there is a procedure for it
-abbrev pub is_defined : Database → Option Indicator → Bool
-is_defined w None = false
-is_defined w (Some k) = is_some (procedure_in w.procedures k)
-
 abbrev mutual
-  pub is_runnable : Database → Term Text → Bool
-  is_runnable w (var v) = false
-  is_runnable w (int i) = false
-  is_runnable w (node f ts) =
-      if has_box (control (node f ts)) then is_defined w (indicator_of_term (node f ts)) else list_all (λ b. b) (each_runnable w ts)
+  pub is_runnable : Term Text → Bool
+  is_runnable (var v) = true
+  is_runnable (int i) = true
+  is_runnable (node f ts) =
+      if has_box (control (node f ts)) then is_built (indicator_of_term (node f ts)) else list_all (λ b. b) (each_runnable ts)
 
-  pub each_runnable : Database → Args Text → List Bool
-  each_runnable w no_args = []
-  each_runnable w (arg t ts) = is_runnable w t ∷ each_runnable w ts
+  pub each_runnable : Args Text → List Bool
+  each_runnable no_args = []
+  each_runnable (arg t ts) = is_runnable t ∷ each_runnable ts
 
 -- a program whose clauses all can be run
 abbrev pub are_runnable : Database → Bool
-are_runnable w = list_all (λ (c : Clause). is_runnable w c.body) (clauses_of_database w)
+are_runnable w = list_all (λ (c : Clause). is_runnable c.body) (clauses_of_database w)

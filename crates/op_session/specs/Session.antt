@@ -17,7 +17,7 @@ use Rattle.op_store.specs.Load.{Query, Bad, unreadable, not_body, command_of}
 use Rattle.op_session.specs.declared.command.Meaning.{Meaning}
 use Rattle.op_session.specs.declared.command.Meaning.TheVariants.{Next, Other, Unreadable}
 use Rattle.op_session.specs.Words.{kind_word}
-use Rattle.op_session.specs.Line.{event_line}
+use Rattle.op_event.specs.Line.{event_line}
 use Rattle.op_session.specs.Traced.{Traced}
 use Rattle.op_session.specs.Moves.{Stand, at_start, Found, At, No_event, Past_budget, next_from, moved}
 

@@ -9,13 +9,14 @@ ghost use Rattle.op_session.specs.inner.Giving.{Told, Pays, Gives, text_of};
 ghost use Rattle.op_session.specs.Sight.{sight};
 
 use crate::command::Meaning;
-use crate::feed::{Feed, Next};
-use crate::line::{add_decimal, add_line};
+use crate::decimal::add_decimal;
+use crate::feed::{End, Feed};
 use crate::status::Status;
 use crate::talk::say;
 use crate::words::kind_word;
 use op_base::{Memory, Steps};
 use op_desk::{Bytes, Desk};
+use op_event::line_of;
 use op_reader::ReadFaultKind;
 use std::alloc::Global;
 use std::sync::ledger::Ledger;
@@ -50,26 +51,27 @@ fn answer<L: Ledger>(
 {
     match feed.read(text)? {
         Meaning::Next => {
-            let next = feed.next(steps)?;
-            next_text(alloc, feed, next)
+            let end = feed.next(steps)?;
+            next_text(alloc, feed, end)
         }
         Meaning::Other => other(alloc),
         Meaning::Unreadable(place, kind) => unreadable(alloc, place, kind),
     }
 }
 
-fn next_text(alloc: Global, feed: &Feed, next: Next) -> Result<Bytes, Memory>
-    requires { IsHere next feed.now.machine }
-    ensures { IfOk result (λ answer. answer ≡ text_of feed.now.machine.tables.table next (event_now feed.now.machine)) }
+// The answer to `next`: the present event, or the end in its place.
+fn next_text(alloc: Global, feed: &Feed, end: Option<End>) -> Result<Bytes, Memory>
+    requires { IsHere end feed.now.machine }
+    ensures { IfOk result (λ answer. answer ≡ text_of feed.now.machine.tables.table end (event_now feed.now.machine)) }
 {
     let mut answer = Bytes::new(alloc);
-    match next {
-        Next::Event => {
-            add_line(alloc, &mut answer, &feed.event(), feed.ops())?;
+    match end {
+        None => {
+            line_of(alloc, &feed.event(), feed.ops(), &mut answer)?;
             answer.append(b"\nyes\n")?;
         }
-        Next::NoEvent => answer.append(b"no\n")?,
-        Next::PastBudget => answer.append(b"thrown trace_budget\n")?,
+        Some(End::Over) => answer.append(b"no\n")?,
+        Some(End::Spent) => answer.append(b"thrown trace_budget\n")?,
     }
     Ok(answer)
 }

@@ -147,10 +147,12 @@ fn load_program<D: Desk>(
     text: &[u8],
     desk: &mut D,
 ) -> Result<(), Status>
-    ensures { (goal : List ℕ) → GoesOn result
+    requires { store.old.locked ≡ Locked.Program }
+    ensures goes { (goal : List ℕ) → GoesOn result
         (Some (with_loaded name.now goal (load_text store.old.locked (database_of store.old) text.now)))
         (λ _. with_goal (database_of store.new) (goal_of store.new.table store.new.flags.quotes goal))
         (sight D.Desk desk.old) (sight D.Desk desk.new) }
+    ensures locked { store.new.locked ≡ Locked.Program }
 {
     match store.load(text) {
         Ok(()) => demand_runnable(alloc, desk, name, are_runnable(alloc, store)?),
@@ -165,6 +167,7 @@ fn read_goal<D: Desk>(
     text: &str,
     desk: &mut D,
 ) -> Result<Goal, Status>
+    requires { store.old.locked ≡ Locked.Program }
     ensures goes { GoesOn result (Some (with_goal (database_of store.old) (goal_of store.old.table store.old.flags.quotes text.now)))
         (λ g. Session (traced_of 10000000 (database_of store.new) (query_named store.new.names g)))
         (sight D.Desk desk.old) (sight D.Desk desk.new) }

@@ -1,13 +1,15 @@
-ghost use Rattle.std.specs.Prelude.{◌≡◌, ◌+◌, ◌-◌, ◌≤◌, true, IfOk, OnOk, OnErr};
-ghost use Rattle.op_machine.specs.Machine.{Answers, has_event, event_now, world_now};
-ghost use Rattle.op_machine.specs.View.{event_in};
-ghost use Rattle.op_session.specs.Moves.{Stand, at_start};
+ghost use Rattle.std.specs.Prelude.{◌≡◌, ◌+◌, ◌-◌, ◌≤◌, List, true, IfOk, OnOk, OnErr};
+ghost use Rattle.op_trace.specs.Database.{Text};
+ghost use Rattle.op_event.specs.View.{event_in};
+ghost use Rattle.op_machine.specs.Machine.{Answers, ending_for, has_event, event_now, world_now};
+ghost use Rattle.op_session.specs.Moves.{Stand, at_start, end_found};
 ghost use Rattle.op_session.specs.Traced.{Traced};
-ghost use Rattle.op_session.specs.inner.Feeding.{Finds, Shows, next_of, most_of, to_show};
+ghost use Rattle.op_session.specs.inner.Feeding.{Finds, Shows, found_at, most_of, to_show};
 
 use crate::command::Meaning;
 use op_base::{Memory, Steps};
-use op_machine::{Ending, EventView, Machine, Nothing, Turn};
+use op_event::EventView;
+use op_machine::{Ending, Machine, Nothing, Turn};
 use op_store::Store;
 use op_term::Ops;
 use std::sync::ledger::Ledger;
@@ -17,19 +19,17 @@ use std::sync::ledger::Ledger;
 #[derive(Drop)]
 pub struct Feed {
     pub machine: Machine,
-    pub ended: Option<Ending>,
+    pub ended: Option<End>,
     pub commands: Store,
 }
 
-/// What stands behind the present place.
+/// Which end of a run stands behind its last event.
 #[derive(Clone, Copy)]
-pub enum Next {
-    /// An event. It is the present one now.
-    Event,
-    /// The end of the run.
-    NoEvent,
-    /// The end of a run that had spent its steps.
-    PastBudget,
+pub enum End {
+    /// There is no further event.
+    Over,
+    /// The run had spent its steps.
+    Spent,
 }
 
 impl Feed {
@@ -62,10 +62,11 @@ impl Feed {
         Meaning::of(&mut self.commands, text)
     }
 
-    /// Goes to the next event, if there is one. A machine that has ended is not asked again.
-    pub fn next<L: Ledger>(&mut self, steps: &mut Steps<L>) -> Result<Next, Memory>
-        ensures finds { (traced : Traced) (s : Stand) → Feeds traced s self.old → IfOk result (λ next. Finds traced s self.new next) }
-        ensures here { IfOk result (λ next. IsHere next self.new.machine) }
+    /// Goes to the next event, which is the present one then, or answers the end that stands in its place. A machine that has ended is not
+    /// asked again.
+    pub fn next<L: Ledger>(&mut self, steps: &mut Steps<L>) -> Result<Option<End>, Memory>
+        ensures finds { (traced : Traced) (s : Stand) → Feeds traced s self.old → IfOk result (λ end. Finds traced s self.new end) }
+        ensures here { IfOk result (λ end. IsHere end self.new.machine) }
         ensures cost { steps.new ≡ steps.old + (self.new.machine.steps - self.old.machine.steps) }
         ensures later { self.old.machine.steps ≤ self.new.machine.steps }
         ensures within { self.new.machine.steps ≤ most_of self.old.machine }
@@ -74,7 +75,7 @@ impl Feed {
         if self.ended.is_none() {
             self.ended = next_event(&mut self.machine, steps)?;
         }
-        Ok(next_by(self.ended))
+        Ok(self.ended)
     }
 
     /// The present event.
@@ -93,13 +94,12 @@ impl Feed {
     }
 }
 
-fn next_by(ended: Option<Ending>) -> Next
-    ensures { result ≡ next_of ended }
+fn end_of(ending: &Ending) -> End
+    ensures { (names : List Text) → end_found (ending_for names ending.now) ≡ found_at result }
 {
-    match ended {
-        None => Next::Event,
-        Some(Ending::Spent) => Next::PastBudget,
-        Some(Ending::Stopped | Ending::Failed) => Next::NoEvent,
+    match ending {
+        Ending::Stopped | Ending::Failed | Ending::Thrown(_) | Ending::Halted(_) => End::Over,
+        Ending::Spent => End::Spent,
     }
 }
 
@@ -118,12 +118,9 @@ fn next_turn<L: Ledger>(machine: &mut Machine, steps: &mut Steps<L>) -> Result<T
     }
 }
 
-// Asks a machine for turns up to the next event or its ending: a solution is passed over.
+// Asks a machine for turns up to the next event or its end: a solution is passed over.
 #[tactic(auto, using(crate::proofs::MostSteps::answers_most))]
-fn next_event<L: Ledger>(
-    machine: &mut Machine,
-    steps: &mut Steps<L>,
-) -> Result<Option<Ending>, Memory>
+fn next_event<L: Ledger>(machine: &mut Machine, steps: &mut Steps<L>) -> Result<Option<End>, Memory>
     ensures shows { IfOk result (λ ended. Shows machine.old machine.new ended) }
     ensures cost { steps.new ≡ steps.old + (machine.new.steps - machine.old.steps) }
     ensures later { machine.old.steps ≤ machine.new.steps }
@@ -135,7 +132,7 @@ fn next_event<L: Ledger>(
         match next_turn(machine, steps)? {
             Turn::Event => return Ok(None),
             Turn::Solution => {}
-            Turn::Ended(ending) => return Ok(Some(ending)),
+            Turn::Ended(ending) => return Ok(Some(end_of(&ending))),
         }
     }
 }

@@ -4,8 +4,8 @@
 mod answer;
 mod call;
 mod command;
+mod decimal;
 mod feed;
-mod line;
 mod runnable;
 mod session;
 mod status;

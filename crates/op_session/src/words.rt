@@ -4,7 +4,7 @@ ghost use Rattle.op_store.specs.Queries.{fault_named, IsKnownFault};
 ghost use Rattle.op_session.specs.Words.{kind_word as the_kind, indicator_text as the_indicator};
 ghost use Rattle.op_session.specs.Words.{fault_words as the_words, load_line as the_line};
 
-use crate::line::add_decimal;
+use crate::decimal::add_decimal;
 use op_base::Memory;
 use op_desk::Bytes;
 use op_reader::ReadFaultKind;

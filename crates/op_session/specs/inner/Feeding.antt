@@ -3,24 +3,27 @@ use Rattle.std.specs.Prelude.{◌≡◌, ℕ, ◌+◌, ◌≤◌, true, [], ◌�
 use Rattle.op_session.specs.inner.Reader.{IsReader}
 use Rattle.op_trace.specs.Outside.{no_outside}
 use Rattle.op_trace.specs.Run.{Run, events_of, worlds_of, steps_at}
-use Rattle.op_machine.specs.declared.core_state.Ending.{Ending}
-use Rattle.op_machine.specs.declared.core_state.Ending.TheVariants as outcome
-use Rattle.op_machine.specs.Machine.{Kept, to_come, ending_for, event_now, world_now, has_event}
+use Rattle.op_machine.specs.Machine.{Kept, to_come, event_now, world_now, has_event}
 use Rattle.op_session.specs.declared.feed.Feed.{Feed}
-use Rattle.op_session.specs.declared.feed.Next.{Next}
-use Rattle.op_session.specs.declared.feed.Next.TheVariants as found
+use Rattle.op_session.specs.declared.feed.End.{End}
+use Rattle.op_session.specs.declared.feed.End.TheVariants.{Over, Spent}
 use Rattle.op_session.specs.Traced.{Traced}
-use Rattle.op_session.specs.Line.{event_line}
-use Rattle.op_session.specs.Moves.{Stand, Found, At, No_event, Past_budget, next_from, moved, event_count, most_steps}
+use Rattle.op_event.specs.Line.{event_line}
+use Rattle.op_session.specs.Moves.{Stand, Found, At, No_event, Past_budget, end_found, next_from, moved, event_count, most_steps}
 use Rattle.op_session.specs.Session.{line_at}
 
+-- what a move to this end finds
+abbrev pub found_at : End → Found
+found_at Over = No_event
+found_at Spent = Past_budget
+
 -- the end was looked at, or it wasn't
-pub record AtEnd (run : Run) (s : Stand) (e : Ending) : Type 0 where
+pub record AtEnd (run : Run) (s : Stand) (e : End) : Type 0 where
   pub furthest : s.furthest ≡ event_count run + 1
   pub place : s.place ≡ event_count run
-  pub ending : run.ending ≡ ending_for e
+  pub ending : end_found run.ending ≡ found_at e
 
-abbrev pub Looked : Run → Stand → Option Ending → Type 0
+abbrev pub Looked : Run → Stand → Option End → Type 0
 Looked run s None = s.furthest ≡ s.place
 Looked run s (Some e) = AtEnd run s e
 
@@ -57,18 +60,18 @@ pub record ShowsEvent (old new : Kept) : Type 0 where
   pub world : (to_show old).world ≡ (to_show new).world
   pub here : has_event new ≡ true
 
--- or to its ending
-pub record ShowsEnd (old new : Kept) (e : Ending) : Type 0 where
+-- or to its end
+pub record ShowsEnd (old new : Kept) (e : End) : Type 0 where
   pub none : events_of (to_show old).turns ≡ []
   pub no_worlds : worlds_of (to_show old).turns ≡ []
   pub events : events_of (to_show new).turns ≡ []
   pub worlds : worlds_of (to_show new).turns ≡ []
-  pub ending : (to_show old).ending ≡ ending_for e
-  pub same_ending : (to_show new).ending ≡ ending_for e
+  pub ending : end_found (to_show old).ending ≡ found_at e
+  pub same_ending : (to_show old).ending ≡ (to_show new).ending
   pub world : (to_show old).world ≡ world_now new
   pub same_world : (to_show new).world ≡ world_now new
 
-abbrev pub Shows : Kept → Kept → Option Ending → Type 0
+abbrev pub Shows : Kept → Kept → Option End → Type 0
 Shows old new None = ShowsEvent old new
 Shows old new (Some e) = ShowsEnd old new e
 
@@ -82,20 +85,11 @@ pub record ArrivesAt (traced : Traced) (s : Stand) (feed : Feed) : Type 0 where
   pub here : has_event feed.machine ≡ true
   pub line : line_at traced.table (events_of traced.run.turns) s.place ≡ event_line traced.table (event_now feed.machine)
 
-abbrev pub Finds : Traced → Stand → Feed → Next → Type 0
-Finds traced s feed found.Event = ArrivesAt traced s feed
-Finds traced s feed found.NoEvent = Arrives traced s feed No_event
-Finds traced s feed found.PastBudget = Arrives traced s feed Past_budget
-
--- what is told of an ending
-abbrev pub next_of : Option Ending → Next
-next_of None = found.Event
-next_of (Some outcome.Stopped) = found.NoEvent
-next_of (Some outcome.Failed) = found.NoEvent
-next_of (Some outcome.Spent) = found.PastBudget
+abbrev pub Finds : Traced → Stand → Feed → Option End → Type 0
+Finds traced s feed None = ArrivesAt traced s feed
+Finds traced s feed (Some e) = Arrives traced s feed (found_at e)
 
 -- the present event is there where one was found
-abbrev pub IsHere : Next → Kept → Type 0
-IsHere found.Event k = has_event k ≡ true
-IsHere found.NoEvent k = Unit {0}
-IsHere found.PastBudget k = Unit {0}
+abbrev pub IsHere : Option End → Kept → Type 0
+IsHere None k = has_event k ≡ true
+IsHere (Some e) k = Unit {0}

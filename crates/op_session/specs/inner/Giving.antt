@@ -1,14 +1,14 @@
 -- One command's answer: what is said, and where the feed stands then.
-use Rattle.std.specs.Prelude.{◌≡◌, ℕ, ◌+◌, ◌-◌, ◌≤◌, List, ◌++◌, codes, Result, Ok, Err}
+use Rattle.std.specs.Prelude.{◌≡◌, ℕ, ◌+◌, ◌-◌, ◌≤◌, List, ◌++◌, codes, Option, Some, None, Result, Ok, Err}
 use Rattle.op_term.specs.Ops.{Table}
 use Rattle.op_trace.specs.World.{Event}
 use Rattle.op_session.specs.Traced.{Traced}
 use Rattle.op_session.specs.declared.feed.Feed.{Feed}
-use Rattle.op_session.specs.declared.feed.Next.{Next}
-use Rattle.op_session.specs.declared.feed.Next.TheVariants as found
+use Rattle.op_session.specs.declared.feed.End.{End}
+use Rattle.op_session.specs.declared.feed.End.TheVariants.{Over, Spent}
 use Rattle.op_session.specs.declared.status.Status.{Status}
 use Rattle.op_session.specs.declared.status.Status.TheVariants as status
-use Rattle.op_session.specs.Line.{event_line}
+use Rattle.op_event.specs.Line.{event_line}
 use Rattle.op_session.specs.Moves.{Stand}
 use Rattle.op_session.specs.Session.{answer_to}
 use Rattle.op_session.specs.Sight.{Sight}
@@ -16,10 +16,10 @@ use Rattle.op_session.specs.inner.Steps.{SaysAll, SaysFront}
 use Rattle.op_session.specs.inner.Feeding.{Feeds, most_of}
 
 -- the answer to `next`
-abbrev pub text_of : Table → Next → Event → List ℕ
-text_of ops found.Event e = event_line ops e ++ codes "\nyes\n"
-text_of ops found.NoEvent e = codes "no\n"
-text_of ops found.PastBudget e = codes "thrown trace_budget\n"
+abbrev pub text_of : Table → Option End → Event → List ℕ
+text_of ops None e = event_line ops e ++ codes "\nyes\n"
+text_of ops (Some Over) e = codes "no\n"
+text_of ops (Some Spent) e = codes "thrown trace_budget\n"
 
 -- these bytes are the answer to a text
 pub record Told (traced : Traced) (s : Stand) (text answer : List ℕ) (feed : Feed) : Type 0 where

@@ -21,14 +21,14 @@ returns-in_err-load_program-clause-goes g c =
     let read = c.in_ok-text.ensures asked in
     let store = c.args.store.now in
     let new = outcome_new c.args.program.now asked c.in_ok-text.text c.as_slice.result.now store c.as_slice.ensures c.requires in
-    rw (p.1, p.2) (λ n. ends_further _ _ _ _ _ _ _ n new (c.in_err-load_program.ensures asked n) read.0 read.1)
+    rw (p.1, p.2) (λ n. ends_further _ _ _ _ _ _ _ n new (c.in_err-load_program.ensures.goes asked n) read.0 read.1)
 
 pub returns-in_err-goal-clause-goes : goal.returns-in_err-goal-clause-goes
 returns-in_err-goal-clause-goes g c =
     let p = err_from_is_err_and c.from_residual-in_err-goal.result c.from_residual-in_err-goal.ensures.1 in
     let asked = c.args.goal.now in
     let read = c.in_ok-text.ensures asked in
-    let loaded = c.in_ok-load_program.ensures asked in
+    let loaded = c.in_ok-load_program.ensures.goes asked in
     let store = c.args.store.now in
     let new = outcome_new c.args.program.now asked c.in_ok-text.text c.as_slice.result.now store c.as_slice.ensures c.requires in
     rw (p.1, p.2)
@@ -39,7 +39,7 @@ returns-clause-goes g c =
     let program = c.args.program.now in
     let asked = c.args.goal.now in
     let read = c.in_ok-text.ensures asked in
-    let loaded = c.in_ok-load_program.ensures asked in
+    let loaded = c.in_ok-load_program.ensures.goes asked in
     let query = c.in_ok-goal.ensures.goes in
     let read_into = c.read_goal.new.store in
     let store = c.args.store.now in

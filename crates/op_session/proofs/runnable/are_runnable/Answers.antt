@@ -9,8 +9,8 @@ use Rattle.op_session.specs.Runnable.{is_runnable, are_runnable}
 use Rattle.op_session.proofs.RunnableBodies.{procedures-bodies, list_all-map}
 use Rattle.op_session.proofs.runnable.are_runnable.Goals as goal
 
-pub are_runnable_clauses-requires : goal.are_runnable_clauses-requires
-are_runnable_clauses-requires c =
+pub are_runnable_clauses-requires-clause-names : goal.are_runnable_clauses-requires-clause-names
+are_runnable_clauses-requires-clause-names c =
     let s = c.args.store.now in
     subst (All (λ (r : NumberedClause). HasNames (length s.names) r.body)) (sym c.in_ok-clauses.ensures.clauses)
     (procedures-bodies (length s.names) s.procedures c.in_ok-clauses.ensures.sound.procedures)
@@ -18,8 +18,8 @@ are_runnable_clauses-requires c =
 pub returns : goal.returns
 returns c =
     let s = c.args.store.now in
-    let e : list_all (λ (r : NumberedClause). is_runnable (database_of s) (named s.names r.body)) c.in_ok-clauses.clauses
+    let e : list_all (λ (r : NumberedClause). is_runnable (named s.names r.body)) c.in_ok-clauses.clauses
     ≡ are_runnable (database_of s) =
-    sym (list_all-map (λ (k : Clause). is_runnable (database_of s) k.body) (clause_named s.names) c.in_ok-clauses.clauses)
-    ∙ ap (list_all (λ (k : Clause). is_runnable (database_of s) k.body)) c.in_ok-clauses.ensures.world in
+    sym (list_all-map (λ (k : Clause). is_runnable k.body) (clause_named s.names) c.in_ok-clauses.clauses)
+    ∙ ap (list_all (λ (k : Clause). is_runnable k.body)) c.in_ok-clauses.ensures.world in
     subst (λ (x : Bool). IfOk c.are_runnable_clauses.result (λ b. b ≡ x)) e c.are_runnable_clauses.ensures

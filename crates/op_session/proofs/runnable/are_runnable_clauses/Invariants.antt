@@ -2,10 +2,9 @@ use Rattle.std.proofs.Common.{◌≡◌, true, take}
 use Rattle.std.specs.List.{list_all}
 use Rattle.op_logic.specs.Names.{named}
 use Rattle.op_bind.specs.declared.places.Clause.{Clause as NumberedClause}
-use Rattle.op_store.specs.Stored.{database_of}
 use Rattle.op_session.specs.Runnable.{is_runnable}
 use Rattle.op_session.proofs.runnable.are_runnable_clauses.Given as goal
 
 abbrev pub invariant-clauses : goal.invariant-clauses
-invariant-clauses l = list_all (λ (r : NumberedClause). is_runnable (database_of l.store) (named l.store.names r.body))
+invariant-clauses l = list_all (λ (r : NumberedClause). is_runnable (named l.store.names r.body))
     (take l.i l.clauses) ≡ true

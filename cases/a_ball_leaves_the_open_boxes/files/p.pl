@@ -1,0 +1,1 @@
+p :- q, r. q. q. r :- s, throw(f(X,X)). s.

@@ -1,0 +1,33 @@
+use Rattle.std.proofs.Common.{◌≡◌, ℕ, ◌==◌, false, List, sym, ap, ◌∙◌}
+use Rattle.op_logic.proofs.BoolCases.{by_test, if_false}
+use Rattle.op_trace.specs.Database.{Text}
+use Rattle.op_store.specs.Locked.{is_among}
+use Rattle.std.proofs.lemmas.Bool.Decides.{Decides-eqb}
+use Rattle.op_session.specs.Runnable.{built}
+use Rattle.op_session.proofs.runnable.is_built_name.Goals as goal
+
+not-eq : (m n : ℕ) → (m ≡ n → ⊥) → (m == n) ≡ false
+not-eq m n h = by_test (m == n) (λ e. absurd (h ((Decides-eqb m n).0 e))) (λ e. e)
+
+pub returns-then-arity-eq0 : goal.returns-then-arity-eq0
+unfolding built
+returns-then-arity-eq0 c = c.is_among.ensures ∙ sym (ap (λ (n : ℕ). is_among (built n) c.args.name.now) c.if-arity-eq0.true)
+
+pub returns-then-arity-eq1 : goal.returns-then-arity-eq1
+unfolding built
+returns-then-arity-eq1 c =
+    c.is_among-then-arity-eq1.ensures ∙ sym (ap (λ (n : ℕ). is_among (built n) c.args.name.now) c.if-arity-eq1.true)
+
+pub returns-then-arity-eq2 : goal.returns-then-arity-eq2
+unfolding built
+returns-then-arity-eq2 c =
+    c.is_among-then-arity-eq2.ensures ∙ sym (ap (λ (n : ℕ). is_among (built n) c.args.name.now) c.if-arity-eq2.true)
+
+pub returns-else-arity-eq2 : goal.returns-else-arity-eq2
+unfolding built
+returns-else-arity-eq2 c =
+    c.is_among-else-arity-eq2.ensures
+    ∙ sym (ap (λ (names : List Text). is_among names c.args.name.now)
+    (if_false (c.args.arity == 0) _ _ (not-eq c.args.arity 0 c.if-arity-eq0.false)
+    ∙ (if_false (c.args.arity == 1) _ _ (not-eq c.args.arity 1 c.if-arity-eq1.false)
+    ∙ (if_false (c.args.arity == 2) _ _ (not-eq c.args.arity 2 c.if-arity-eq2.false)))))
