@@ -1,3 +1,12 @@
+mod Acting
+mod Evaluating
 mod IntegerValues
+mod MakingTerms
 mod MetNodes
+mod NamedCopies
 mod PendingFunctions
+mod Refusals
+mod Tests
+mod TextsLater
+mod Unifying
+mod Values

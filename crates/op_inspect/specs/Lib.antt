@@ -1,4 +1,14 @@
+pub mod Answering
 pub mod Arithmetic
+pub mod Comparison
+pub mod Construction
+pub mod Copies
+pub mod Errors
+pub mod Evaluation
 pub mod Examples
+pub mod Inspected
+pub mod Lists
+pub mod Outcomes
 pub mod Told
+pub mod TypeTests
 pub mod inner
