@@ -1,0 +1,35 @@
+ghost use Rattle.std.specs.Prelude.{◌≡◌};
+ghost use Rattle.op_cursor.specs.declared.fault.PatternFault.TheVariants.{Memory};
+
+use op_base::Memory;
+use std::alloc::{AllocError, AllocFailed};
+use std::error::Error;
+use std::fmt;
+
+/// Why a term is no pattern: want of memory, it is a variable, or it is no term of an event.
+#[derive(Clone, Copy, Debug, PartialEq, Eq)]
+pub enum PatternFault {
+    Memory,
+    Unbound,
+    NotEvent,
+}
+
+impl fmt::Display for PatternFault {
+    fn fmt<W: fmt::Write>(&self, f: &mut fmt::Formatter<W>) -> fmt::Result {
+        match self {
+            PatternFault::Memory => write!(f, "Memory"),
+            PatternFault::Unbound => write!(f, "Unbound"),
+            PatternFault::NotEvent => write!(f, "NotEvent"),
+        }
+    }
+}
+
+impl Error for PatternFault {}
+
+impl From<Memory> for PatternFault {
+    ghost from_gives = { λ _ e. e ≡ Memory };
+
+    fn from(_e: Memory) -> PatternFault {
+        PatternFault::Memory
+    }
+}

@@ -1,0 +1,4 @@
+pub mod MatchedPairs
+pub mod MoveCosts
+pub mod PatternUnifiers
+pub mod SearchedPlaces

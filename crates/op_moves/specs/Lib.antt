@@ -1,0 +1,6 @@
+pub mod EventTerm
+pub mod Examples
+pub mod Laws
+pub mod Moves
+pub mod Pairs
+pub mod Pattern
