@@ -42,12 +42,12 @@ module _ {N M : Type 0} (f : N → M) where
     occurs_args-rename v (arg t ts) = let a = occurs-rename v t in let b = occurs_args-rename v ts in cc
 
   mutual
-    size-rename : (t : Term N) → size (rename f t) ≡ size t
+    pub size-rename : (t : Term N) → size (rename f t) ≡ size t
     size-rename (var w) = refl
     size-rename (int i) = refl
     size-rename (node n ts) = ap suc (args_size-rename ts)
 
-    args_size-rename : (ts : Args N) → args_size (rename_args f ts) ≡ args_size ts
+    pub args_size-rename : (ts : Args N) → args_size (rename_args f ts) ≡ args_size ts
     args_size-rename no_args = refl
     args_size-rename (arg t ts) = let a = size-rename t in let b = args_size-rename ts in cc
 
@@ -68,7 +68,7 @@ module _ {N M : Type 0} (f : N → M) where
   follow_on-rename v s (int i) = refl
   follow_on-rename v s (node n ts) = refl
 
-  follow-rename : (σ : Bindings N) (t : Term N) → follow (rename_bindings f σ) (rename f t) ≡ rename f (follow σ t)
+  pub follow-rename : (σ : Bindings N) (t : Term N) → follow (rename_bindings f σ) (rename f t) ≡ rename f (follow σ t)
   follow-rename [] t = refl
   follow-rename (p ∷ σ) t =
       let a : follow (rename_bindings f σ) (rename f p.1) ≡ rename f (follow σ p.1) = follow-rename σ p.1 in

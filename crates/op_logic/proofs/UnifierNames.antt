@@ -34,7 +34,7 @@ module _ (n : ℕ) where
   follow_on-names v s (int i) hs ht = tt
   follow_on-names v s (node f ts) hs ht = ht
 
-  follow-names : (σ : Bindings ℕ) (t : Term ℕ) → HaveNames n σ → HasNames n t → HasNames n (follow σ t)
+  pub follow-names : (σ : Bindings ℕ) (t : Term ℕ) → HaveNames n σ → HasNames n t → HasNames n (follow σ t)
   follow-names [] t h ht = ht
   follow-names (p ∷ σ) t h ht = follow_on-names p.0 (follow σ p.1) (follow σ t) (follow-names σ p.1 h.1 h.0) (follow-names σ t h.1 ht)
 
