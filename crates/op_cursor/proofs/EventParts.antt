@@ -1,7 +1,7 @@
 -- What the nodes of goals and of patterns say of the terms that they show as.
 use Rattle.std.proofs.Common.{◌≡◌, ℕ, zero, suc, ◌<◌, ◌==◌, ◌&&◌, Bool, true, false, List, sym, ◌∙◌, ap, refl, arith}
 use Rattle.std.specs.Prelude.{codes}
-use Rattle.op_logic.specs.Term.{Term, var, int, node, Args, no_args, arg, args_of, nth_arg, arity, rename, rename_args, size, args_size}
+use Rattle.op_logic.specs.Term.{Term, var, int, node, Args, no_args, arg, args_of, nth_arg, arity, rename_args}
 use Rattle.op_logic.specs.Names.{name_at, named, HasNames, ArgsHaveNames}
 use Rattle.op_logic.proofs.RenamedUnification.{arity-rename}
 use Rattle.op_logic.proofs.ShiftedTerms.{nth-rename, nth-names}
@@ -93,13 +93,3 @@ event-other names (var v) h k = refl
 event-other names (int i) h k = refl
 event-other names (node f no_args) h k = absurd (k (name_of f) refl)
 event-other names (node f (arg t ts)) h k = absurd (h (name_of f) (suc (arity ts)) refl)
-
-mutual
-  pub size-named : (f : ℕ → Text) (t : Term ℕ) → size (rename f t) ≡ size t
-  size-named f (var v) = refl
-  size-named f (int i) = refl
-  size-named f (node g ts) = ap suc (args_size-named f ts)
-
-  args_size-named : (f : ℕ → Text) (ts : Args ℕ) → args_size (rename_args f ts) ≡ args_size ts
-  args_size-named f no_args = refl
-  args_size-named f (arg t ts) = let a = size-named f t in let b = args_size-named f ts in cc

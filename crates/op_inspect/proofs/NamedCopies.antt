@@ -4,7 +4,7 @@ use Rattle.std.proofs.Common.{refl, ap, ◌∙◌, if◌then◌else◌, arith}
 use Rattle.std.specs.List.{list_any, position_or_len}
 use Rattle.std.proofs.lemmas.Bool.Decides.{nat_tests}
 use Rattle.std.proofs.lemmas.List.Recursion.{is_position_or_len}
-use Rattle.op_logic.specs.Term.{Term, var, int, node, Args, no_args, arg, rename_args, size, args_size}
+use Rattle.op_logic.specs.Term.{Term, var, int, node, Args, no_args, arg, rename_args, size}
 use Rattle.op_logic.specs.Laws.{instance_of, instances_of}
 use Rattle.op_logic.specs.Names.{name_at, named, HasNames, ArgsHaveNames}
 use Rattle.op_term.specs.Variables.{add_variables, add_args_variables, distinct_variables, has_no_variable, have_no_variable}
@@ -59,16 +59,6 @@ module _ (names : List (List ℕ)) where
   pub copied-named : (n : ℕ) (t : Term ℕ) → copied n (named names t) ≡ named names (bind.copied n t)
   copied-named n t =
       ap (λ (vs : List ℕ). renumbered vs n (named names t)) (variables-named t) ∙ renumbered-same (distinct_variables t) n t
-
-  mutual
-    pub size-named : (t : Term ℕ) → size (named names t) ≡ size t
-    size-named (var v) = refl
-    size-named (int i) = refl
-    size-named (node f ts) = ap suc (args_size-named ts)
-
-    args_size-named : (ts : Args ℕ) → args_size (rename_args (name_at names) ts) ≡ args_size ts
-    args_size-named no_args = refl
-    args_size-named (arg t ts) = let a = size-named t in let b = args_size-named ts in cc
 
   mutual
     pub ground-named : (t : Term ℕ) → has_no_variable (named names t) ≡ has_no_variable t

@@ -1,52 +1,21 @@
 -- Terms and bindings over texts stay while names and terms join.
-use Rattle.std.proofs.Common.{◌≡◌, ℕ, zero, suc, ◌<◌, ◌≤◌, ◌==◌, Bool, true, false, cond, if◌then◌else◌, List, [], ◌∷◌, length, take}
+use Rattle.std.proofs.Common.{◌≡◌, ℕ, zero, suc, ◌<◌, ◌≤◌, List, [], ◌∷◌, length, take}
 use Rattle.std.proofs.Common.{refl, sym, ap, ◌∙◌, subst, arith}
 use Rattle.std.proofs.Math.Seq.{take-length}
 use Rattle.std.proofs.lemmas.List.{length-take}
-use Rattle.op_logic.specs.Term.{Term, var, int, node, Args, no_args, arg, rename}
-use Rattle.op_logic.specs.Bind.{Bindings, apply, follow, follow_on}
+use Rattle.op_logic.specs.Term.{Term, var, int, node, Args, no_args, arg}
+use Rattle.op_logic.specs.Bind.{Bindings, apply, follow}
 use Rattle.op_logic.specs.Laws.{rename_bindings}
 use Rattle.op_logic.specs.Names.{name_at, named, HasNames, ArgsHaveNames, HaveNames}
 use Rattle.op_logic.proofs.NameTables.{named-more}
-use Rattle.op_logic.proofs.RenamedUnification.{apply-rename}
+use Rattle.op_logic.proofs.RenamedUnification.{apply-rename, follow-rename}
+use Rattle.op_logic.proofs.UnifierNames.{follow-names}
 use Rattle.op_term.specs.Places.{term_at}
 use Rattle.op_bind.specs.State as bind
 use Rattle.op_bind.specs.State.{State, value_of}
 use Rattle.op_bind.proofs.StateGrowth.{grows-self, grows-grows, term-stays}
 use Rattle.op_inspect.specs.Outcomes.{texts_of, text_at, IsKnown, IsSetting}
 use Rattle.op_inspect.specs.inner.Settings.{Stays}
-
-if-map : {A B : Type 0} (g : A → B) (b : Bool) (x y : A) → g (cond b x y) ≡ cond b (g x) (g y)
-if-map g true x y = refl
-if-map g false x y = refl
-
-follow_on-renamed : {N M : Type 0} (f : N → M) (v : ℕ) (s q : Term N) → follow_on v (rename f s) (rename f q) ≡ rename f (follow_on v s q)
-follow_on-renamed f v s (var w) = sym (if-map (rename f) (v == w) s (var w))
-follow_on-renamed f v s (int i) = refl
-follow_on-renamed f v s (node n ts) = refl
-
-follow-renamed : {N M : Type 0} (f : N → M) (σ : Bindings N) (t : Term N) → follow (rename_bindings f σ) (rename f t) ≡ rename f
-    (follow σ t)
-follow-renamed f [] t = refl
-follow-renamed f (p ∷ σ) t =
-    let a : follow (rename_bindings f σ) (rename f p.1) ≡ rename f (follow σ p.1) = follow-renamed f σ p.1 in
-    let b : follow (rename_bindings f σ) (rename f t) ≡ rename f (follow σ t) = follow-renamed f σ t in
-    ap (λ x. follow_on p.0 x (follow (rename_bindings f σ) (rename f t))) a ∙ (ap (follow_on p.0 (rename f (follow σ p.1))) b
-    ∙ follow_on-renamed f p.0 (follow σ p.1) (follow σ t))
-
-follow_on-names : (n v : ℕ) (s t : Term ℕ) → HasNames n s → HasNames n t → HasNames n (follow_on v s t)
-follow_on-names n v s (var w) hs ht = go (v == w)
-  where
-    go : (b : Bool) → HasNames n (if b then s else var w)
-    go true = hs
-    go false = tt
-follow_on-names n v s (int i) hs ht = tt
-follow_on-names n v s (node f ts) hs ht = ht
-
-followed-names : (n : ℕ) (σ : Bindings ℕ) (t : Term ℕ) → HaveNames n σ → HasNames n t → HasNames n (follow σ t)
-followed-names n [] t h ht = ht
-followed-names n (p ∷ σ) t h ht =
-    follow_on-names n p.0 (follow σ p.1) (follow σ t) (followed-names n σ p.1 h.1 h.0) (followed-names n σ t h.1 ht)
 
 pub more-names : (old new : List (List ℕ)) → take (length old) new ≡ old → length old ≤ length new
 more-names old new e = omega (arith, length-take (length old) new, ap length e)
@@ -113,9 +82,9 @@ value-text names s r = sym (apply-rename (name_at names) (bind.bindings s) (term
 
 pub followed-text : (names : List (List ℕ)) (s : State) (r q : ℕ) → term_at s.terms q ≡ follow (bind.bindings s) (term_at s.terms r)
     → text_at names s q ≡ follow (texts_of names s) (text_at names s r)
-followed-text names s r q e = ap (named names) e ∙ sym (follow-renamed (name_at names) (bind.bindings s) (term_at s.terms r))
+followed-text names s r q e = ap (named names) e ∙ sym (follow-rename (name_at names) (bind.bindings s) (term_at s.terms r))
 
 pub followed-known : (names : List (List ℕ)) (s : State) (r q : ℕ) → q < length s.terms
     → term_at s.terms q ≡ follow (bind.bindings s) (term_at s.terms r) → IsSetting names s → IsKnown names s r → IsKnown names s q
 followed-known names s r q h e k i =
-    (h, subst (HasNames (length names)) (sym e) (followed-names (length names) (bind.bindings s) (term_at s.terms r) k i.1))
+    (h, subst (HasNames (length names)) (sym e) (follow-names (length names) (bind.bindings s) (term_at s.terms r) k i.1))

@@ -3,8 +3,9 @@ use Rattle.std.proofs.Common.{◌≡◌, ℕ, ◌+◌, List, [], ◌∷◌, leng
 use Rattle.std.specs.declared.cmp.Ordering.{Ordering}
 use Rattle.op_logic.specs.Term.{Term, size}
 use Rattle.op_logic.specs.Bind.{Bindings, Solved, apply, unify}
-use Rattle.op_logic.specs.Names.{named, HasNames}
+use Rattle.op_logic.specs.Names.{name_at, named, HasNames}
 use Rattle.op_logic.proofs.UnifierNames.{apply-names}
+use Rattle.op_logic.proofs.RenamedUnification.{size-rename}
 use Rattle.op_term.specs.Places.{term_at}
 use Rattle.op_term.specs.Order.{standard_order, pairs_compared}
 use Rattle.op_term.specs.Variables.{has_no_variable, distinct_variables}
@@ -28,7 +29,7 @@ use Rattle.op_bind.specs.Grown.{Grows}
 use Rattle.op_term.specs.declared.walk.WalkFault.{WalkFault}
 use Rattle.op_inspect.proofs.Acting.{IsPart, same-part, paid-answers, paid-then}
 use Rattle.op_inspect.proofs.TextsLater.{value-text, stays-self, text-later, texts-later}
-use Rattle.op_inspect.proofs.NamedCopies.{size-named, ground-named, variables-named, copied-named, copied-names}
+use Rattle.op_inspect.proofs.NamedCopies.{ground-named, variables-named, copied-named, copied-names}
 
 -- a unification in another world, with terms and bindings that are the same
 pub unifier-world : (o : Option (Solved Text)) (left : ℕ) (before after : World) (h : Option (Bindings Text) → Yield)
@@ -69,7 +70,7 @@ module _ (names : List (List ℕ)) (s : State) where
   ground-value r left w =
       let σ : Bindings Text = texts_of names s in
       ap (λ (x : Term Text). pay (size x) left w (λ l. decided (has_no_variable x) σ w)) (sym (value-text names s r))
-      ∙ (ap (λ (n : ℕ). pay n left w (λ l. decided (has_no_variable (value r)) σ w)) (size-named names (value_of s r))
+      ∙ (ap (λ (n : ℕ). pay n left w (λ l. decided (has_no_variable (value r)) σ w)) (size-rename (name_at names) (value_of s r))
       ∙ ap (λ b. pay (size (value_of s r)) left w (λ l. decided b σ w)) (ground-named names (value_of s r)))
 
   pub throw-value : (r left : ℕ) (w : World) → throw left (texts_of names s) (text_at names s r) w
@@ -80,7 +81,7 @@ module _ (names : List (List ℕ)) (s : State) where
       ap (λ (x : Term Text). pay (size x) left w (λ l. done (record w { variables = w.variables + length (variables_of x) })
       (Throws (copied w.variables x)))) (sym (value-text names s r))
       ∙ (ap (λ (n : ℕ). pay n left w (λ l. done (record w { variables = w.variables + length (variables_of (value r)) })
-      (Throws (copied w.variables (value r))))) (size-named names (value_of s r))
+      (Throws (copied w.variables (value r))))) (size-rename (name_at names) (value_of s r))
       ∙ (ap (λ (vs : List ℕ). pay (size (value_of s r)) left w (λ l. done (record w { variables = w.variables + length vs })
       (Throws (copied w.variables (value r))))) (variables-named names (value_of s r))
       ∙ ap (λ (x : Term Text). pay (size (value_of s r)) left w (λ l. done (record w {
@@ -97,7 +98,7 @@ module _ (names : List (List ℕ)) (s : State) where
       ap (λ (x : Term Text). pay (size x) left w (λ l. unify_terms u (copied w.variables x) l σ w
       (record w { variables = w.variables + length (variables_of x) }))) (sym (value-text names s r))
       ∙ (ap (λ (n : ℕ). pay n left w (λ l. unify_terms u (copied w.variables (value r)) l σ w
-      (record w { variables = w.variables + length (variables_of (value r)) }))) (size-named names (value_of s r))
+      (record w { variables = w.variables + length (variables_of (value r)) }))) (size-rename (name_at names) (value_of s r))
       ∙ (ap (λ (vs : List ℕ). pay (size (value_of s r)) left w (λ l. unify_terms u (copied w.variables (value r)) l σ w
       (record w { variables = w.variables + length vs }))) (variables-named names (value_of s r))
       ∙ ap (λ (x : Term Text). pay (size (value_of s r)) left w (λ l. unify_terms u x l σ w (record w {

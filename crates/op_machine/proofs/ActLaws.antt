@@ -1,12 +1,12 @@
 -- The acts of a program keep the rules of acts.
-use Rattle.std.proofs.Common.{◌≡◌, ℕ, suc, ◌+◌, ◌-◌, ◌<◌, ◌≤◌, ◌&&◌, nat_le, pos, Bool, true, false}
+use Rattle.std.proofs.Common.{◌≡◌, ℕ, suc, ◌+◌, ◌-◌, ◌<◌, ◌≤◌, ◌==◌, ◌&&◌, nat_le, pos, Bool, true, false}
 use Rattle.std.proofs.Common.{Option, Some, None, codes, length, refl, ap}
 use Rattle.std.proofs.Common.{arith, if◌then◌else◌}
 use Rattle.std.proofs.lemmas.Bool.Decides.{nat_tests}
-use Rattle.op_logic.specs.Term.{Term, var, int, node, Args, no_args, arg, size, arity}
+use Rattle.op_logic.specs.Term.{Term, var, int, node, Args, no_args, arg, args_of, nth_arg, size, arity}
 use Rattle.op_logic.specs.Bind.{Bindings, apply, follow}
 use Rattle.op_trace.specs.Database.{Text, text_eq}
-use Rattle.op_trace.specs.World.{World}
+use Rattle.op_trace.specs.World.{World, Execution, First, Repeated, Recovery}
 use Rattle.op_trace.specs.Act.{Yield, Fails, Runs, Throws, Halts, Act, done, paid, pay}
 use Rattle.op_trace.specs.Body.{Body, Division, divided, term_of}
 use Rattle.op_trace.specs.Copy.{variables_of, copied}
@@ -103,12 +103,22 @@ goal-rule (node f (arg a no_args)) σ w =
     (if-rule σ (text_eq f (codes "throw")) (λ l. throw_argument t l σ w) halts (throw_argument-rule t σ w)
     (if-rule σ (text_eq f (codes "halt")) (λ l. halt_with t l σ w) last (halt_with-rule t σ w) (unknown-rule f 1 σ w)))))
 goal-rule (node f (arg a (arg b us))) σ w =
+    let last : ℕ → Act = λ l. unknown f (suc (arity (arg b us))) l σ w in
+    let catches : ℕ → Act =
+    λ l. if text_eq f (codes "catch") && (arity (arg b us) == 2) then run_goal alone (follow σ a) no_args l σ w else last l in
     if-rule σ (text_eq f (codes "call") && nat_le (arity (arg b us)) 7) (λ l. run_goal alone (follow σ a) (arg b us) l σ w)
-    (λ l. unknown f (suc (arity (arg b us))) l σ w) (run_goal-rule alone (follow σ a) (arg b us) σ w)
-    (unknown-rule f (suc (arity (arg b us))) σ w)
+    catches (run_goal-rule alone (follow σ a) (arg b us) σ w)
+    (if-rule σ (text_eq f (codes "catch") && (arity (arg b us) == 2)) (λ l. run_goal alone (follow σ a) no_args l σ w) last
+    (run_goal-rule alone (follow σ a) no_args σ w) (unknown-rule f (suc (arity (arg b us))) σ w))
+
+-- each execution
+pub execution-rule : (t : Execution) (g : Term Text) (σ : Bindings Text) (w : World) → IsActRule σ (λ left. act_of_program left t g σ w)
+execution-rule First g σ w = goal-rule g σ w
+execution-rule Repeated g σ w = goal-rule g σ w
+execution-rule Recovery g σ w = run_goal-rule alone (follow σ (nth_arg (args_of g) 2)) no_args σ w
 
 pub program-acts : KeepsActRules act_of_program
 program-acts = record {
-  binds = λ left t g σ w. (goal-rule g σ w).binds left;
-  same = λ m n t g σ w before after. (goal-rule g σ w).same m n before after;
+  binds = λ left t g σ w. (execution-rule t g σ w).binds left;
+  same = λ m n t g σ w before after. (execution-rule t g σ w).same m n before after;
 }

@@ -8,7 +8,7 @@ use Rattle.op_trace.specs.declared.barrier.Barrier.{Barrier}
 use Rattle.op_trace.specs.Database.{text_eq, Clause}
 use Rattle.op_trace.specs.World.{World, Event, Shown}
 use Rattle.op_trace.specs.Visit as visit
-use Rattle.op_trace.specs.Visit.{event_of, with_event}
+use Rattle.op_trace.specs.Visit.{event_of, with_event, last_choice}
 use Rattle.op_machine.specs.declared.core_state.Core.{Core}
 use Rattle.op_machine.specs.declared.core_state.Seen.{Seen}
 use Rattle.op_machine.specs.declared.core_state.Mode.{Mode}
@@ -141,6 +141,10 @@ abbrev entered_over : ℕ → Core → ℕ → ℕ → List visit.Choice → Sta
 entered_over k c g n K =
     entered_state (inside (database_of c.store) (goal_now c g)) k (goal_now c g) (items_now c n) K (bindings_now c) (world_in c)
 
+-- the choice point of a box that is invoked now
+abbrev pub last_at : ℕ → Core → ℕ → ℕ → visit.Choice
+last_at k c g n = last_choice (inside (database_of c.store) (goal_now c g)) k (goal_now c g) (bindings_now c) (items_now c n)
+
 -- the box was called, the event was shown, the box's own choice point was made, and the box was entered, one after the other
 pub invoked-advances : (c boxed shown pushed new : Core) (g n k : ℕ) → k ≡ c.calls + 1
     → boxed ≡ record c { calls = boxed.calls; frames = boxed.frames } → boxed.calls ≡ c.calls + 1 → boxed.frames.choices ≡ c.frames.choices
@@ -149,7 +153,7 @@ pub invoked-advances : (c boxed shown pushed new : Core) (g n k : ℕ) → k ≡
     → new ≡ record pushed { frames = new.frames; continuations = new.continuations; mode = new.mode }
     → event_seen boxed.store boxed.bindings shown.seen
     ≡ event_of port.Call k (goal_now boxed g) (bindings_now boxed) (items_now boxed n) (world_in boxed)
-    → choice_points_in pushed ≡ visit.Fail k (goal_now shown g) (bindings_now shown) (items_now shown n) ∷ choice_points_in shown
+    → choice_points_in pushed ≡ last_at k shown g n ∷ choice_points_in shown
     → state_of new ≡ box_entered pushed k g n
     → IsGood new → shown.seen.goal ≡ g → HasGoal c g
     → Advances c new (box_invoked c g n) step.Event
@@ -163,22 +167,21 @@ invoked-advances c boxed shown pushed new g n k ek eb ec same_choice_points es e
     ∙ (ap (λ (x : Core). record x { events = x.events + 1; seen = shown.seen; frames = pushed.frames }) bs
     ∙ ap (λ (x : Seen). record c { calls = c.calls + 1; events = c.events + 1; seen = x; frames = pushed.frames }) (sym seen_pushed))) in
     let u : World = world_called c in
-    let fail_at : ℕ → Core → List visit.Choice → List visit.Choice = λ j x K.
-    visit.Fail j (goal_now x g) (bindings_now x) (items_now x n) ∷ K in
+    let own_at : ℕ → Core → List visit.Choice → List visit.Choice = λ j x K. last_at j x g n ∷ K in
     let below : choice_points_in boxed ≡ choice_points_in c =
     ap (λ (x : Core). choice_points_of x.store (level_in x) (reverse boxed.frames.choices)) bs
     ∙ ap (λ (F : List Frame). choice_points_of c.store (level_in c) (reverse F)) same_choice_points in
-    let choices : choice_points_in pushed ≡ fail_at (c.calls + 1) c (choice_points_in c) =
+    let choices : choice_points_in pushed ≡ own_at (c.calls + 1) c (choice_points_in c) =
     one
-    ∙ (ap (λ (x : Core). fail_at k x (choice_points_in x)) es
-    ∙ (ap (λ (x : Core). fail_at k x (choice_points_in boxed)) bs
-    ∙ (ap (λ (K : List visit.Choice). fail_at k c K) below
-    ∙ ap (λ (j : ℕ). fail_at j c (choice_points_in c)) ek))) in
-    let state : state_of new ≡ entered_over (c.calls + 1) (called c pushed) g n (fail_at (c.calls + 1) c (choice_points_in c)) =
+    ∙ (ap (λ (x : Core). own_at k x (choice_points_in x)) es
+    ∙ (ap (λ (x : Core). own_at k x (choice_points_in boxed)) bs
+    ∙ (ap (λ (K : List visit.Choice). own_at k c K) below
+    ∙ ap (λ (j : ℕ). own_at j c (choice_points_in c)) ek))) in
+    let state : state_of new ≡ entered_over (c.calls + 1) (called c pushed) g n (own_at (c.calls + 1) c (choice_points_in c)) =
     entered
     ∙ (ap (λ (x : Core). entered_over k x g n (choice_points_in pushed)) whole
     ∙ (ap (entered_over k (called c pushed) g n) choices
-    ∙ ap (λ (j : ℕ). entered_over j (called c pushed) g n (fail_at (c.calls + 1) c (choice_points_in c))) ek)) in
+    ∙ ap (λ (j : ℕ). entered_over j (called c pushed) g n (own_at (c.calls + 1) c (choice_points_in c))) ek)) in
     let same_world : world_in new ≡ with_event u = ap world_in en ∙ ap world_in whole in
     let shows : event_seen c.store c.bindings shown.seen
     ≡ event_of port.Call (c.calls + 1) (goal_now c g) (bindings_now c) (items_now c n) u =

@@ -1,6 +1,6 @@
 -- A run is halted, and the first argument of a goal runs in its box.
 use Rattle.std.proofs.Common.{◌≡◌, ℕ, ℤ, ◌≤◌, refl, sym, ap, ◌∙◌, subst}
-use Rattle.op_logic.specs.Term.{Term, Args, var, int, node, no_args, arg}
+use Rattle.op_logic.specs.Term.{Term, Args, var, int, node, no_args, arg, args_of, nth_arg}
 use Rattle.op_logic.specs.Bind.{Bindings, follow}
 use Rattle.op_logic.specs.Names.{named}
 use Rattle.op_term.specs.Head.{head}
@@ -10,8 +10,9 @@ use Rattle.op_trace.specs.Database.{Text}
 use Rattle.op_trace.specs.World.{World}
 use Rattle.op_trace.specs.Act.{Act, Halts, done}
 use Rattle.op_trace.specs.Body.{divided}
-use Rattle.op_trace.specs.Builtins.{run_goal, run_division, instantiation_error}
+use Rattle.op_trace.specs.Builtins.{added, alone, run_goal, run_division, instantiation_error}
 use Rattle.op_machine.specs.declared.builtin_kind.Around.{Around}
+use Rattle.op_machine.specs.declared.builtin_kind.Around.TheVariants.{Alone}
 use Rattle.op_machine.specs.declared.core_state.Core.{Core}
 use Rattle.op_machine.specs.declared.core_state.Mode.TheVariants as mode
 use Rattle.op_machine.specs.declared.core_state.Outcome.TheVariants as outcome
@@ -21,7 +22,7 @@ use Rattle.op_machine.specs.Meaning.{setup_of, world_in, items_now, goal_now, bi
 use Rattle.op_machine.specs.Resume.{Moved, yielded}
 use Rattle.op_machine.specs.inner.BuiltinKinds.{body_around, first_argument, more_arguments, with_more_arguments}
 use Rattle.op_machine.specs.inner.Invariant.{IsGood, HasGoal, HasItems, HasCalled}
-use Rattle.op_machine.specs.inner.Moves.{Advances, Makes, act_moved, steps_left, ball_thrown, argument_run, goal_run}
+use Rattle.op_machine.specs.inner.Moves.{Advances, Makes, act_moved, steps_left, ball_thrown, argument_run, part_run, goal_run}
 use Rattle.op_machine.proofs.ActMoves.{performed-done}
 use Rattle.op_machine.proofs.AdvanceLaws.{silent-advances, advances-from}
 use Rattle.op_machine.proofs.MadeTerms.{makes-act, makes-bindings, makes-steps, makes-world}
@@ -98,3 +99,35 @@ module _ (c : Core) (around : Around) (k g n a : ℕ) (value : goal_now c a ≡ 
       ∙ ap of value)) in
       advances-from c mid new (goal_run mid around q k g n) (argument_run c around k g n) s (ap (λ (x : Core). x.store) m.rest)
       (ap (λ (x : Core). x.names) m.rest) (ap (λ (x : Core). x.budget) m.rest) (ap (λ (x : Core). x.wanted) m.rest) is h
+
+-- a goal that is an argument, with no more arguments
+added-none : (ts : Args Text) → added ts no_args ≡ ts
+added-none no_args = refl
+added-none (arg t ts) = ap (arg t) (added-none ts)
+
+alone-run : (t : Term Text) (left : ℕ) (σ : Bindings Text) (w : World) → ((v : ℕ) → t ≡ var v → ⊥)
+    → run_division (divided σ t) alone t left σ w ≡ run_goal alone t no_args left σ w
+alone-run (var v) left σ w h = absurd (h v refl)
+alone-run (int i) left σ w h = refl
+alone-run (node f ts) left σ w h =
+    ap (λ (us : Args Text). run_division (divided σ (node f us)) alone (node f us) left σ w) (sym (added-none ts))
+
+module _ (c : Core) (i k g n a : ℕ) (value : goal_now c a ≡ follow (bindings_now c) (nth_arg (args_of (goal_now c g)) i)) where
+  abbrev part_of : Term Text → Moved
+  part_of t = act_moved c (run_goal alone t no_args (steps_left c) (bindings_now c) (world_in c)) k g n
+
+  -- the argument is a variable
+  pub unbound-part : (new : Core) (s : Step) (v : ℕ) → head (term_at c.bindings.terms a) ≡ Var v
+      → Advances c new (ball_thrown c instantiation_error k g n) s → Advances c new (part_run c i k g n) s
+  unbound-part new s v e h =
+      let is : follow (bindings_now c) (nth_arg (args_of (goal_now c g)) i) ≡ var v =
+      sym value ∙ ap (named c.store.names) (head-var (term_at c.bindings.terms a) v e) in
+      advances-from c c new (ball_thrown c instantiation_error k g n) (part_run c i k g n) s refl refl refl refl (sym (ap part_of is)) h
+
+  -- it is none
+  pub part-runs : (new : Core) (s : Step) → ((v : ℕ) → head (term_at c.bindings.terms a) ≡ Var v → ⊥)
+      → Advances c new (goal_run c Alone a k g n) s → Advances c new (part_run c i k g n) s
+  part-runs new s bound h =
+      advances-from c c new (goal_run c Alone a k g n) (part_run c i k g n) s refl refl refl refl
+      (ap (λ (x : Act). act_moved c x k g n) (alone-run (goal_now c a) (steps_left c) (bindings_now c) (world_in c)
+      (λ v e. bound v (named-var c (term_at c.bindings.terms a) v e))) ∙ ap part_of value) h

@@ -4,21 +4,21 @@ use Rattle.std.proofs.Common.{false, List, [], ◌∷◌, Option, Some, None}
 use Rattle.std.proofs.Common.{refl, sym, ap, ◌∙◌, subst, arith, if◌then◌else◌}
 use Rattle.std.proofs.lemmas.Bool.Decides.{nat_tests}
 use Rattle.op_logic.specs.Term.{Term, shift}
-use Rattle.op_logic.specs.Bind.{Bindings, Solved as Result}
+use Rattle.op_logic.specs.Bind.{Bindings, Solved as Result, unify}
 use Rattle.op_trace.specs.declared.barrier.Barrier.{Barrier}
 use Rattle.op_trace.specs.declared.barrier.Barrier.TheVariants.{Call, InCondition, AtSuccess}
-use Rattle.op_trace.specs.Database.{Text, Clause}
-use Rattle.op_trace.specs.World.{World, Execution, First, Item, Goal, Cut, Exit, Execute, Has, open_boxes}
+use Rattle.op_trace.specs.Database.{Text, text_eq, Clause}
+use Rattle.op_trace.specs.World.{World, same_barrier, Execution, First, Recovery, Item, Goal, Cut, Exit, Execute, Has, open_boxes}
 use Rattle.op_trace.specs.Act.{Yield, Fails, Succeeds, Succeeds_again, Runs, Throws, Halts, Act, Setup}
-use Rattle.op_trace.specs.declared.port.Port.TheVariants as port
-use Rattle.op_trace.specs.Visit.{with_event, is_open, around, Stopped, Control, TrueGoal, FailGoal, CutGoal}
+use Rattle.op_trace.specs.Visit.{is_open, around, Stopped, Control, TrueGoal, FailGoal, CutGoal}
 use Rattle.op_trace.specs.Visit.{Conjunction, Disjunction, IfThenElse, BoxedGoal, control}
-use Rattle.op_trace.specs.Visit.{Inside, Clauses, WithoutProcedure, inside, counted_as, is_true, entered, Choice, Redo}
-use Rattle.op_trace.specs.Visit.{Branch, More, Again, Fail, Condition}
+use Rattle.op_trace.specs.Visit.{Inside, Clauses, WithoutProcedure, Protected, inside, last_choice, catcher_of, counted_as, is_true}
+use Rattle.op_trace.specs.Visit.{entered, Choice, Redo, Branch, More, Again, Fail, Catch, Condition}
 use Rattle.op_machine.specs.Resume.{stays, goes, keep, with_more, State, Forward, Backward, Throwing, Over}
 use Rattle.op_machine.specs.Resume.{Moved, paid, chosen, head_unified, tried}
-use Rattle.op_machine.specs.Resume.{branched, entered_state, acted, yielded, showing, leaving, move}
-use Rattle.op_machine.specs.inner.Barriers.{left_to, AreAmong, SameFor, Behind, Scoped, IsGiven, IsGoalBarrier, AreGiven, AreScoped, InStep}
+use Rattle.op_machine.specs.Resume.{branched, entered_state, acted, yielded, raised, ball_unified, ball_met, leaving, move}
+use Rattle.op_machine.specs.inner.Barriers.{left_to, AreAmong, SameFor, Behind, Scoped, IsGiven, IsGoalBarrier, AreGiven}
+use Rattle.op_machine.specs.inner.Barriers.{IsScopedChoicePoint, AreScoped, InStep}
 
 -- no choice point is dropped as the last by a cut of a goal
 pub goal-goes : (c d : ℕ) (x : Choice) (m : Barrier) → IsGoalBarrier c d m → goes x m ≡ false
@@ -27,6 +27,7 @@ goal-goes c d (Branch t b σ J) m h = refl
 goal-goes c d (More cs k g σ J) m h = refl
 goal-goes c d (Again t k g σ J) m h = refl
 goal-goes c d (Fail k g σ J) m h = refl
+goal-goes c d (Catch k g σ J) m h = refl
 goal-goes c d (Condition n t b σ J) (Call k) h = refl
 goal-goes c d (Condition n t b σ J) (InCondition k) h = refl
 goal-goes c d (Condition n t b σ J) (AtSuccess k) h = absurd h
@@ -150,6 +151,10 @@ module _ (c d x y : ℕ) (more : c ≤ x) (over : d ≤ y) where
   scoped-more (Again t k g σ J ∷ K) a =
       ((scoped-calls c x K (Execute t k g ∷ J) more a.0.0, given-more (Execute t k g ∷ J) a.0.1), scoped-more K a.1)
   scoped-more (Fail k g σ J ∷ K) a = (tt, scoped-more K a.1)
+  scoped-more (Catch k g σ J ∷ K) a = (
+    (scoped-calls c x (Fail k g σ J ∷ K) (Execute Recovery k g ∷ J) more a.0.0, given-more (Execute Recovery k g ∷ J) a.0.1),
+    scoped-more K a.1,
+  )
   scoped-more (Condition n t m σ J ∷ K) a =
       ((scoped-calls c x K (Goal t m ∷ J) more a.0.0, given-more (Goal t m ∷ J) a.0.1), scoped-more K a.1)
 
@@ -163,32 +168,57 @@ keep-scoped c d m (x ∷ K) a = go (stays x m) (goes x m) (keep-scoped c d m K a
     go false true below = a.1
     go false false below = below
 
--- a new box's own choice point ends no cut to a barrier that was given before
-pub keep-fresh : (c d k : ℕ) (m : Barrier) (g : Term Text) (σ : Bindings Text) (J : List Item) (K : List Choice) → IsGiven c d m → c < k
-    → keep m (Fail k g σ J ∷ K) ≡ keep m K
-keep-fresh c d k (Call m) g σ J K low high =
-    let e : (m == k) ≡ false = grind (arith, nat_tests) in
-    ap (λ (b : Bool). if b then Fail k g σ J ∷ K else keep (Call m) K) e
-keep-fresh c d k (InCondition m) g σ J K low high = refl
-keep-fresh c d k (AtSuccess m) g σ J K low high = refl
+-- a box's own choice point ends the cuts to its call, and no other
+pub stays-last : (i : Inside) (k : ℕ) (g : Term Text) (σ : Bindings Text) (J : List Item) (m : Barrier)
+    → stays (last_choice i k g σ J) m ≡ same_barrier m (Call k)
+stays-last (Clauses cs) k g σ J m = refl
+stays-last WithoutProcedure k g σ J m = refl
+stays-last Protected k g σ J m = refl
+
+pub goes-last : (i : Inside) (k : ℕ) (g : Term Text) (σ : Bindings Text) (J : List Item) (m : Barrier)
+    → goes (last_choice i k g σ J) m ≡ false
+goes-last (Clauses cs) k g σ J m = refl
+goes-last WithoutProcedure k g σ J m = refl
+goes-last Protected k g σ J m = refl
+
+-- a barrier that was given before isn't that of a new box
+pub given-other : (c d k : ℕ) (m : Barrier) → IsGiven c d m → c < k → same_barrier m (Call k) ≡ false
+given-other c d k (Call m) low high = grind (arith, nat_tests)
+given-other c d k (InCondition m) low high = refl
+given-other c d k (AtSuccess m) low high = refl
+
+-- so that a new box's own choice point ends no cut to one that was given before
+pub keep-fresh : (i : Inside) (c d k : ℕ) (m : Barrier) (g : Term Text) (σ : Bindings Text) (J : List Item) (K : List Choice)
+    → IsGiven c d m → c < k → keep m (last_choice i k g σ J ∷ K) ≡ keep m K
+keep-fresh i c d k m g σ J K low high =
+    let x : Choice = last_choice i k g σ J in
+    ap (λ (b : Bool). if b then x ∷ K else (if goes x m then K else keep m K)) (stays-last i k g σ J m ∙ given-other c d k m low high)
+    ∙ ap (λ (b : Bool). if b then K else keep m K) (goes-last i k g σ J m)
+
+pub left-last : (i : Inside) (k : ℕ) (g : Term Text) (σ : Bindings Text) (J : List Item) (o : List ℕ) (K : List Choice)
+    → left_to o (last_choice i k g σ J ∷ K) ≡ (if is_open k o then last_choice i k g σ J ∷ K else left_to o K)
+left-last (Clauses cs) k g σ J o K = refl
+left-last WithoutProcedure k g σ J o K = refl
+left-last Protected k g σ J o K = refl
 
 -- and no ball goes up to it
-pub left-fresh : (c d x k : ℕ) (o : List ℕ) (g : Term Text) (σ : Bindings Text) (I J : List Item) (K : List Choice) → AreGiven c d I → c < k
-    → k ≤ x → AreAmong o (open_boxes I) x → left_to o (Fail k g σ J ∷ K) ≡ left_to o K
-left-fresh c d x k o g σ I J K given fresh last a = go (is_open k o) refl
+pub left-fresh : (i : Inside) (c d x k : ℕ) (o : List ℕ) (g : Term Text) (σ : Bindings Text) (I J : List Item) (K : List Choice)
+    → AreGiven c d I → c < k → k ≤ x → AreAmong o (open_boxes I) x → left_to o (last_choice i k g σ J ∷ K) ≡ left_to o K
+left-fresh i c d x k o g σ I J K given fresh last a = left-last i k g σ J o K ∙ go (is_open k o) refl
   where
-    go : (b : Bool) → is_open k o ≡ b → (if b then Fail k g σ J ∷ K else left_to o K) ≡ left_to o K
+    go : (b : Bool) → is_open k o ≡ b → (if b then last_choice i k g σ J ∷ K else left_to o K) ≡ left_to o K
     go true e = elim (a k e) [
       | inl p ↦ (let q : true ≡ false = sym p ∙ not-open c d k I given fresh in cc)
       | inr p ↦ absurd (omega (arith, p, last))
     ]
     go false e = refl
 
-pub keep-own : (k : ℕ) (g : Term Text) (σ : Bindings Text) (J : List Item) (K : List Choice) → keep (Call k) (Fail k g σ J ∷ K)
-    ≡ Fail k g σ J ∷ K
-keep-own k g σ J K =
+pub keep-own : (i : Inside) (k : ℕ) (g : Term Text) (σ : Bindings Text) (J : List Item) (K : List Choice)
+    → keep (Call k) (last_choice i k g σ J ∷ K) ≡ last_choice i k g σ J ∷ K
+keep-own i k g σ J K =
+    let x : Choice = last_choice i k g σ J in
     let e : (k == k) ≡ true = grind (arith, nat_tests) in
-    ap (λ (b : Bool). if b then Fail k g σ J ∷ K else keep (Call k) K) e
+    ap (λ (b : Bool). if b then x ∷ K else (if goes x (Call k) then K else keep (Call k) K)) (stays-last i k g σ J (Call k) ∙ e)
 
 -- nor does that of a new condition
 pub keep-before : (c d n : ℕ) (m b : Barrier) (t : Term Text) (σ : Bindings Text) (J : List Item) (K : List Choice) → IsGiven c d m → d < n
@@ -251,6 +281,29 @@ pub box-in_step : (i : Inside) (k : ℕ) (g : Term Text) (J : List Item) (L : Li
     → InStep (entered_state i k g J L σ w)
 box-in_step (Clauses cs) k g J L σ w own s h a all = more-scoped w.calls w.conditions cs k g σ J L own s h a all
 box-in_step WithoutProcedure k g J L σ w own s h a all = ((own-behind w.calls (Call k) L (Exit k g ∷ J) own, s), (h, a), all)
+box-in_step Protected k g J L σ w own s h a all = ((own-behind w.calls (Call k) L (Exit k g ∷ J) own, s), (h, a), all)
+
+-- the items behind a new box, over its own choice point
+pub fresh-scoped : (i : Inside) (c d x k : ℕ) (g : Term Text) (σ : Bindings Text) (J : List Item) (K : List Choice)
+    → AreGiven c d J → c < k → k ≤ x → Scoped c K J → Scoped x (last_choice i k g σ J ∷ K) J
+fresh-scoped i c d x k g σ J K a fresh last s =
+    scoped-along x K (last_choice i k g σ J ∷ K) J (
+      (λ n has. keep-fresh i c d k n g σ J K (has-given c d J n a has) fresh),
+      (λ o b. left-fresh i c d x k o g σ J J K a fresh last b),
+    ) (scoped-calls c x K J (omega (arith, fresh, last)) s)
+
+-- that choice point itself
+pub last-scoped : (i : Inside) (c d x k : ℕ) (g : Term Text) (σ : Bindings Text) (J : List Item) (K : List Choice)
+    → AreGiven c d J → c < k → k ≤ x → Scoped c K J → IsScopedChoicePoint x d (last_choice i k g σ J) K
+last-scoped (Clauses cs) c d x k g σ J K a fresh last s = tt
+last-scoped WithoutProcedure c d x k g σ J K a fresh last s = tt
+last-scoped Protected c d x k g σ J K a fresh last s = (
+  (
+    own-behind x (Call k) (Fail k g σ J ∷ K) (Exit k g ∷ J) (keep-own WithoutProcedure k g σ J K),
+    fresh-scoped WithoutProcedure c d x k g σ J K a fresh last s,
+  ),
+  (last, given-more c d x d (omega (arith, fresh, last)) (omega arith) J a),
+)
 
 pub chosen-in_step : (q : Control) (t : Term Text) (m : Barrier) (J : List Item) (K : List Choice) (σ : Bindings Text) (w : World)
     → Behind w.calls m K J → Scoped w.calls K J → IsGoalBarrier w.calls w.conditions m → AreGiven w.calls w.conditions J
@@ -275,19 +328,17 @@ chosen-in_step (IfThenElse c x y) t m J K σ w b s h a all =
     )
 chosen-in_step BoxedGoal t m J K σ w b s h a all =
     let k : ℕ = w.calls + 1 in
-    let L : List Choice = Fail k t σ J ∷ K in
+    let i : Inside = inside w.database t in
     let more : w.calls ≤ w.calls + 1 = omega arith in
     let same : w.conditions ≤ w.conditions = omega arith in
     let fresh : w.calls < k = omega arith in
+    let last : k ≤ w.calls + 1 = omega arith in
     let given : AreGiven (w.calls + 1) w.conditions J = given-more w.calls w.conditions (w.calls + 1) w.conditions more same J a in
-    box-in_step (inside w.database t) k t J L σ (record w { calls = w.calls + 1; events = w.events + 1 }) (keep-own k t σ J K)
-    (scoped-along (w.calls + 1) K L J
-    ((
-      (λ n has. keep-fresh w.calls w.conditions k n t σ J K (has-given w.calls w.conditions J n a has) fresh),
-      (λ o b. left-fresh w.calls w.conditions (w.calls + 1) k o t σ J J K a fresh (omega arith) b),
-    )) (scoped-calls w.calls (w.calls + 1) K J more s))
-    (omega arith) given
-    (tt, scoped-more w.calls w.conditions (w.calls + 1) w.conditions more same K all)
+    box-in_step i k t J (last_choice i k t σ J ∷ K) σ (record w { calls = w.calls + 1; events = w.events + 1 }) (keep-own i k t σ J K)
+    (fresh-scoped i w.calls w.conditions (w.calls + 1) k t σ J K a fresh last s) last given (
+      last-scoped i w.calls w.conditions (w.calls + 1) k t σ J K a fresh last s,
+      scoped-more w.calls w.conditions (w.calls + 1) w.conditions more same K all,
+    )
 
 pub entered-in_step : (f : ℕ) (c : Clause) (k : ℕ) (g : Term Text) (J : List Item) (L : List Choice) (τ : Bindings Text) (u : World)
     → Behind u.calls (Call k) L (Exit k g ∷ J) → Scoped u.calls L J → k ≤ u.calls → AreGiven u.calls u.conditions J
@@ -353,19 +404,35 @@ acted-in_step true s a k g J K σ w sc gi all = go a.yield
     go (Halts i) = tt
 acted-in_step false s a k g J K σ w sc gi all = tt
 
-pub leaving-in_step : (b : Term Text) (o : List ℕ) (K : List Choice) (w : World) → AreScoped w.calls w.conditions K
-    → InStep (leaving b o K w).state
-leaving-in_step b o [] w a = tt
-leaving-in_step b o (Redo k g σ J ∷ K) w a = leaving-in_step b o K w a.1
-leaving-in_step b o (Branch t m σ J ∷ K) w a = leaving-in_step b o K w a.1
-leaving-in_step b o (More cs k g σ J ∷ K) w a = leaving-in_step b o K w a.1
-leaving-in_step b o (Again t k g σ J ∷ K) w a = leaving-in_step b o K w a.1
-leaving-in_step b o (Condition n t m σ J ∷ K) w a = leaving-in_step b o K w a.1
-leaving-in_step b o (Fail k g σ J ∷ K) w a = go (is_open k o) (leaving-in_step b o K w a.1)
+-- a recovery goes on over its box's own choice point
+pub unified-in_step : (s : Setup) (k : ℕ) (g : Term Text) (σ : Bindings Text) (J : List Item) (K : List Choice) (b : Term Text)
+    (o : List ℕ) (w : World) (r : Option (Result Text))
+    → AreScoped w.calls w.conditions (Catch k g σ J ∷ K) → InStep (ball_unified s k g σ J K b o w r).state
+unified-in_step s k g σ J K b o w None a = tt
+unified-in_step s k g σ J K b o w (Some (None, left)) a = a.1
+unified-in_step s k g σ J K b o w (Some (Some τ, left)) a =
+    paid-in_step (nat_le (s.budget - left + 1) s.budget) s 1 (record w { steps = s.budget - left }) _ (a.0.0, a.0.1, (tt, a.1))
+
+pub leaving-in_step : (s : Setup) (b : Term Text) (o : List ℕ) (K : List Choice) (w : World) → AreScoped w.calls w.conditions K
+    → InStep (leaving s b o K w).state
+leaving-in_step s b o [] w a = tt
+leaving-in_step s b o (Redo k g σ J ∷ K) w a = leaving-in_step s b o K w a.1
+leaving-in_step s b o (Branch t m σ J ∷ K) w a = leaving-in_step s b o K w a.1
+leaving-in_step s b o (More cs k g σ J ∷ K) w a = leaving-in_step s b o K w a.1
+leaving-in_step s b o (Again t k g σ J ∷ K) w a = leaving-in_step s b o K w a.1
+leaving-in_step s b o (Condition n t m σ J ∷ K) w a = leaving-in_step s b o K w a.1
+leaving-in_step s b o (Fail k g σ J ∷ K) w a = go (is_open k o) (leaving-in_step s b o K w a.1)
   where
-    go : (t : Bool) → InStep (leaving b o K w).state → InStep (if t then showing port.Exception k g σ J w (Throwing b
-        (around k o) K (with_event w)) else leaving b o K w).state
+    go : (t : Bool) → InStep (leaving s b o K w).state
+        → InStep (if t then raised k g σ J K b (around k o) w else leaving s b o K w).state
     go true l = a.1
+    go false l = l
+leaving-in_step s b o (Catch k g σ J ∷ K) w a = go (is_open k o) (leaving-in_step s b o K w a.1)
+  where
+    go : (t : Bool) → InStep (leaving s b o K w).state
+        → InStep (if t then ball_met s k g σ J K b (around k o) w else leaving s b o K w).state
+    go true l =
+        unified-in_step s k g σ J K b (around k o) w (unify text_eq (s.budget - w.steps) σ ((b, catcher_of g) ∷ [])) a
     go false l = l
 
 pub move-in_step : (s : Setup) (t : State) → InStep t → InStep (move s t).state
@@ -395,7 +462,8 @@ move-in_step s (Backward (Branch t m σ J ∷ K) w) h = branched-in_step s t m �
 move-in_step s (Backward (Condition n t m σ J ∷ K) w) h = branched-in_step s t m σ J K w h.0.0 h.0.1 h.1
 move-in_step s (Backward (Again t k g σ J ∷ K) w) h = paid-in_step (nat_le (w.steps + 1) s.budget) s 1 w _ (h.0.0, h.0.1, h.1)
 move-in_step s (Backward (Fail k g σ J ∷ K) w) h = h.1
+move-in_step s (Backward (Catch k g σ J ∷ K) w) h = h.1
 move-in_step s (Backward (More [] k g σ J ∷ K) w) h = h.1
 move-in_step s (Backward (More (c ∷ cs) k g σ J ∷ K) w) h = tried-in_step s c cs k g σ J K w h.0.0 h.0.1 h.0.2 h.0.3 h.1
-move-in_step s (Throwing b o K w) h = leaving-in_step b o K w h
+move-in_step s (Throwing b o K w) h = leaving-in_step s b o K w h
 move-in_step s (Over r w) h = tt

@@ -7,17 +7,16 @@ use Rattle.op_logic.specs.Bind.{Bindings, solve, unify, Solved as Result}
 use Rattle.op_trace.specs.declared.barrier.Barrier.{Barrier}
 use Rattle.op_trace.specs.declared.barrier.Barrier.TheVariants.{Call}
 use Rattle.op_trace.specs.Database.{Text, text_eq, Clause}
-use Rattle.op_trace.specs.World.{World, Execution, Item, Goal, Cut, Exit, Execute, open_boxes}
+use Rattle.op_trace.specs.World.{World, Execution, Recovery, Item, Goal, Cut, Exit, Execute, open_boxes}
 use Rattle.op_trace.specs.Act.{Yield, Fails, Succeeds, Succeeds_again, Runs, Throws, Halts, Act, Setup}
-use Rattle.op_trace.specs.declared.port.Port.TheVariants as port
-use Rattle.op_trace.specs.Visit.{with_event, is_open, around, Stopped, Control, TrueGoal, FailGoal, CutGoal}
+use Rattle.op_trace.specs.Visit.{is_open, around, Stopped, Control, TrueGoal, FailGoal, CutGoal}
 use Rattle.op_trace.specs.Visit.{Conjunction, Disjunction, IfThenElse, BoxedGoal, control}
-use Rattle.op_trace.specs.Visit.{Inside, Clauses, WithoutProcedure, inside, counted_as, is_true, entered, Choice, Redo}
-use Rattle.op_trace.specs.Visit.{Branch, More, Again, Fail, Condition}
+use Rattle.op_trace.specs.Visit.{Inside, Clauses, WithoutProcedure, Protected, inside, last_choice, catcher_of, counted_as, is_true}
+use Rattle.op_trace.specs.Visit.{entered, Choice, Redo, Branch, More, Again, Fail, Catch, Condition}
 use Rattle.op_trace.proofs.WalkSteps.{IsLess, within-less}
 use Rattle.op_machine.specs.Resume.{stays, goes, keep, with_more, State, Forward, Backward, Throwing, Over}
 use Rattle.op_machine.specs.Resume.{Moved, paid, chosen, head_unified, tried}
-use Rattle.op_machine.specs.Resume.{branched, entered_state, acted, yielded, executed_again, showing, leaving, move}
+use Rattle.op_machine.specs.Resume.{branched, entered_state, acted, yielded, executed_again, raised, ball_unified, ball_met, leaving, move}
 use Rattle.op_machine.specs.inner.Bounds.{pending, IsNested, AreNested, event_bound, Counts, Counted}
 
 -- the bound rises with the steps
@@ -51,6 +50,7 @@ all-nested-more n m (Again t k g σ J ∷ K) h a = (nested-more n m (Exit k g �
 all-nested-more n m (Branch t b σ J ∷ K) h a = (nested-more n m J h a.0, all-nested-more n m K h a.1)
 all-nested-more n m (Condition c t b σ J ∷ K) h a = (nested-more n m J h a.0, all-nested-more n m K h a.1)
 all-nested-more n m (Fail k g σ J ∷ K) h a = (nested-more n m (Exit k g ∷ J) h a.0, all-nested-more n m K h a.1)
+all-nested-more n m (Catch k g σ J ∷ K) h a = (nested-more n m (Exit k g ∷ J) h a.0, all-nested-more n m K h a.1)
 
 -- no more boxes are open than numbers were given out
 pub nested-length : (n : ℕ) (I : List Item) → IsNested n I → length (open_boxes I) ≤ n
@@ -66,6 +66,7 @@ pending-below (Branch t m σ J) K = omega arith
 pending-below (More cs k g σ J) K = omega arith
 pending-below (Again t k g σ J) K = omega arith
 pending-below (Fail k g σ J) K = omega arith
+pending-below (Catch k g σ J) K = omega arith
 pending-below (Condition n t m σ J) K = omega arith
 
 pub nested-below : (n : ℕ) (c : Choice) (K : List Choice) → AreNested n (c ∷ K) → AreNested n K
@@ -74,6 +75,7 @@ nested-below n (Branch t m σ J) K a = a.1
 nested-below n (More cs k g σ J) K a = a.1
 nested-below n (Again t k g σ J) K a = a.1
 nested-below n (Fail k g σ J) K a = a.1
+nested-below n (Catch k g σ J) K a = a.1
 nested-below n (Condition c t m σ J) K a = a.1
 
 -- what a cut keeps shows no more events than what it found
@@ -126,6 +128,20 @@ pub box-counted : (i : Inside) (s : Setup) (k : ℕ) (g : Term Text) (J : List I
 box-counted (Clauses cs) s k g J K σ w counts sol ev nest all =
     (counts, omega (arith, ev, more-pending cs k g σ J K), omega (arith, sol), more-nested w.calls cs k g σ J K nest all)
 box-counted WithoutProcedure s k g J K σ w counts sol ev nest all = (counts, ev, sol, nest, all)
+box-counted Protected s k g J K σ w counts sol ev nest all = (counts, ev, sol, nest, all)
+
+-- a box's own choice point shows one event
+pub last-pending : (i : Inside) (k : ℕ) (g : Term Text) (σ : Bindings Text) (J : List Item) (K : List Choice)
+    → pending (last_choice i k g σ J ∷ K) ≡ suc (pending K)
+last-pending (Clauses cs) k g σ J K = refl
+last-pending WithoutProcedure k g σ J K = refl
+last-pending Protected k g σ J K = refl
+
+pub last-nested : (i : Inside) (n k : ℕ) (g : Term Text) (σ : Bindings Text) (J : List Item) (K : List Choice)
+    → IsNested n (Exit k g ∷ J) → AreNested n K → AreNested n (last_choice i k g σ J ∷ K)
+last-nested (Clauses cs) n k g σ J K nest all = (nest, all)
+last-nested WithoutProcedure n k g σ J K nest all = (nest, all)
+last-nested Protected n k g σ J K nest all = (nest, all)
 
 -- a goal of which a step was paid, from n steps
 pub chosen-counted : (q : Control) (s : Setup) (n : ℕ) (t : Term Text) (m : Barrier) (J : List Item) (K : List Choice) (σ : Bindings Text)
@@ -176,10 +192,12 @@ chosen-counted q s n t m J K σ w e below c con sol ev nest all = go q
         let deep : length (open_boxes J) ≤ w.calls = nested-length w.calls J nest in
         let this : IsNested (w.calls + 1) (Exit (w.calls + 1) t ∷ J) =
         (omega arith, omega arith, nested-more w.calls (w.calls + 1) J more nest) in
-        box-counted (inside w.database t) s (w.calls + 1) t J (Fail (w.calls + 1) t σ J ∷ K) σ
+        let i : Inside = inside w.database t in
+        box-counted i s (w.calls + 1) t J (last_choice i (w.calls + 1) t σ J ∷ K) σ
         (record w { calls = w.calls + 1; events = w.events + 1 })
-        (record { steps = below; calls = omega arith; conditions = omega arith }) (omega arith) (omega (arith, up))
-        this (this, all-nested-more w.calls (w.calls + 1) K more all)
+        (record { steps = below; calls = omega arith; conditions = omega arith }) (omega arith)
+        (omega (arith, up, last-pending i (w.calls + 1) t σ J K)) this
+        (last-nested i (w.calls + 1) (w.calls + 1) t σ J K this (all-nested-more w.calls (w.calls + 1) K more all))
 
 pub entered-nested : (f : ℕ) (c : Clause) (k : ℕ) (g : Term Text) (J : List Item) (n : ℕ) → IsNested n (Exit k g ∷ J)
     → IsNested n (entered f c k g J)
@@ -338,9 +356,36 @@ again-counted s t k g σ J K w counts sol ev nest all =
       all,
     ))
 
+-- a ball that comes to a box which catches
+pub unified-counted : (s : Setup) (k : ℕ) (g : Term Text) (σ : Bindings Text) (J : List Item) (K : List Choice) (b : Term Text)
+    (o : List ℕ) (w : World) (r : Option (Result Text))
+    → Counts s w → w.events + suc (pending K) ≤ event_bound w.steps → w.solutions ≤ suc w.steps → IsNested w.calls (Exit k g ∷ J)
+    → AreNested w.calls K → IsLess (s.budget - w.steps) r
+    → Counted s (ball_unified s k g σ J K b o w r).state
+unified-counted s k g σ J K b o w None c e q nest all less =
+    let more : event_bound w.steps ≤ event_bound s.budget = bound-same w.steps s.budget c.steps in (
+      record { steps = omega arith; calls = omega (arith, c.steps, c.calls); conditions = omega (arith, c.steps, c.conditions) },
+      omega (arith, e, more),
+      omega (arith, q, c.steps),
+    )
+unified-counted s k g σ J K b o w (Some (None, left)) c e q nest all less =
+    let up : w.steps ≤ s.budget - left = omega (arith, c.steps, less) in
+    let more : event_bound w.steps ≤ event_bound (s.budget - left) = bound-same w.steps (s.budget - left) up in (
+      record { steps = omega arith; calls = omega (arith, up, c.calls); conditions = omega (arith, up, c.conditions) },
+      omega (arith, e, more),
+      omega (arith, q, up),
+      all,
+    )
+unified-counted s k g σ J K b o w (Some (Some τ, left)) c e q nest all less =
+    let up : w.steps ≤ s.budget - left = omega (arith, c.steps, less) in
+    let more : event_bound w.steps ≤ event_bound (s.budget - left) = bound-same w.steps (s.budget - left) up in
+    again-counted s Recovery k g τ J (Fail k g σ J ∷ K) (record w { steps = s.budget - left })
+    (record { steps = omega arith; calls = omega (arith, up, c.calls); conditions = omega (arith, up, c.conditions) })
+    (omega (arith, q, up)) (omega (arith, e, more)) nest (nest, all)
+
 pub leaving-counted : (s : Setup) (b : Term Text) (o : List ℕ) (K : List Choice) (w : World)
     → Counts s w → w.events + pending K ≤ event_bound w.steps → w.solutions ≤ suc w.steps → AreNested w.calls K
-    → Counted s (leaving b o K w).state
+    → Counted s (leaving s b o K w).state
 leaving-counted s b o [] w c e q a = (c, omega (arith, e), q)
 leaving-counted s b o (Redo k g σ J ∷ K) w c e q a = leaving-counted s b o K w c (omega (arith, e)) q a.1
 leaving-counted s b o (Branch t m σ J ∷ K) w c e q a = leaving-counted s b o K w c e q a.1
@@ -349,9 +394,18 @@ leaving-counted s b o (Again t k g σ J ∷ K) w c e q a = leaving-counted s b o
 leaving-counted s b o (Condition n t m σ J ∷ K) w c e q a = leaving-counted s b o K w c e q a.1
 leaving-counted s b o (Fail k g σ J ∷ K) w c e q a = go (is_open k o) (leaving-counted s b o K w c (omega (arith, e)) q a.1)
   where
-    go : (t : Bool) → Counted s (leaving b o K w).state
-        → Counted s (if t then showing port.Exception k g σ J w (Throwing b (around k o) K (with_event w)) else leaving b o K w).state
+    go : (t : Bool) → Counted s (leaving s b o K w).state
+        → Counted s (if t then raised k g σ J K b (around k o) w else leaving s b o K w).state
     go true l = (record { steps = c.steps; calls = c.calls; conditions = c.conditions }, omega (arith, e), q, a.1)
+    go false l = l
+leaving-counted s b o (Catch k g σ J ∷ K) w c e q a = go (is_open k o) (leaving-counted s b o K w c (omega (arith, e)) q a.1)
+  where
+    go : (t : Bool) → Counted s (leaving s b o K w).state
+        → Counted s (if t then ball_met s k g σ J K b (around k o) w else leaving s b o K w).state
+    go true l =
+        unified-counted s k g σ J K b (around k o) w (unify text_eq (s.budget - w.steps) σ ((b, catcher_of g) ∷ [])) c e q a.0 a.1
+        (within-less {A = Option (Bindings Text)} (s.budget - w.steps)
+        (solve text_eq (s.budget - w.steps) σ ((b, catcher_of g) ∷ [])))
     go false l = l
 
 pub move-counted : (s : Setup) (t : State) → Counted s t → Counted s (move s t).state
@@ -378,6 +432,8 @@ move-counted s (Backward (Branch t m σ J ∷ K) w) h = branched-counted s t m �
 move-counted s (Backward (Condition n t m σ J ∷ K) w) h = branched-counted s t m σ J K w h.0 h.2 h.1 h.3.0 h.3.1
 move-counted s (Backward (Again t k g σ J ∷ K) w) h = again-counted s t k g σ J K w h.0 h.2 h.1 h.3.0 h.3.1
 move-counted s (Backward (Fail k g σ J ∷ K) w) h =
+    (record { steps = h.0.steps; calls = h.0.calls; conditions = h.0.conditions }, omega arith, h.2, h.3.1)
+move-counted s (Backward (Catch k g σ J ∷ K) w) h =
     (record { steps = h.0.steps; calls = h.0.calls; conditions = h.0.conditions }, omega arith, h.2, h.3.1)
 move-counted s (Backward (More [] k g σ J ∷ K) w) h =
     (record { steps = h.0.steps; calls = h.0.calls; conditions = h.0.conditions }, h.1, h.2, h.3.1)

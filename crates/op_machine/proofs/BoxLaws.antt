@@ -32,6 +32,7 @@ tried-along B C L M (kind.Redo k) c g n l o a = tt
 tried-along B C L M (kind.Branch m) c g n l o a = tt
 tried-along B C L M (kind.More k rs i) c g n l o a = called-along B C L M c c k g n (omega arith) l (o k a.given) a
 tried-along B C L M (kind.Fail k) c g n l o a = a
+tried-along B C L M (kind.Catch k) c g n l o a = called-along B C L M c c k g n (omega arith) l (o k a.given) a
 tried-along B C L M (kind.Condition d m) c g n l o a = tt
 
 -- so do choice points, where the continuations and the chains that were there stay
@@ -78,6 +79,7 @@ entered-given B c L (item.Goal g m) n a h e = a.given n h
 entered-given B c L (item.Cut m) n a h e = a.given n h
 entered-given B c L (item.Exit k g) n a h e = e.given
 entered-given B c L (item.Execute k g) n a h e = e.given
+entered-given B c L (item.Recover k g) n a h e = e.given
 
 entered-chain : (B : List BoxFrame) (c : ℕ) (L : List (List Item)) (i : Item) (n : ℕ) → AreBoxes B c L → n < length L → IsEntered B c L i n
     → open_from B (innermost (i ∷ continuation_in L n)) ≡ exits (i ∷ continuation_in L n)
@@ -85,6 +87,7 @@ entered-chain B c L (item.Goal g m) n a h e = a.chains n h
 entered-chain B c L (item.Cut m) n a h e = a.chains n h
 entered-chain B c L (item.Exit k g) n a h e = e.chain
 entered-chain B c L (item.Execute k g) n a h e = e.chain
+entered-chain B c L (item.Recover k g) n a h e = e.chain
 
 pub longer-boxes : (B : List BoxFrame) (c : ℕ) (L : List (List Item)) (i : Item) (n : ℕ) → AreBoxes B c L → n < length L
     → IsEntered B c L i n
@@ -105,6 +108,10 @@ first-entered B c L n (item.Exit k g) m a h e = record {
   chain = subst (λ (I : List Item). open_from B (innermost I) ≡ exits I) e (a.chains n h);
 }
 first-entered B c L n (item.Execute k g) m a h e = record {
+  given = subst (λ (I : List Item). innermost I ≤ c) e (a.given n h);
+  chain = subst (λ (I : List Item). open_from B (innermost I) ≡ exits I) e (a.chains n h);
+}
+first-entered B c L n (item.Recover k g) m a h e = record {
   given = subst (λ (I : List Item). innermost I ≤ c) e (a.given n h);
   chain = subst (λ (I : List Item). open_from B (innermost I) ≡ exits I) e (a.chains n h);
 }

@@ -75,6 +75,7 @@ opened-cons (item.Goal f m) I = omega arith
 opened-cons (item.Cut m) I = omega arith
 opened-cons (item.Exit k g) I = omega arith
 opened-cons (item.Execute k g) I = omega arith
+opened-cons (item.Recover k g) I = omega arith
 
 pub joined-shallow : (L : List (List Item)) (c : Cell) → c.rest < length L → AreShallow L → AreShallow (joined L c)
 joined-shallow L c r s =

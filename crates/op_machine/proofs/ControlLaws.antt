@@ -32,16 +32,16 @@ names-differ names m n t ne =
     (λ e. e)
 
 -- the first names are there
-pub first-name : (names : List Text) (k : ℕ) → take (length first_names) names ≡ first_names → k < 21
+pub first-name : (names : List Text) (k : ℕ) → take (length first_names) names ≡ first_names → k < 22
     → name_at names k ≡ name_at first_names k
 first-name names k b h = name-more first_names names b k h
 
 -- a name's text is that of number k exactly where it is number k
 module _ (t : Stored) (table : IsTable t.names) (begins : take (length first_names) t.names ≡ first_names) where
-  pub same-text : (n k : ℕ) (x : Text) → k < 21 → name_at first_names k ≡ x → n ≡ k → text_eq (name_at t.names n) x ≡ true
+  pub same-text : (n k : ℕ) (x : Text) → k < 22 → name_at first_names k ≡ x → n ≡ k → text_eq (name_at t.names n) x ≡ true
   same-text n k x h e q = text_eq-same _ _ (ap (name_at t.names) q ∙ (first-name t.names k begins h ∙ e))
 
-  pub other-text : (n k : ℕ) (x : Text) → k < 21 → name_at first_names k ≡ x → n ≢ k → text_eq (name_at t.names n) x ≡ false
+  pub other-text : (n k : ℕ) (x : Text) → k < 22 → name_at first_names k ≡ x → n ≢ k → text_eq (name_at t.names n) x ≡ false
   other-text n k x h e ne = subst (λ (y : Text). text_eq (name_at t.names n) y ≡ false) (first-name t.names k begins h ∙ e)
       (names-differ t.names n k table ne)
 

@@ -26,6 +26,7 @@ stays-same t v (kind.Redo k) g n m = refl
 stays-same t v (kind.Branch b) g n m = refl
 stays-same t v (kind.More k rs i) g n m = refl
 stays-same t v (kind.Fail k) g n m = refl
+stays-same t v (kind.Catch k) g n m = refl
 stays-same t v (kind.Condition c b) g n m = refl
 
 pub goes-same : (t : Stored) (v : Level) (q : ChoiceKind) (g n : ℕ) (m : Barrier) → goes (choice_point_by t v q g n) m ≡ kind_goes q m
@@ -33,6 +34,7 @@ goes-same t v (kind.Redo k) g n m = refl
 goes-same t v (kind.Branch b) g n m = refl
 goes-same t v (kind.More k rs i) g n m = refl
 goes-same t v (kind.Fail k) g n m = refl
+goes-same t v (kind.Catch k) g n m = refl
 goes-same t v (kind.Condition c b) g n m = refl
 
 -- an earlier moment is the beginning of a later one

@@ -21,6 +21,7 @@ open_boxes-items t v (item.Goal f m ∷ I) = open_boxes-items t v I
 open_boxes-items t v (item.Cut m ∷ I) = open_boxes-items t v I
 open_boxes-items t v (item.Exit k g ∷ I) = ap (λ ks. k ∷ ks) (open_boxes-items t v I)
 open_boxes-items t v (item.Execute k g ∷ I) = ap (λ ks. k ∷ ks) (open_boxes-items t v I)
+open_boxes-items t v (item.Recover k g ∷ I) = ap (λ ks. k ∷ ks) (open_boxes-items t v I)
 
 abbrev an_event : World → Port → ℕ → Term Text → ℕ → ℕ → Event
 an_event w p k g parent depth = record { chrono = w.events + 1; call = k; parent = parent; depth = depth; port = p; goal = g }

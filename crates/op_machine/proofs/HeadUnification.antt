@@ -26,7 +26,8 @@ use Rattle.op_machine.specs.declared.core_state.Step.TheVariants as step
 use Rattle.op_bind.specs.declared.places.Clause.{Clause as NumberedClause}
 use Rattle.op_machine.specs.Program.{clause_in, goal_named, IsKnown}
 use Rattle.op_machine.specs.Meaning.{setup_of, world_in, level_in, level_of, items_now, goal_now, bindings_now, choice_points_in}
-use Rattle.op_machine.specs.inner.Invariant.{IsGood, HasGoal, HasItems}
+use Rattle.op_machine.specs.inner.Invariant.{IsGood, IsBall, HasGoal, HasItems}
+use Rattle.op_machine.proofs.CopiedVariables.{within-more}
 use Rattle.op_machine.specs.inner.Moves.{Advances, clause_unified, head_unifier, body_entered, body_before}
 use Rattle.op_machine.specs.Resume.{Forward, Backward, Over, Moved, silent, head_unified}
 use Rattle.op_machine.proofs.LevelLaws.{Rises, rises-bindings, choice_points-rise, frames-rise, term-rises, items_in-rise, values-rise}
@@ -64,6 +65,11 @@ bound_on c s steps = record c { bindings = s; steps = steps }
 pub bound-rises : (c : Core) (s : bind.State) → Grows c.bindings s → Rises (level_in c) (level_of s c.continuations)
 bound-rises c s g = rises-bindings c.bindings s c.continuations g
 
+-- more variables were given out
+pub ball-more : (n v w : ℕ) (b : Option (Term ℕ)) → v ≤ w → IsBall n v b → IsBall n w b
+ball-more n v w None h a = tt
+ball-more n v w (Some b) h a = (a.0, within-more v w h b a.1)
+
 pub bound-good : (c : Core) (s : bind.State) (steps : ℕ) → IsGood c → Grows c.bindings s → HaveNames (length c.store.names) (bindings s)
     → IsGood (bound_on c s steps)
 bound-good c s steps good g names = record {
@@ -75,7 +81,7 @@ bound-good c s steps good g names = record {
       good.level.floor_there good.values;
   failure = failure-rises c.floor.terms (level_in c) (level_of s c.continuations) c.failure (bound-rises c s g)
       good.level.floor_there good.failure;
-  ball = good.ball;
+  ball = ball-more (length c.store.names) c.bindings.count s.count c.ball g.count good.ball;
   boxes = good.boxes;
   boxed = good.boxed;
 }

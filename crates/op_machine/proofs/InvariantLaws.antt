@@ -103,7 +103,7 @@ restored-good c d f good popped e back same stays =
       values = subst (λ ts. AreValues ts d.values.items d.names) (sym (take-take d.floor.terms f.mark.terms d.bindings.terms floor))
           values;
       failure = subst (λ ts. IsFailure ts d.failure) (sym (take-take d.floor.terms f.mark.terms d.bindings.terms floor)) failed;
-      ball = subst (λ (x : Core). IsBall (length x.store.names) x.ball) (sym e) good.ball;
+      ball = subst (λ (x : Core). IsBall (length x.store.names) x.bindings.count x.ball) (sym e) good.ball;
       boxes = restored-boxes d.frames.boxes d.calls d.continuations (reverse d.frames.choices) f stays (popped-boxes c d good e same)
           (popped-boxed c d f good popped e same);
       boxed = restored-boxed d.frames.boxes d.calls d.continuations (reverse d.frames.choices) f stays

@@ -46,6 +46,15 @@ left-failed t v f F o k true e passed =
     ap (λ (q : ChoiceKind). choice_point_by t (level_at f v) q f.kept.goal f.rest ∷ choice_points_of t (level_at f v) F) e
 left-failed t v f F o k false e passed = passed
 
+left-catching : (t : Stored) (v : Level) (f : Frame) (F : List Frame) (o : List ℕ) (k : ℕ) (p : Bool) → f.kept.kind ≡ kind.Catch k
+    → choice_points_of t v (left_frames o F) ≡ left_to o (choice_points_of t (level_at f v) F)
+    → choice_points_of t v (if p then f ∷ F else left_frames o F)
+    ≡ (if p then choice_point_by t (level_at f v) (kind.Catch k) f.kept.goal f.rest ∷ choice_points_of t (level_at f v) F
+    else left_to o (choice_points_of t (level_at f v) F))
+left-catching t v f F o k true e passed =
+    ap (λ (q : ChoiceKind). choice_point_by t (level_at f v) q f.kept.goal f.rest ∷ choice_points_of t (level_at f v) F) e
+left-catching t v f F o k false e passed = passed
+
 left-first : (t : Stored) (v : Level) (f : Frame) (F : List Frame) (o : List ℕ) (q : ChoiceKind) → f.kept.kind ≡ q
     → choice_points_of t v (left_frames o F) ≡ left_to o (choice_points_of t (level_at f v) F)
     → choice_points_of t v (if kind_leaves o q then f ∷ F else left_frames o F)
@@ -54,6 +63,7 @@ left-first t v f F o (kind.Redo k) e passed = passed
 left-first t v f F o (kind.Branch m) e passed = passed
 left-first t v f F o (kind.More k rs i) e passed = passed
 left-first t v f F o (kind.Fail k) e passed = left-failed t v f F o k (is_open k o) e passed
+left-first t v f F o (kind.Catch k) e passed = left-catching t v f F o k (is_open k o) e passed
 left-first t v f F o (kind.Condition c m) e passed = passed
 
 pub left-choice_points : (t : Stored) (floor : ℕ) (v : Level) (F : List Frame) (o : List ℕ) → AreFrames t floor v F

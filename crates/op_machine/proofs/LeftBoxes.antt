@@ -1,12 +1,15 @@
 -- A ball leaves the next open box: the machine goes back to the box's choice point, and the box shows the ball there. Where no open box
 -- has a choice point, the ball has left all boxes.
-use Rattle.std.proofs.Common.{◌≡◌, ℕ, ◌+◌, ◌<◌, ◌≤◌, List, [], ◌∷◌, length, map, take, reverse, refl, sym, ap, ◌∙◌, subst, arith}
+use Rattle.std.proofs.Common.{◌≡◌, ℕ, ◌+◌, ◌<◌, ◌≤◌, true, List, [], ◌∷◌, length, map, take, reverse, refl, sym, ap, ◌∙◌, subst, arith}
 use Rattle.op_logic.specs.Term.{Term}
-use Rattle.op_trace.specs.declared.port.Port.TheVariants as port
 use Rattle.op_trace.specs.Database.{Text}
 use Rattle.op_trace.specs.World.{World}
 use Rattle.op_trace.specs.Visit as visit
-use Rattle.op_trace.specs.Visit.{around, with_event}
+use Rattle.op_trace.specs.Visit.{is_open, around}
+use Rattle.op_trace.specs.Act.{Setup}
+use Rattle.op_store.specs.Stored.{Stored}
+use Rattle.op_machine.specs.declared.continuations.Item.{Item}
+use Rattle.op_machine.specs.declared.choice_points.ChoiceKind.TheVariants as kind
 use Rattle.op_frames.specs.declared.boxes.BoxFrame.{BoxFrame}
 use Rattle.op_frames.specs.Frames.{Framed, open_from}
 use Rattle.op_machine.specs.declared.choice_points.ChoiceKind.{ChoiceKind}
@@ -18,17 +21,17 @@ use Rattle.op_machine.specs.declared.core_state.Step.{Step}
 use Rattle.op_machine.specs.declared.core_state.Step.TheVariants as step
 use Rattle.op_machine.specs.declared.throwing.Leaving.{Leaving}
 use Rattle.op_machine.specs.Meaning.{Frame, Level, level_at, level_in, choice_point_by, choice_points_of, choice_points_in, open_in}
-use Rattle.op_machine.specs.Meaning.{world_in, state_of, term_in, bindings_in, items_in, ball_text}
-use Rattle.op_machine.specs.Resume.{Over, Throwing, silent, showing, leaving}
+use Rattle.op_machine.specs.Meaning.{setup_of, world_in, state_of, term_in, bindings_in, items_in, ball_text}
+use Rattle.op_machine.specs.Resume.{Over, Moved, silent, raised, ball_met, leaving}
 use Rattle.op_machine.specs.inner.Barriers.{left_to}
-use Rattle.op_machine.specs.inner.Boxes.{AreBoxed, IsTried}
+use Rattle.op_machine.specs.inner.Boxes.{boxes_before, AreBoxed, IsTried}
 use Rattle.op_machine.specs.inner.Invariant.{IsGood, IsMode, IsEarlier, IsFrame}
-use Rattle.op_machine.specs.inner.Leaving.{left_frames, IsLeft, BeginsLeft, box_left}
+use Rattle.op_machine.specs.inner.Leaving.{left_frames, IsOwn, IsLeft, BeginsLeft, box_reached}
 use Rattle.op_machine.specs.inner.Moves.{Advances, ball_moved}
 use Rattle.op_machine.proofs.AdvanceLaws.{silent-advances, advances-from}
-use Rattle.op_machine.proofs.InvariantLaws.{restored, Stays, restored-good, popped-frame}
+use Rattle.op_machine.proofs.InvariantLaws.{restored, Stays, restored-good, popped-frame, popped-tried}
 use Rattle.op_machine.proofs.LeavingLaws.{left-choice_points, left_moved-good, left_moved-choice_points}
-use Rattle.op_machine.proofs.LeavingMoves.{leaving-left, leaving-open}
+use Rattle.op_machine.proofs.LeavingMoves.{leaving-left, leaving-open, leaving-caught}
 
 -- the choice points that are left, the last first
 pub left-cut : (x y : Framed Alternative) (k : ℕ) (o : List ℕ) → y ≡ record x { choices = take k x.choices }
@@ -65,6 +68,47 @@ taken old popped y f inner l good cut left begins first rest same = record {
   leaves = subst (BeginsLeft old.frames inner l) (sym (ap (λ (z : Framed Alternative). reverse z.choices) cut) ∙ first) begins;
 }
 
+-- the box of a choice point that a ball comes to had been called when it was made
+own-called : (B : List BoxFrame) (calls : ℕ) (L : List (List Item)) (q : ChoiceKind) (g n call : ℕ) → IsOwn call q
+    → IsTried B calls L q g n → call ≤ calls
+own-called B calls L (kind.Redo k) g n call o t = absurd o
+own-called B calls L (kind.Branch m) g n call o t = absurd o
+own-called B calls L (kind.More k rs i) g n call o t = absurd o
+own-called B calls L (kind.Fail k) g n call o t = omega (arith, o, t)
+own-called B calls L (kind.Catch k) g n call o t = omega (arith, o, t.given)
+own-called B calls L (kind.Condition c m) g n call o t = absurd o
+
+-- a ball comes to an open box
+module _ (s : Setup) (t : Stored) (b : Term Text) (o : List ℕ) (w : World) (u : Level) (g n call : ℕ) (K : List visit.Choice)
+    (among : is_open call o ≡ true) where
+  -- what comes of it, with these boxes around
+  abbrev pub reached : ChoiceKind → List ℕ → Moved
+  reached (kind.Catch k) p = ball_met s call (term_in t u g) (bindings_in t u) (items_in t u n) K b p w
+  reached q p = raised call (term_in t u g) (bindings_in t u) (items_in t u n) K b p w
+
+  pub leaving-reached : (q : ChoiceKind) → IsOwn call q → leaving s b o (choice_point_by t u q g n ∷ K) w ≡ reached q (around call o)
+  leaving-reached (kind.Redo k) own = absurd own
+  leaving-reached (kind.Branch m) own = absurd own
+  leaving-reached (kind.More k rs i) own = absurd own
+  leaving-reached (kind.Fail k) own =
+      ap (λ (j : ℕ). leaving s b o (choice_point_by t u (kind.Fail j) g n ∷ K) w) own
+      ∙ leaving-open s b o call (term_in t u g) (bindings_in t u) (items_in t u n) K w among
+  leaving-reached (kind.Catch k) own =
+      ap (λ (j : ℕ). leaving s b o (choice_point_by t u (kind.Catch j) g n ∷ K) w) own
+      ∙ leaving-caught s b o call (term_in t u g) (bindings_in t u) (items_in t u n) K w among
+  leaving-reached (kind.Condition c m) own = absurd own
+
+-- in a machine that is at the moment of the choice point
+reached-now : (c : Core) (o : List ℕ) (g n call outer : ℕ) (among : is_open call o ≡ true) (q : ChoiceKind)
+    → reached (setup_of c) c.store (ball_text c.store c.ball) o (world_in c) (level_in c) g n call (choice_points_in c) among q
+    (open_in c.frames outer) ≡ box_reached c q call g n outer
+reached-now c o g n call outer among (kind.Redo k) = refl
+reached-now c o g n call outer among (kind.Branch m) = refl
+reached-now c o g n call outer among (kind.More k rs i) = refl
+reached-now c o g n call outer among (kind.Fail k) = refl
+reached-now c o g n call outer among (kind.Catch k) = refl
+reached-now c o g n call outer among (kind.Condition d m) = refl
+
 module _ (old popped : Core) (y : Framed Alternative) (f : Frame) (inner call outer : ℕ) (h : IsTaken old popped y f inner call outer) where
   cut-good : IsGood (record old { frames = y })
   cut-good = left_moved-good old (record old { frames = y }) (open_in old.frames inner) h.good refl h.boxes h.left
@@ -85,7 +129,7 @@ module _ (old popped : Core) (y : Framed Alternative) (f : Frame) (inner call ou
   outer-called : outer < f.kept.calls + 1
   outer-called =
       let named : call ≤ f.kept.calls =
-      subst (λ (q : ChoiceKind). IsTried y.boxes f.kept.calls old.continuations q f.kept.goal f.rest) h.leaves.kind cut-boxed.0.tried in
+      own-called y.boxes f.kept.calls old.continuations f.kept.kind f.kept.goal f.rest call h.leaves.own cut-boxed.0.tried in
       omega (arith, named, h.leaves.below)
 
   pub thrown-good : old.mode ≡ mode.Throwing inner → Stays popped f → IsGood (restored popped f)
@@ -99,35 +143,42 @@ module _ (old popped : Core) (y : Framed Alternative) (f : Frame) (inner call ou
       ap (map (λ (p : ℕ × ℕ). p.0))
       (sym (stays outer outer-called ∙ ap (λ (B : List BoxFrame). open_from B outer) (h.same ∙ h.boxes)))
 
-  thrown-moved : Stays popped f → ball_moved old inner ≡ box_left (restored popped f) call f.kept.goal f.rest outer
+  thrown-moved : Stays popped f → ball_moved old inner ≡ box_reached (restored popped f) f.kept.kind call f.kept.goal f.rest outer
   thrown-moved stays =
       let o : List ℕ = open_in old.frames inner in
       let v : Level = level_in old in
       let u : Level = level_at f (level_in old) in
       let w : World = world_in old in
+      let s : Setup = setup_of old in
       let b : Term Text = ball_text old.store old.ball in
-      let g : Term Text = term_in old.store u f.kept.goal in
       let K : List visit.Choice = choice_points_of old.store u (reverse popped.frames.choices) in
       let choices : choice_points_of old.store v (f ∷ reverse popped.frames.choices) ≡ left_to o (choice_points_in old) =
       ap (choice_points_of old.store v) (sym h.first ∙ h.left)
       ∙ left-choice_points old.store old.floor.terms v (reverse old.frames.choices) o h.good.frames in
       let back : Core = restored (record old { frames = popped.frames }) f in
-      leaving-left b o (choice_points_in old) w
-      ∙ (ap (λ (L : List visit.Choice). leaving b o L w) (sym choices)
-      ∙ (ap (λ (q : ChoiceKind). leaving b o (choice_point_by old.store u q f.kept.goal f.rest ∷ K) w) h.leaves.kind
-      ∙ (leaving-open b o call g (bindings_in old.store u) (items_in old.store u f.rest) K w h.leaves.among
-      ∙ (ap (λ (p : List ℕ). showing port.Exception call g (bindings_in old.store u) (items_in old.store u f.rest) w
-      (Throwing b p K (with_event w))) (sym h.leaves.outer_boxes ∙ outer-stays stays)
-      ∙ ap (λ (x : Core). box_left (restored x f) call f.kept.goal f.rest outer) (sym h.rest)))))
+      leaving-left s b o (choice_points_in old) w
+      ∙ (ap (λ (L : List visit.Choice). leaving s b o L w) (sym choices)
+      ∙ (leaving-reached s old.store b o w u f.kept.goal f.rest call K h.leaves.among f.kept.kind h.leaves.own
+      ∙ (ap (reached s old.store b o w u f.kept.goal f.rest call K h.leaves.among f.kept.kind)
+      (sym h.leaves.outer_boxes ∙ outer-stays stays)
+      ∙ (ap (λ (x : Core). reached s old.store b o w u f.kept.goal f.rest call K h.leaves.among f.kept.kind
+      (open_in (restored x f).frames outer)) h.rest
+      ∙ (reached-now back o f.kept.goal f.rest call outer h.leaves.among f.kept.kind
+      ∙ ap (λ (x : Core). box_reached (restored x f) f.kept.kind call f.kept.goal f.rest outer) (sym h.rest))))))
 
   pub thrown-advances : (back new : Core) (s : Step) → Stays popped f → back ≡ restored popped f
-      → Advances back new (box_left back call f.kept.goal f.rest outer) s → Advances old new (ball_moved old inner) s
+      → Advances back new (box_reached back f.kept.kind call f.kept.goal f.rest outer) s → Advances old new (ball_moved old inner) s
   thrown-advances back new s stays is a =
       let whole : back ≡ restored (record old { frames = popped.frames }) f = is ∙ ap (λ (x : Core). restored x f) h.rest in
-      advances-from old back new (box_left back call f.kept.goal f.rest outer) (ball_moved old inner) s
+      advances-from old back new (box_reached back f.kept.kind call f.kept.goal f.rest outer) (ball_moved old inner) s
       (ap (λ (x : Core). x.store) whole) (ap (λ (x : Core). x.names) whole) (ap (λ (x : Core). x.budget) whole)
       (ap (λ (x : Core). x.wanted) whole)
-      (sym (thrown-moved stays ∙ ap (λ (x : Core). box_left x call f.kept.goal f.rest outer) (sym is))) a
+      (sym (thrown-moved stays ∙ ap (λ (x : Core). box_reached x f.kept.kind call f.kept.goal f.rest outer) (sym is))) a
+
+  -- the box is kept, and had been called
+  pub thrown-tried : Stays popped f → (f.kept.calls ≤ popped.calls) × IsTried (boxes_before (f.kept.calls + 1) popped.frames.boxes)
+      f.kept.calls (take f.kept.continuations popped.continuations) f.kept.kind f.kept.goal f.rest
+  thrown-tried stays = popped-tried (record old { frames = y }) popped f cut-good h.first h.rest h.same stays
 
 -- no open box has a choice point
 pub uncaught-advances : (old popped new : Core) (inner : ℕ) → IsGood old → popped ≡ record old { frames = popped.frames }
@@ -141,8 +192,8 @@ uncaught-advances old popped new inner good rest same left none is =
     let choices : [] ≡ left_to o (choice_points_in old) =
     sym (ap (choice_points_of popped.store (level_in popped)) none) ∙ left_moved-choice_points old popped o good rest left in
     let moved : ball_moved old inner ≡ silent (state_of end) =
-    leaving-left (ball_text old.store old.ball) o (choice_points_in old) (world_in old)
-    ∙ (ap (λ (L : List visit.Choice). leaving (ball_text old.store old.ball) o L (world_in old)) (sym choices)
+    leaving-left (setup_of old) (ball_text old.store old.ball) o (choice_points_in old) (world_in old)
+    ∙ (ap (λ (L : List visit.Choice). leaving (setup_of old) (ball_text old.store old.ball) o L (world_in old)) (sym choices)
     ∙ (ap (λ (B : List BoxFrame). silent (Over (visit.Thrown (ball_text old.store old.ball) (map (λ (p : ℕ × ℕ). p.0) (open_from B inner)))
     (world_in old))) (sym same)
     ∙ ap (λ (x : Core). silent (Over (visit.Thrown (ball_text x.store x.ball) (open_in popped.frames inner)) (world_in x))) (sym rest))) in

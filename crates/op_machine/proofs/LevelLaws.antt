@@ -3,7 +3,7 @@ use Rattle.std.proofs.Common.{◌≡◌, ℕ, ◌-◌, ◌<◌, ◌≤◌, List,
 use Rattle.std.proofs.Common.{subst, arith, length-append}
 use Rattle.std.proofs.lemmas.List.{get_or-take, take-take}
 use Rattle.std.proofs.Math.Seq.{take-length, take-append_seam}
-use Rattle.op_logic.specs.Term.{Term, int}
+use Rattle.op_logic.specs.Term.{Term, int, args_of, arity}
 use Rattle.op_logic.specs.Names.{HasNames, HaveNames}
 use Rattle.op_term.specs.Places.{term_at}
 use Rattle.op_bind.specs.State as bind
@@ -19,7 +19,8 @@ use Rattle.op_machine.specs.inner.Continuations.{continuation_in}
 use Rattle.op_store.specs.Stored.{Stored}
 use Rattle.op_machine.specs.Program.{goal_named}
 use Rattle.op_machine.specs.Meaning.{Level, level_at, level_of, items_in, item_term, choice_points_of, choice_point_of}
-use Rattle.op_machine.specs.inner.Invariant.{IsGoal, IsItem, AreItems, IsLevel, IsEarlier, IsFrame, AreFrames, AreValues, IsFailure}
+use Rattle.op_machine.specs.inner.Invariant.{IsGoal, HasRecovery, IsItem, AreItems, IsLevel, IsEarlier, IsFrame, AreFrames, AreValues}
+use Rattle.op_machine.specs.inner.Invariant.{IsFailure}
 
 -- what was there is the beginning of what is there
 pub record Rises (v w : Level) : Type 0 where
@@ -105,12 +106,18 @@ item-rises n t v w (item.Goal r m) h a = ap (λ (x : Term ℕ). world.Goal (goal
 item-rises n t v w (item.Cut m) h a = refl
 item-rises n t v w (item.Exit k r) h a = ap (λ (x : Term ℕ). world.Exit k (goal_named t x)) (term-rises v w r h a.0)
 item-rises n t v w (item.Execute k r) h a = ap (λ (x : Term ℕ). world.Execute world.First k (goal_named t x)) (term-rises v w r h a.0)
+item-rises n t v w (item.Recover k r) h a =
+    ap (λ (x : Term ℕ). world.Execute world.Recovery k (goal_named t x)) (term-rises v w r h a.0.0)
+
+pub recovery-rises : (v w : Level) (r : ℕ) → Rises v w → r < length v.terms → HasRecovery v.terms r → HasRecovery w.terms r
+recovery-rises v w r h l a = subst (λ (x : Term ℕ). arity (args_of x) ≡ 3) (sym (term-rises v w r h l)) a
 
 pub is-item-rises : (n : ℕ) (v w : Level) (i : Item) → Rises v w → IsItem n v.terms i → IsItem n w.terms i
 is-item-rises n v w (item.Goal r m) h a = goal-rises n v w r h a
 is-item-rises n v w (item.Cut m) h a = tt
 is-item-rises n v w (item.Exit k r) h a = goal-rises n v w r h a
 is-item-rises n v w (item.Execute k r) h a = goal-rises n v w r h a
+is-item-rises n v w (item.Recover k r) h a = (goal-rises n v w r h a.0, recovery-rises v w r h a.0.0 a.1)
 
 pub items-rise : (n : ℕ) (t : Stored) (v w : Level) (I : List Item) → Rises v w → AreItems n v.terms I → map (item_term t w) I
     ≡ map (item_term t v) I

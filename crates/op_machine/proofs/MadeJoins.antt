@@ -19,8 +19,8 @@ names-more : (old new : List Text) → take (length old) new ≡ old → length 
 names-more old new e = omega (arith, length-take (length old) new, ap length e)
 
 -- each of the first names is there
-pub first-there : (names : List Text) (k : ℕ) → take (length first_names) names ≡ first_names → k < 21 → k < length names
-first-there names k b h = let l : 21 ≤ length names = names-more first_names names b in omega arith
+pub first-there : (names : List Text) (k : ℕ) → take (length first_names) names ≡ first_names → k < 22 → k < length names
+first-there names k b h = let l : 22 ≤ length names = names-more first_names names b in omega arith
 
 -- a term that was made, with names that are there
 pub term-made : (c : Core) (s : State) (r : ℕ) (t : Term ℕ) → Grows c.bindings s → bindings s ≡ bindings c.bindings

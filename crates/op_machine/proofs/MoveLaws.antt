@@ -8,21 +8,22 @@ use Rattle.op_trace.specs.declared.port.Port.TheVariants as port
 use Rattle.op_trace.specs.declared.barrier.Barrier.{Barrier}
 use Rattle.op_trace.specs.declared.barrier.Barrier.TheVariants.{Call, InCondition, AtSuccess}
 use Rattle.op_trace.specs.Database.{Text, text_eq, Clause}
-use Rattle.op_trace.specs.World.{World, same_barrier, Execution, Item, Goal, Cut, Exit, Execute, open_boxes, Turn, Shown, Solved}
+use Rattle.op_trace.specs.World.{World, same_barrier, Execution, Recovery, Item, Goal, Cut, Exit, Execute, open_boxes, Turn, Shown}
+use Rattle.op_trace.specs.World.{Solved}
 use Rattle.op_trace.specs.Act.{Yield, Fails, Succeeds, Succeeds_again, Runs, Throws, Halts, Act, Setup}
 use Rattle.op_trace.specs.Visit.{Verdict, Failed, CutTo, Thrown, Stopped, Halted, Spent, is_open, around, fails, raises}
 use Rattle.op_trace.specs.Visit.{Visited, gives, with_turns, and_then, event_of, with_event, pays}
 use Rattle.op_trace.specs.Visit.{reaches, cut, Control, TrueGoal, FailGoal, CutGoal, Conjunction, Disjunction, IfThenElse}
 use Rattle.op_trace.specs.Visit.{BoxedGoal, control, entered, Choice, Redo, Branch, More, Fail}
-use Rattle.op_trace.specs.Visit.{Condition, matched, try_clause}
-use Rattle.op_trace.specs.Visit.{Again, Inside, Clauses, WithoutProcedure, inside, counted_as, acts}
+use Rattle.op_trace.specs.Visit.{Catch, Condition, matched, try_clause, catcher_of, caught, catches, last_choice}
+use Rattle.op_trace.specs.Visit.{Again, Inside, Clauses, WithoutProcedure, Protected, inside, counted_as, acts}
 use Rattle.op_trace.specs.Visit.{executes_again, entered_box, exits, yields}
 use Rattle.op_trace.specs.Visit.{branches, after, boxed, selected, solved, visit, visit_with}
 use Rattle.op_trace.proofs.WalkEquations.{visit_equations}
 use Rattle.op_trace.proofs.WalkBarriers.{Only, visit-only}
 use Rattle.op_trace.proofs.WalkBalls.{LeavesOnly, visit_throws}
 use Rattle.op_machine.specs.Resume.{resume, keep, with_more, State, Forward, Backward, Throwing, Over, owed, Moved}
-use Rattle.op_machine.specs.Resume.{silent, showing, paid, invoked, chosen, leaving}
+use Rattle.op_machine.specs.Resume.{silent, paid, invoked, chosen, raised, ball_unified, ball_met, leaving}
 use Rattle.op_machine.specs.Resume.{head_unified, tried, branched, at_solution, move, world_of}
 use Rattle.op_machine.specs.Resume.{entered_state, acted, yielded, executed_again}
 use Rattle.op_machine.specs.inner.Barriers.{left_to, Behind, InStep}
@@ -48,6 +49,7 @@ resume-Stopped s (Condition n t m σ J ∷ K) w = resume-Stopped s K w
 resume-Stopped s (More [] k g σ J ∷ K) w = resume-Stopped s K w
 resume-Stopped s (More (c ∷ cs) k g σ J ∷ K) w = resume-Stopped s K w
 resume-Stopped s (Fail k g σ J ∷ K) w = resume-Stopped s K w
+resume-Stopped s (Catch k g σ J ∷ K) w = resume-Stopped s K w
 
 pub resume-Halted : (s : Setup) (K : List Choice) (i : ℤ) (w : World) → resume s K (Halted i) w ≡ gives (Halted i) w
 unfolding resume
@@ -59,6 +61,7 @@ resume-Halted s (Condition n t m σ J ∷ K) i w = resume-Halted s K i w
 resume-Halted s (More [] k g σ J ∷ K) i w = resume-Halted s K i w
 resume-Halted s (More (c ∷ cs) k g σ J ∷ K) i w = resume-Halted s K i w
 resume-Halted s (Fail k g σ J ∷ K) i w = resume-Halted s K i w
+resume-Halted s (Catch k g σ J ∷ K) i w = resume-Halted s K i w
 
 -- what a move comes to
 abbrev pub comes : Setup → Moved → Visited
@@ -74,6 +77,7 @@ resume-Spent s (Condition n t m σ J ∷ K) w = resume-Spent s K w
 resume-Spent s (More [] k g σ J ∷ K) w = resume-Spent s K w
 resume-Spent s (More (c ∷ cs) k g σ J ∷ K) w = resume-Spent s K w
 resume-Spent s (Fail k g σ J ∷ K) w = resume-Spent s K w
+resume-Spent s (Catch k g σ J ∷ K) w = resume-Spent s K w
 
 -- a ball goes up to the next box that it leaves
 pub resume-ball : (s : Setup) (K : List Choice) (b : Term Text) (o : List ℕ) (w : World)
@@ -94,24 +98,14 @@ resume-ball s (Fail k g σ J ∷ K) b o w = go (is_open k o) refl (resume-ball s
     go true e below =
         ap (λ (x : Bool). and_then (reaches x (raises k g σ J b (around k o)) (gives (Thrown b o)) w) (resume s K)) (sym e)
     go false e below = below
-
-pub leaving-row : (s : Setup) (K : List Choice) (b : Term Text) (o : List ℕ) (w : World)
-    → resume s K (Thrown b o) w ≡ comes s (leaving b o K w)
-unfolding resume owed
-leaving-row s [] b o w = refl
-leaving-row s (Redo k g σ J ∷ K) b o w = leaving-row s K b o w
-leaving-row s (Branch t m σ J ∷ K) b o w = leaving-row s K b o w
-leaving-row s (Again t k g σ J ∷ K) b o w = leaving-row s K b o w
-leaving-row s (Condition n t m σ J ∷ K) b o w = leaving-row s K b o w
-leaving-row s (More [] k g σ J ∷ K) b o w = leaving-row s K b o w
-leaving-row s (More (c ∷ cs) k g σ J ∷ K) b o w = leaving-row s K b o w
-leaving-row s (Fail k g σ J ∷ K) b o w = go (is_open k o) (leaving-row s K b o w)
+resume-ball s (Catch k g σ J ∷ K) b o w = go (is_open k o) refl (resume-ball s K b o w)
   where
-    go : (t : Bool) → resume s K (Thrown b o) w ≡ comes s (leaving b o K w)
-        → and_then (reaches t (raises k g σ J b (around k o)) (gives (Thrown b o)) w) (resume s K)
-        ≡ comes s (if t then showing port.Exception k g σ J w (Throwing b (around k o) K (with_event w)) else leaving b o K w)
-    go true below = refl
-    go false below = below
+    go : (t : Bool) → is_open k o ≡ t → resume s K (Thrown b o) w ≡ resume s (left_to o K) (Thrown b o) w
+        → and_then (reaches t (catches (visit s) s k g σ J b (around k o)) (gives (Thrown b o)) w) (resume s K)
+        ≡ resume s (if t then Catch k g σ J ∷ K else left_to o K) (Thrown b o) w
+    go true e below =
+        ap (λ (x : Bool). and_then (reaches x (catches (visit s) s k g σ J b (around k o)) (gives (Thrown b o)) w) (resume s K)) (sym e)
+    go false e below = below
 
 -- a cut leads to the choice points that it keeps
 pub resume-cut : (s : Setup) (K : List Choice) (m : Barrier) (w : World) → resume s K (CutTo m) w ≡ resume s (keep m K) Failed w
@@ -127,6 +121,13 @@ resume-cut s (Fail k g σ J ∷ K) m w = go (same_barrier m (Call k)) (resume-cu
     go : (b : Bool) → resume s K (CutTo m) w ≡ resume s (keep m K) Failed w
         → and_then (reaches b (fails k g σ J) (gives (CutTo m)) w) (resume s K)
         ≡ resume s (if b then Fail k g σ J ∷ K else keep m K) Failed w
+    go true below = refl
+    go false below = below
+resume-cut s (Catch k g σ J ∷ K) m w = go (same_barrier m (Call k)) (resume-cut s K m w)
+  where
+    go : (b : Bool) → resume s K (CutTo m) w ≡ resume s (keep m K) Failed w
+        → and_then (reaches b (fails k g σ J) (gives (CutTo m)) w) (resume s K)
+        ≡ resume s (if b then Catch k g σ J ∷ K else keep m K) Failed w
     go true below = refl
     go false below = below
 resume-cut s (Condition n t b σ J ∷ K) m w = go (same_barrier m (InCondition n)) (same_barrier m (AtSuccess n)) (resume-cut s K m w)
@@ -206,6 +207,7 @@ pub entered_box-equation : (i : Inside) (s : Setup) (k : ℕ) (g : Term Text) (J
 unfolding owed resume
 entered_box-equation (Clauses cs) s k g J σ w K = sym (resume-with_more s cs k g σ J K Failed w)
 entered_box-equation WithoutProcedure s k g J σ w K = refl
+entered_box-equation Protected s k g J σ w K = refl
 
 pub boxed-equation : (s : Setup) (g : Term Text) (J : List Item) (σ : Bindings Text) (w : World) (K : List Choice)
     → and_then (boxed (visit s) s g J σ w) (resume s K) ≡ comes s (invoked g J K σ w)
@@ -213,9 +215,11 @@ unfolding resume
 boxed-equation s g J σ w K =
     let k : ℕ = w.calls + 1 in
     let u : World = record w { calls = k } in
+    let i : Inside = inside w.database g in
+    let c : Choice = last_choice i k g σ J in
     ap (with_turns (Shown (event_of port.Call k g σ J u) (with_event u) ∷ []))
-    (and_then-assoc (entered_box (visit s) s (inside w.database g) k g σ J (with_event u)) (after (visit s) s (Fail k g σ J)) (resume s K)
-    ∙ entered_box-equation (inside w.database g) s k g J σ (with_event u) (Fail k g σ J ∷ K))
+    (and_then-assoc (entered_box (visit s) s i k g σ J (with_event u)) (after (visit s) s c) (resume s K)
+    ∙ entered_box-equation i s k g J σ (with_event u) (c ∷ K))
 
 pub acted-equation : (t : Bool) (s : Setup) (a : Act) (w : World) (h : Yield → World → Visited) (m : Yield → World → Moved)
     (K : List Choice)
@@ -250,6 +254,44 @@ unfolding owed
 again-equation s t k g σ J w K =
     paid-equation (nat_le (w.steps + 1) s.budget) s 1 w (visit s (Execute t k g ∷ J) σ) (λ u. silent (Forward
     (Execute t k g ∷ J) K σ u)) K refl
+
+-- a ball that comes to a box which catches
+pub unified-equation : (s : Setup) (k : ℕ) (g : Term Text) (σ : Bindings Text) (J : List Item) (K : List Choice) (b : Term Text)
+    (o : List ℕ) (w : World) (r : Option (Result Text))
+    → and_then (caught (visit s) s k g σ J b o w r) (resume s K) ≡ comes s (ball_unified s k g σ J K b o w r)
+unfolding owed
+unified-equation s k g σ J K b o w None = resume-Spent s K _
+unified-equation s k g σ J K b o w (Some (None, left)) = refl
+unified-equation s k g σ J K b o w (Some (Some τ, left)) =
+    let u : World = record w { steps = s.budget - left } in
+    push-equation s (executes_again (visit s) s Recovery k g τ J u) (Fail k g σ J) K
+    ∙ again-equation s Recovery k g τ J u (Fail k g σ J ∷ K)
+
+pub leaving-equation : (s : Setup) (K : List Choice) (b : Term Text) (o : List ℕ) (w : World)
+    → resume s K (Thrown b o) w ≡ comes s (leaving s b o K w)
+unfolding resume owed
+leaving-equation s [] b o w = refl
+leaving-equation s (Redo k g σ J ∷ K) b o w = leaving-equation s K b o w
+leaving-equation s (Branch t m σ J ∷ K) b o w = leaving-equation s K b o w
+leaving-equation s (Again t k g σ J ∷ K) b o w = leaving-equation s K b o w
+leaving-equation s (Condition n t m σ J ∷ K) b o w = leaving-equation s K b o w
+leaving-equation s (More [] k g σ J ∷ K) b o w = leaving-equation s K b o w
+leaving-equation s (More (c ∷ cs) k g σ J ∷ K) b o w = leaving-equation s K b o w
+leaving-equation s (Fail k g σ J ∷ K) b o w = go (is_open k o) (leaving-equation s K b o w)
+  where
+    go : (t : Bool) → resume s K (Thrown b o) w ≡ comes s (leaving s b o K w)
+        → and_then (reaches t (raises k g σ J b (around k o)) (gives (Thrown b o)) w) (resume s K)
+        ≡ comes s (if t then raised k g σ J K b (around k o) w else leaving s b o K w)
+    go true below = refl
+    go false below = below
+leaving-equation s (Catch k g σ J ∷ K) b o w = go (is_open k o) (leaving-equation s K b o w)
+  where
+    go : (t : Bool) → resume s K (Thrown b o) w ≡ comes s (leaving s b o K w)
+        → and_then (reaches t (catches (visit s) s k g σ J b (around k o)) (gives (Thrown b o)) w) (resume s K)
+        ≡ comes s (if t then ball_met s k g σ J K b (around k o) w else leaving s b o K w)
+    go true below =
+        unified-equation s k g σ J K b (around k o) w (unify text_eq (s.budget - w.steps) σ ((b, catcher_of g) ∷ []))
+    go false below = below
 
 pub branched-equation : (s : Setup) (t : Term Text) (m : Barrier) (σ : Bindings Text) (J : List Item) (w : World) (K : List Choice)
     → and_then (branches (visit s) s t m σ J w) (resume s K) ≡ comes s (branched s t m σ J K w)
@@ -328,11 +370,12 @@ move-equation s (Backward (Branch t m σ J ∷ K) w) below h = branched-equation
 move-equation s (Backward (Condition n t m σ J ∷ K) w) below h = branched-equation s t m σ J w K
 move-equation s (Backward (Again t k g σ J ∷ K) w) below h = again-equation s t k g σ J w K
 move-equation s (Backward (Fail k g σ J ∷ K) w) below h = refl
+move-equation s (Backward (Catch k g σ J ∷ K) w) below h = refl
 move-equation s (Backward (More [] k g σ J ∷ K) w) below h = refl
 move-equation s (Backward (More (c ∷ cs) k g σ J ∷ K) w) below h =
     let v : Visited = try_clause (visit s) s c k g σ J w in
     push-equation s v (More cs k g σ J) K
     ∙ (ap (with_turns v.turns) (sym (resume-with_more s cs k g σ J K v.verdict v.world))
     ∙ tried-equation s c k g σ J w (with_more cs k g σ J K))
-move-equation s (Throwing b o K w) below h = leaving-row s K b o w
+move-equation s (Throwing b o K w) below h = leaving-equation s K b o w
 move-equation s (Over r w) below h = refl

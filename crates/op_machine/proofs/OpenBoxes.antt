@@ -25,6 +25,7 @@ opened-numbers (item.Goal g m ∷ I) = opened-numbers I
 opened-numbers (item.Cut m ∷ I) = opened-numbers I
 opened-numbers (item.Exit k g ∷ I) = ap (λ (ks : List ℕ). k ∷ ks) (opened-numbers I)
 opened-numbers (item.Execute k g ∷ I) = ap (λ (ks : List ℕ). k ∷ ks) (opened-numbers I)
+opened-numbers (item.Recover k g ∷ I) = ap (λ (ks : List ℕ). k ∷ ks) (opened-numbers I)
 
 -- in a box that was called before a continuation, it is open, and so are the boxes of the continuation
 pub open-called : (c : Core) (k g n : ℕ) → HasCalled c k g n → open_in c.frames k ≡ k ∷ open_boxes (items_now c n)

@@ -2,23 +2,25 @@
 use Rattle.std.proofs.Common.{◌≡◌, ℕ, suc, ◌+◌, ◌-◌, ◌==◌, ◌&&◌, nat_le, pos, Bool, true, false, List}
 use Rattle.std.proofs.Common.{[], ◌∷◌, Option, Some, None, codes, refl}
 use Rattle.std.proofs.Common.{ap, ◌≤◌, ◌∙◌, arith, if◌then◌else◌}
-use Rattle.op_logic.specs.Term.{Term, var, int, node, Args, no_args, arg, size, arity, shift}
+use Rattle.op_logic.specs.Term.{Term, var, int, node, Args, no_args, arg, args_of, nth_arg, size, arity, shift}
 use Rattle.op_logic.specs.Bind.{Bindings, apply, follow, unify, Solved as Result}
 use Rattle.op_trace.specs.declared.barrier.Barrier.{Barrier}
 use Rattle.op_trace.specs.Database.{Text, text_eq, Clause}
-use Rattle.op_trace.specs.World.{World, Execution, Item, Goal, Cut, Exit, Execute, Solved}
+use Rattle.op_trace.specs.World.{World, Execution, First, Repeated, Recovery, Item, Goal, Cut, Exit, Execute, Solved}
 use Rattle.op_trace.specs.Outside.{Outside, at}
 use Rattle.op_trace.specs.Act.{Yield, Fails, Succeeds, Succeeds_again, Runs, Throws, Halts, Act, done, Setup}
 use Rattle.op_trace.specs.Act as act
 use Rattle.op_trace.specs.Body.{Body, Division, divided}
 use Rattle.op_trace.specs.Builtins.{instantiation_error, type_error, no_procedure, throw, unknown, run_division, added, run_goal, alone}
-use Rattle.op_trace.specs.Builtins.{first_solution, no_solution, throw_argument, halt_with, act_of_goal, setup_for}
-use Rattle.op_trace.specs.Visit.{Inside, Clauses, WithoutProcedure, inside, counted_as, is_open, around, Stopped, Control}
+use Rattle.op_trace.specs.Builtins.{first_solution, no_solution, throw_argument, halt_with, act_of_goal, act_of_program, setup_for}
+use Rattle.op_trace.specs.Visit.{Inside, Clauses, WithoutProcedure, Protected, inside, last_choice, catcher_of, counted_as, is_open}
+use Rattle.op_trace.specs.Visit.{around, Stopped, Control}
 use Rattle.op_trace.specs.Visit.{TrueGoal, FailGoal, CutGoal, Conjunction, Disjunction}
 use Rattle.op_trace.specs.Visit.{IfThenElse, BoxedGoal, control, with_event, with_turns, entered, Choice, Redo, Branch, More, Again, Fail}
-use Rattle.op_trace.specs.Visit.{Condition}
+use Rattle.op_trace.specs.Visit.{Catch, Condition}
 use Rattle.op_trace.specs.declared.port.Port.TheVariants as port
-use Rattle.op_machine.specs.Resume.{State, Forward, Backward, Throwing, Over, leaving, Moved, silent, showing}
+use Rattle.op_machine.specs.Resume.{State, Forward, Backward, Throwing, Over, raised, ball_unified, ball_met, leaving, Moved, silent}
+use Rattle.op_machine.specs.Resume.{showing}
 use Rattle.op_machine.specs.Resume.{paid, entered_state, acted, yielded, chosen}
 use Rattle.op_machine.specs.Resume.{head_unified, tried, branched, executed_again, move, owed, with_more, world_of}
 use Rattle.op_machine.specs.inner.Barriers.{InStep}
@@ -49,6 +51,7 @@ module _ (h : Outside) (o : List ℕ) where
       → entered_state i k g J K σ (at h o w) ≡ state_at h o (entered_state i k g J K σ w)
   entered-outer (Clauses cs) k g J K σ w = refl
   entered-outer WithoutProcedure k g J K σ w = refl
+  entered-outer Protected k g J K σ w = refl
 
   pub invoked-outer : (i : Inside) (g : Term Text) (J : List Item) (K : List Choice) (σ : Bindings Text) (w : World)
       → showing port.Call (w.calls + 1) g σ J (at h o (record w { calls = w.calls + 1 }))
@@ -57,6 +60,7 @@ module _ (h : Outside) (o : List ℕ) where
       (entered_state i (w.calls + 1) g J K σ (with_event (record w { calls = w.calls + 1 }))))
   invoked-outer (Clauses cs) g J K σ w = refl
   invoked-outer WithoutProcedure g J K σ w = refl
+  invoked-outer Protected g J K σ w = refl
 
   pub chosen-outer : (q : Control) (t : Term Text) (m : Barrier) (J : List Item) (K : List Choice) (σ : Bindings Text) (w : World)
       → chosen q t m J K σ (at h o w) ≡ moved_at h o (chosen q t m J K σ w)
@@ -66,7 +70,9 @@ module _ (h : Outside) (o : List ℕ) where
   chosen-outer (Conjunction a b) t m J K σ w = refl
   chosen-outer (Disjunction a b) t m J K σ w = refl
   chosen-outer (IfThenElse c a b) t m J K σ w = refl
-  chosen-outer BoxedGoal t m J K σ w = invoked-outer (inside w.database t) t J (Fail (w.calls + 1) t σ J ∷ K) σ w
+  chosen-outer BoxedGoal t m J K σ w =
+      let i : Inside = inside w.database t in
+      invoked-outer i t J (last_choice i (w.calls + 1) t σ J ∷ K) σ w
 
   pub unified-outer : (s : Setup) (c : Clause) (k : ℕ) (g : Term Text) (J : List Item) (K : List Choice) (w : World)
       (r : Option (Result Text)) → head_unified s c k g J K (at h o w) r ≡ moved_at h o (head_unified s c k g J K w r)
@@ -156,7 +162,14 @@ module _ (h : Outside) (o : List ℕ) where
       (if-outer (text_eq f (codes "halt")) _ _ _ _ (halt_with-outer t left σ w) (unknown-outer f 1 left σ w)))))
   goal-outer left (node f (arg a (arg b us))) σ w =
       if-outer (text_eq f (codes "call") && nat_le (arity (arg b us)) 7) _ _ _ _ (run_goal-outer alone (follow σ a) (arg b us) left σ w)
-      (unknown-outer f (suc (arity (arg b us))) left σ w)
+      (if-outer (text_eq f (codes "catch") && (arity (arg b us) == 2)) _ _ _ _ (run_goal-outer alone (follow σ a) no_args left σ w)
+      (unknown-outer f (suc (arity (arg b us))) left σ w))
+
+  pub program-outer : (left : ℕ) (t : Execution) (g : Term Text) (σ : Bindings Text) (w : World)
+      → act_of_program left t g σ (at h o w) ≡ act_at (act_of_program left t g σ w)
+  program-outer left First g σ w = goal-outer left g σ w
+  program-outer left Repeated g σ w = goal-outer left g σ w
+  program-outer left Recovery g σ w = run_goal-outer alone (follow σ (nth_arg (args_of g) 2)) no_args left σ w
 
   yielded-outer : (k : ℕ) (g : Term Text) (J : List Item) (K : List Choice) (σ : Bindings Text) (y : Yield) (w : World)
       → yielded k g J K σ y (at h o w) ≡ moved_at h o (yielded k g J K σ y w)
@@ -173,24 +186,6 @@ module _ (h : Outside) (o : List ℕ) where
   acted-outer true s a k g J K σ w = yielded-outer k g J K σ a.yield (record (counted_as w a.after) { steps = w.steps + a.cost })
   acted-outer false s a k g J K σ w = refl
 
-  -- a ball goes up
-  pub leaving-outer : (b : Term Text) (p : List ℕ) (K : List Choice) (w : World)
-      → leaving b p K (at h o w) ≡ moved_at h o (leaving b p K w)
-  leaving-outer b p [] w = refl
-  leaving-outer b p (Redo k g σ J ∷ K) w = leaving-outer b p K w
-  leaving-outer b p (Branch t m σ J ∷ K) w = leaving-outer b p K w
-  leaving-outer b p (More cs k g σ J ∷ K) w = leaving-outer b p K w
-  leaving-outer b p (Again t k g σ J ∷ K) w = leaving-outer b p K w
-  leaving-outer b p (Condition n t m σ J ∷ K) w = leaving-outer b p K w
-  leaving-outer b p (Fail k g σ J ∷ K) w = go (is_open k p) (leaving-outer b p K w)
-    where
-      go : (t : Bool) → leaving b p K (at h o w) ≡ moved_at h o (leaving b p K w)
-          → (if t then showing port.Exception k g σ J (at h o w) (Throwing b (around k p) K (with_event (at h o w)))
-          else leaving b p K (at h o w))
-          ≡ moved_at h o (if t then showing port.Exception k g σ J w (Throwing b (around k p) K (with_event w)) else leaving b p K w)
-      go true e = refl
-      go false e = e
-
   branched-outer : (s : Setup) (t : Term Text) (m : Barrier) (σ : Bindings Text) (J : List Item) (K : List Choice) (w : World)
       → branched s t m σ J K (at h o w) ≡ moved_at h o (branched s t m σ J K w)
   branched-outer s t m σ J K w =
@@ -202,6 +197,39 @@ module _ (h : Outside) (o : List ℕ) where
   again-outer s t k g σ J K w =
       paid-outer (nat_le (w.steps + 1) s.budget) s 1 w (λ u. silent (Forward (Execute t k g ∷ J) K σ u))
       (λ u. silent (Forward (Execute t k g ∷ J) K σ u)) refl
+
+  -- a ball that comes to a box which catches
+  ball-outer : (s : Setup) (k : ℕ) (g : Term Text) (σ : Bindings Text) (J : List Item) (K : List Choice) (b : Term Text) (p : List ℕ)
+      (w : World) (r : Option (Result Text))
+      → ball_unified s k g σ J K b p (at h o w) r ≡ moved_at h o (ball_unified s k g σ J K b p w r)
+  ball-outer s k g σ J K b p w None = refl
+  ball-outer s k g σ J K b p w (Some (None, left)) = refl
+  ball-outer s k g σ J K b p w (Some (Some τ, left)) =
+      again-outer s Recovery k g τ J (Fail k g σ J ∷ K) (record w { steps = s.budget - left })
+
+  -- a ball goes up
+  pub leaving-outer : (s : Setup) (b : Term Text) (p : List ℕ) (K : List Choice) (w : World)
+      → leaving s b p K (at h o w) ≡ moved_at h o (leaving s b p K w)
+  leaving-outer s b p [] w = refl
+  leaving-outer s b p (Redo k g σ J ∷ K) w = leaving-outer s b p K w
+  leaving-outer s b p (Branch t m σ J ∷ K) w = leaving-outer s b p K w
+  leaving-outer s b p (More cs k g σ J ∷ K) w = leaving-outer s b p K w
+  leaving-outer s b p (Again t k g σ J ∷ K) w = leaving-outer s b p K w
+  leaving-outer s b p (Condition n t m σ J ∷ K) w = leaving-outer s b p K w
+  leaving-outer s b p (Fail k g σ J ∷ K) w = go (is_open k p) (leaving-outer s b p K w)
+    where
+      go : (t : Bool) → leaving s b p K (at h o w) ≡ moved_at h o (leaving s b p K w)
+          → (if t then raised k g σ J K b (around k p) (at h o w) else leaving s b p K (at h o w))
+          ≡ moved_at h o (if t then raised k g σ J K b (around k p) w else leaving s b p K w)
+      go true e = refl
+      go false e = e
+  leaving-outer s b p (Catch k g σ J ∷ K) w = go (is_open k p) (leaving-outer s b p K w)
+    where
+      go : (t : Bool) → leaving s b p K (at h o w) ≡ moved_at h o (leaving s b p K w)
+          → (if t then ball_met s k g σ J K b (around k p) (at h o w) else leaving s b p K (at h o w))
+          ≡ moved_at h o (if t then ball_met s k g σ J K b (around k p) w else leaving s b p K w)
+      go true e = ball-outer s k g σ J K b (around k p) w (unify text_eq (s.budget - w.steps) σ ((b, catcher_of g) ∷ []))
+      go false e = e
 
   -- behind a solution
   behind-outer : (last : Bool) (K : List Choice) (w : World)
@@ -216,9 +244,9 @@ module _ (h : Outside) (o : List ℕ) where
   move-outer b n (Forward (Exit k g ∷ J) K σ w) = refl
   move-outer b n (Forward (Cut m ∷ J) K σ w) = refl
   move-outer b n (Forward (Execute t k g ∷ J) K σ w) =
-      let a : Act = act_of_goal (b - w.steps) g σ w in
-      ap (λ (x : Act). acted (nat_le (w.steps + x.cost) b) (setup_for b n) x (at h o w) (yielded k g J K σ)) (goal-outer
-      (b - w.steps) g σ w)
+      let a : Act = act_of_program (b - w.steps) t g σ w in
+      ap (λ (x : Act). acted (nat_le (w.steps + x.cost) b) (setup_for b n) x (at h o w) (yielded k g J K σ))
+      (program-outer (b - w.steps) t g σ w)
       ∙ acted-outer (nat_le (w.steps + a.cost) b) (setup_for b n) a k g J K σ w
   move-outer b n (Forward (Goal t m ∷ J) K σ w) =
       paid-outer (nat_le (w.steps + 1) b) (setup_for b n) 1 w (chosen (control t) t m J K σ) (chosen (control t) t m J K σ)
@@ -229,9 +257,10 @@ module _ (h : Outside) (o : List ℕ) where
   move-outer b n (Backward (Condition c t m σ J ∷ K) w) = branched-outer (setup_for b n) t m σ J K w
   move-outer b n (Backward (Again t k g σ J ∷ K) w) = again-outer (setup_for b n) t k g σ J K w
   move-outer b n (Backward (Fail k g σ J ∷ K) w) = refl
+  move-outer b n (Backward (Catch k g σ J ∷ K) w) = refl
   move-outer b n (Backward (More [] k g σ J ∷ K) w) = refl
   move-outer b n (Backward (More (c ∷ cs) k g σ J ∷ K) w) = tried-outer (setup_for b n) c k g σ J (with_more cs k g σ J K) w
-  move-outer b n (Throwing x p K w) = leaving-outer x p K w
+  move-outer b n (Throwing x p K w) = leaving-outer (setup_for b n) x p K w
   move-outer b n (Over r w) = refl
 
   -- what is owed before a move is the turn that it shows and what is owed after it, whatever lies outside

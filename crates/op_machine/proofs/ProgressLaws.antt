@@ -6,16 +6,17 @@ use Rattle.op_logic.specs.Term.{Term, shift}
 use Rattle.op_logic.specs.Bind.{Bindings, solve, unify, Solved as Result}
 use Rattle.op_trace.specs.declared.barrier.Barrier.{Barrier}
 use Rattle.op_trace.specs.Database.{Text, text_eq, Clause}
-use Rattle.op_trace.specs.World.{World, Execution, Item, Goal, Cut, Exit, Execute, Solved}
+use Rattle.op_trace.specs.World.{World, Execution, Recovery, Item, Goal, Cut, Exit, Execute, Solved}
 use Rattle.op_trace.specs.Act.{Yield, Fails, Succeeds, Succeeds_again, Runs, Throws, Halts, Act, Setup}
 use Rattle.op_trace.specs.Visit.{Stopped, Control, TrueGoal, FailGoal, CutGoal, Conjunction, Disjunction, IfThenElse, BoxedGoal, control}
 use Rattle.op_trace.specs.declared.port.Port.TheVariants as port
-use Rattle.op_trace.specs.Visit.{with_event, is_open, around, Inside, Clauses, WithoutProcedure, inside, counted_as, entered, Choice}
-use Rattle.op_trace.specs.Visit.{Redo, Branch, More, Again, Fail, Condition}
+use Rattle.op_trace.specs.Visit.{with_event, is_open, around, Inside, Clauses, WithoutProcedure, Protected, inside, last_choice, catcher_of}
+use Rattle.op_trace.specs.Visit.{counted_as, entered, Choice, Redo, Branch, More, Again, Fail, Catch, Condition}
 use Rattle.op_trace.proofs.WalkSteps.{IsLess, within-less}
 use Rattle.op_machine.specs.Resume.{keep, with_more, State, Forward, Backward, Throwing, Over, Moved, silent}
 use Rattle.op_machine.specs.Resume.{paid, pay, chosen, head_unified, tried}
-use Rattle.op_machine.specs.Resume.{branched, showing, entered_state, acted, yielded, executed_again, leaving, move, world_of}
+use Rattle.op_machine.specs.Resume.{branched, showing, entered_state, acted, yielded, executed_again, raised, ball_unified, ball_met}
+use Rattle.op_machine.specs.Resume.{leaving, move, world_of}
 use Rattle.op_machine.specs.inner.Bounds.{IsGoalFirst, Counted}
 
 abbrev pub count_in : State → ℕ
@@ -37,9 +38,10 @@ paid-onward false s n w h test below k = record { count = omega arith; steps = b
 -- the event of a call is counted
 pub entered-onward : (i : Inside) (s : Setup) (t : Term Text) (J : List Item) (K : List Choice) (σ : Bindings Text) (w : World)
     → IsOnward s w (showing port.Call (w.calls + 1) t σ J (record w { calls = w.calls + 1 })
-    (entered_state i (w.calls + 1) t J (Fail (w.calls + 1) t σ J ∷ K) σ (with_event (record w { calls = w.calls + 1 }))))
+    (entered_state i (w.calls + 1) t J (last_choice i (w.calls + 1) t σ J ∷ K) σ (with_event (record w { calls = w.calls + 1 }))))
 entered-onward (Clauses cs) s t J K σ w = record { count = omega arith; steps = omega arith }
 entered-onward WithoutProcedure s t J K σ w = record { count = omega arith; steps = omega arith }
+entered-onward Protected s t J K σ w = record { count = omega arith; steps = omega arith }
 
 pub chosen-onward : (q : Control) (s : Setup) (t : Term Text) (m : Barrier) (J : List Item) (K : List Choice) (σ : Bindings Text)
     (w : World)
@@ -97,18 +99,42 @@ pub again-onward : (s : Setup) (t : Execution) (k : ℕ) (g : Term Text) (σ : B
 again-onward s t k g σ J K w below =
     paid-onward (nat_le (w.steps + 1) s.budget) s 1 w _ refl below (λ fits. record { count = omega arith; steps = omega arith })
 
-pub leaving-onward : (s : Setup) (b : Term Text) (o : List ℕ) (K : List Choice) (w : World) → IsOnward s w (leaving b o K w)
-leaving-onward s b o [] w = record { count = omega arith; steps = omega arith }
-leaving-onward s b o (Redo k g σ J ∷ K) w = leaving-onward s b o K w
-leaving-onward s b o (Branch t m σ J ∷ K) w = leaving-onward s b o K w
-leaving-onward s b o (More cs k g σ J ∷ K) w = leaving-onward s b o K w
-leaving-onward s b o (Again t k g σ J ∷ K) w = leaving-onward s b o K w
-leaving-onward s b o (Condition n t m σ J ∷ K) w = leaving-onward s b o K w
-leaving-onward s b o (Fail k g σ J ∷ K) w = go (is_open k o) (leaving-onward s b o K w)
+-- a ball that comes to a box which catches
+pub unified-onward : (s : Setup) (k : ℕ) (g : Term Text) (σ : Bindings Text) (J : List Item) (K : List Choice) (b : Term Text)
+    (o : List ℕ) (w : World) (r : Option (Result Text))
+    → w.steps ≤ s.budget → IsLess (s.budget - w.steps) r → IsOnward s w (ball_unified s k g σ J K b o w r)
+unified-onward s k g σ J K b o w None below less = record { count = omega arith; steps = below }
+unified-onward s k g σ J K b o w (Some (None, left)) below less = record { count = omega arith; steps = omega arith }
+unified-onward s k g σ J K b o w (Some (Some τ, left)) below less =
+    let u : World = record w { steps = s.budget - left } in
+    let up : w.steps ≤ s.budget - left = omega arith in
+    let in_budget : s.budget - left ≤ s.budget = omega arith in
+    let inner : IsOnward s u (executed_again s Recovery k g τ J (Fail k g σ J ∷ K) u) =
+    again-onward s Recovery k g τ J (Fail k g σ J ∷ K) u in_budget in
+    record { count = inner.count; steps = omega (arith, inner.steps) }
+
+pub leaving-onward : (s : Setup) (b : Term Text) (o : List ℕ) (K : List Choice) (w : World) → w.steps ≤ s.budget
+    → IsOnward s w (leaving s b o K w)
+leaving-onward s b o [] w below = record { count = omega arith; steps = omega arith }
+leaving-onward s b o (Redo k g σ J ∷ K) w below = leaving-onward s b o K w below
+leaving-onward s b o (Branch t m σ J ∷ K) w below = leaving-onward s b o K w below
+leaving-onward s b o (More cs k g σ J ∷ K) w below = leaving-onward s b o K w below
+leaving-onward s b o (Again t k g σ J ∷ K) w below = leaving-onward s b o K w below
+leaving-onward s b o (Condition n t m σ J ∷ K) w below = leaving-onward s b o K w below
+leaving-onward s b o (Fail k g σ J ∷ K) w below = go (is_open k o) (leaving-onward s b o K w below)
   where
-    go : (t : Bool) → IsOnward s w (leaving b o K w)
-        → IsOnward s w (if t then showing port.Exception k g σ J w (Throwing b (around k o) K (with_event w)) else leaving b o K w)
+    go : (t : Bool) → IsOnward s w (leaving s b o K w)
+        → IsOnward s w (if t then raised k g σ J K b (around k o) w else leaving s b o K w)
     go true l = record { count = omega arith; steps = omega arith }
+    go false l = l
+leaving-onward s b o (Catch k g σ J ∷ K) w below = go (is_open k o) (leaving-onward s b o K w below)
+  where
+    go : (t : Bool) → IsOnward s w (leaving s b o K w)
+        → IsOnward s w (if t then ball_met s k g σ J K b (around k o) w else leaving s b o K w)
+    go true l =
+        unified-onward s k g σ J K b (around k o) w (unify text_eq (s.budget - w.steps) σ ((b, catcher_of g) ∷ [])) below
+        (within-less {A = Option (Bindings Text)} (s.budget - w.steps)
+        (solve text_eq (s.budget - w.steps) σ ((b, catcher_of g) ∷ [])))
     go false l = l
 
 pub move-onward : (s : Setup) (t : State) → (world_of t).steps ≤ s.budget → IsOnward s (world_of t) (move s t)
@@ -136,9 +162,10 @@ move-onward s (Backward (Branch t m σ J ∷ K) w) below = branched-onward s t m
 move-onward s (Backward (Condition n t m σ J ∷ K) w) below = branched-onward s t m σ J K w below
 move-onward s (Backward (Again t k g σ J ∷ K) w) below = again-onward s t k g σ J K w below
 move-onward s (Backward (Fail k g σ J ∷ K) w) below = record { count = omega arith; steps = omega arith }
+move-onward s (Backward (Catch k g σ J ∷ K) w) below = record { count = omega arith; steps = omega arith }
 move-onward s (Backward (More [] k g σ J ∷ K) w) below = record { count = omega arith; steps = omega arith }
 move-onward s (Backward (More (c ∷ cs) k g σ J ∷ K) w) below = tried-onward s c k g σ J (with_more cs k g σ J K) w below
-move-onward s (Throwing b o K w) below = leaving-onward s b o K w
+move-onward s (Throwing b o K w) below = leaving-onward s b o K w below
 move-onward s (Over r w) below = record { count = omega arith; steps = omega arith }
 
 -- what is left to do: steps, a cut or a try, and to be at the end
@@ -208,22 +235,47 @@ acted-lighter true s a k g J K σ w test below = go a.yield
     go (Halts i) = omega arith
 acted-lighter false s a k g J K σ w test below = omega arith
 
--- a ball that leaves no box is the end
-pub leaving-lighter : (s : Setup) (b : Term Text) (o : List ℕ) (K : List Choice) (w : World) → (leaving b o K w).turns ≡ []
-    → weight s (leaving b o K w).state < 3 * (s.budget - w.steps) + 1
-leaving-lighter s b o [] w e = omega arith
-leaving-lighter s b o (Redo k g σ J ∷ K) w e = leaving-lighter s b o K w e
-leaving-lighter s b o (Branch t m σ J ∷ K) w e = leaving-lighter s b o K w e
-leaving-lighter s b o (More cs k g σ J ∷ K) w e = leaving-lighter s b o K w e
-leaving-lighter s b o (Again t k g σ J ∷ K) w e = leaving-lighter s b o K w e
-leaving-lighter s b o (Condition n t m σ J ∷ K) w e = leaving-lighter s b o K w e
-leaving-lighter s b o (Fail k g σ J ∷ K) w e = go (is_open k o) (λ f. leaving-lighter s b o K w f) e
+-- a ball that is caught has paid a step
+pub unified-lighter : (s : Setup) (k : ℕ) (g : Term Text) (σ : Bindings Text) (J : List Item) (K : List Choice) (b : Term Text)
+    (o : List ℕ) (w : World) (r : Option (Result Text))
+    → w.steps ≤ s.budget → IsLess (s.budget - w.steps) r → (ball_unified s k g σ J K b o w r).turns ≡ []
+    → weight s (ball_unified s k g σ J K b o w r).state < 3 * (s.budget - w.steps) + 1
+unified-lighter s k g σ J K b o w None below less e = omega arith
+unified-lighter s k g σ J K b o w (Some (None, left)) below less e = cc
+unified-lighter s k g σ J K b o w (Some (Some τ, left)) below less e =
+    let u : World = record w { steps = s.budget - left } in
+    let up : w.steps ≤ s.budget - left = omega arith in
+    let in_budget : s.budget - left ≤ s.budget = omega arith in
+    let inner : weight s (executed_again s Recovery k g τ J (Fail k g σ J ∷ K) u).state < 3 * (s.budget - (s.budget - left)) + 1 =
+    paid-lighter (nat_le (s.budget - left + 1) s.budget) s 1 u _ refl in_budget
+    (λ fits. record { count = omega arith; steps = omega arith }) in
+    omega (arith, inner, up)
+
+-- a ball that leaves no box is the end, or is caught
+pub leaving-lighter : (s : Setup) (b : Term Text) (o : List ℕ) (K : List Choice) (w : World) → w.steps ≤ s.budget
+    → (leaving s b o K w).turns ≡ [] → weight s (leaving s b o K w).state < 3 * (s.budget - w.steps) + 1
+leaving-lighter s b o [] w below e = omega arith
+leaving-lighter s b o (Redo k g σ J ∷ K) w below e = leaving-lighter s b o K w below e
+leaving-lighter s b o (Branch t m σ J ∷ K) w below e = leaving-lighter s b o K w below e
+leaving-lighter s b o (More cs k g σ J ∷ K) w below e = leaving-lighter s b o K w below e
+leaving-lighter s b o (Again t k g σ J ∷ K) w below e = leaving-lighter s b o K w below e
+leaving-lighter s b o (Condition n t m σ J ∷ K) w below e = leaving-lighter s b o K w below e
+leaving-lighter s b o (Fail k g σ J ∷ K) w below e = go (is_open k o) (λ f. leaving-lighter s b o K w below f) e
   where
-    go : (t : Bool) → ((leaving b o K w).turns ≡ [] → weight s (leaving b o K w).state < 3 * (s.budget - w.steps) + 1)
-        → (if t then showing port.Exception k g σ J w (Throwing b (around k o) K (with_event w)) else leaving b o K w).turns ≡ []
-        → weight s (if t then showing port.Exception k g σ J w (Throwing b (around k o) K (with_event w)) else leaving b o K w).state
-        < 3 * (s.budget - w.steps) + 1
+    go : (t : Bool) → ((leaving s b o K w).turns ≡ [] → weight s (leaving s b o K w).state < 3 * (s.budget - w.steps) + 1)
+        → (if t then raised k g σ J K b (around k o) w else leaving s b o K w).turns ≡ []
+        → weight s (if t then raised k g σ J K b (around k o) w else leaving s b o K w).state < 3 * (s.budget - w.steps) + 1
     go true l f = cc
+    go false l f = l f
+leaving-lighter s b o (Catch k g σ J ∷ K) w below e = go (is_open k o) (λ f. leaving-lighter s b o K w below f) e
+  where
+    go : (t : Bool) → ((leaving s b o K w).turns ≡ [] → weight s (leaving s b o K w).state < 3 * (s.budget - w.steps) + 1)
+        → (if t then ball_met s k g σ J K b (around k o) w else leaving s b o K w).turns ≡ []
+        → weight s (if t then ball_met s k g σ J K b (around k o) w else leaving s b o K w).state < 3 * (s.budget - w.steps) + 1
+    go true l f =
+        unified-lighter s k g σ J K b (around k o) w (unify text_eq (s.budget - w.steps) σ ((b, catcher_of g) ∷ [])) below
+        (within-less {A = Option (Bindings Text)} (s.budget - w.steps)
+        (solve text_eq (s.budget - w.steps) σ ((b, catcher_of g) ∷ []))) f
     go false l f = l f
 
 -- a silent move that isn't at the end makes the state lighter
@@ -248,6 +300,7 @@ move-lighter s (Backward (Condition n t m σ J ∷ K) w) below live has counted 
 move-lighter s (Backward (Again t k g σ J ∷ K) w) below live has counted e =
     paid-lighter (nat_le (w.steps + 1) s.budget) s 1 w _ refl below (λ fits. record { count = omega arith; steps = omega arith })
 move-lighter s (Backward (Fail k g σ J ∷ K) w) below live has counted e = cc
+move-lighter s (Backward (Catch k g σ J ∷ K) w) below live has counted e = cc
 move-lighter s (Backward (More [] k g σ J ∷ K) w) below live has counted e = absurd has
 move-lighter s (Backward (More (c ∷ cs) k g σ J ∷ K) w) below live has counted e =
     paid-lighter (nat_le (w.steps + 1) s.budget) s 1 w _ refl below
@@ -255,5 +308,5 @@ move-lighter s (Backward (More (c ∷ cs) k g σ J ∷ K) w) below live has coun
     (unify text_eq (s.budget - (w.steps + 1)) σ ((g, shift w.variables c.head) ∷ [])) fits
     (within-less {A = Option (Bindings Text)} (s.budget - (w.steps + 1))
     (solve text_eq (s.budget - (w.steps + 1)) σ ((g, shift {N = Text} w.variables c.head) ∷ []))))
-move-lighter s (Throwing b o K w) below live has counted e = leaving-lighter s b o K w e
+move-lighter s (Throwing b o K w) below live has counted e = leaving-lighter s b o K w below e
 move-lighter s (Over r w) below live has counted e = absurd (live tt)

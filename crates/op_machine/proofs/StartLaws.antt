@@ -149,7 +149,7 @@ first-good c q body query f =
           (subst (λ (L : List (List Item)). 1 < length L) (sym f.continuations) (omega arith));
       values = subst (AreValues (take c.floor.terms c.bindings.terms) c.values.items) (sym f.names) f.values;
       failure = f.failure;
-      ball = subst (IsBall n) (sym f.ball) tt;
+      ball = subst (IsBall n c.bindings.count) (sym f.ball) tt;
       boxes = first-boxes c q body f;
       boxed = subst (λ (F : List Frame). AreBoxed c.frames.boxes c.continuations c.calls (length c.continuations) (reverse F))
           (sym f.frames) tt;

@@ -1,13 +1,14 @@
 -- A ball is thrown: a copy of a term is made, which goes up from a box.
-use Rattle.std.proofs.Common.{◌≡◌, ℕ, suc, ◌+◌, ◌-◌, ◌<◌, ◌≤◌, nat_eq, List, ◌∷◌, length, reverse, Some, Result, IfOk}
+use Rattle.std.proofs.Common.{◌≡◌, ℕ, ◌+◌, ◌-◌, ◌<◌, ◌≤◌, nat_eq, List, ◌∷◌, length, reverse, Some, Result, IfOk}
 use Rattle.std.proofs.Common.{refl, sym, ap, ◌∙◌, subst, arith}
 use Rattle.std.specs.List.{position_or_len}
 use Rattle.std.proofs.lemmas.Result.{IfOk-weaker}
-use Rattle.op_logic.specs.Term.{Term, var, int, node, Args, no_args, arg, size, args_size, rename_args}
+use Rattle.op_logic.specs.Term.{Term, var, int, node, Args, no_args, arg, size, IsWithin}
 use Rattle.op_logic.specs.Bind.{apply}
 use Rattle.op_logic.specs.Laws.{instance_of, instances_of}
-use Rattle.op_logic.specs.Names.{name_at, named, HasNames, ArgsHaveNames, HaveNames}
+use Rattle.op_logic.specs.Names.{name_at, HasNames, ArgsHaveNames, HaveNames}
 use Rattle.op_logic.proofs.UnifierNames.{apply-names}
+use Rattle.op_logic.proofs.RenamedUnification.{size-rename}
 use Rattle.op_term.specs.Places.{term_at}
 use Rattle.op_term.specs.Variables.{distinct_variables}
 use Rattle.op_bind.specs.Copied as bind
@@ -54,26 +55,16 @@ pub copied-names : (n first : ℕ) (t : Term ℕ) → HasNames n t → HasNames 
 copied-names n first t h =
     instance-names n (λ v. var (first + position_or_len (nat_eq v) (distinct_variables t))) (λ v. tt) t h
 
--- a term over texts has as many nodes
-mutual
-  pub size-named : (names : List (List ℕ)) (t : Term ℕ) → size (named names t) ≡ size t
-  size-named names (var v) = refl
-  size-named names (int i) = refl
-  size-named names (node f ts) = ap suc (args_size-named names ts)
-
-  args_size-named : (names : List (List ℕ)) (ts : Args ℕ) → args_size (rename_args (name_at names) ts) ≡ args_size ts
-  args_size-named names no_args = refl
-  args_size-named names (arg t ts) = let a = size-named names t in let b = args_size-named names ts in cc
-
 -- the names of a term under its bindings
 pub value-names : (c : Core) (r : ℕ) → IsGood c → HasGoal c r → HasNames (length c.store.names) (value_of c.bindings r)
 value-names c r good there =
     apply-names (length c.store.names) (bindings c.bindings) (term_at c.bindings.terms r) good.level.bound there.1
 
 -- a term goes up from a box
-pub raised-advances : (c : Core) (r k : ℕ) (ball : Term ℕ) → IsGood c → HasGoal c r → ball ≡ value_of c.bindings r
+pub raised-advances : (c : Core) (r k : ℕ) (ball : Term ℕ) → IsGood c → HasGoal c r → IsWithin c.bindings.count (value_of c.bindings r)
+    → ball ≡ value_of c.bindings r
     → Advances c (record c { ball = Some ball; mode = mode.Throwing k }) (ball_raised c r k) step.Silent
-raised-advances c r k ball good there value = record {
+raised-advances c r k ball good there within value = record {
   turns = refl;
   state = ap (λ (t : Term Text). Throwing t (open_in c.frames k) (choice_points_in c) (world_in c))
       (ap (goal_named c.store) value ∙ value-named c.store c.bindings r);
@@ -83,7 +74,10 @@ raised-advances c r k ball good there value = record {
     mode = tt;
     values = good.values;
     failure = good.failure;
-    ball = subst (HasNames (length c.store.names)) (sym value) (value-names c r good there);
+    ball = (
+      subst (HasNames (length c.store.names)) (sym value) (value-names c r good there),
+      subst (λ (t : Term ℕ). IsWithin c.bindings.count t) (sym value) within,
+    );
     boxes = good.boxes;
     boxed = good.boxed;
   };
@@ -133,7 +127,7 @@ module _ (c : Core) (s : State) (term : ℕ) (good : IsGood c) (grows : Grows c.
       let mid : Core = bound_on c s (c.budget - left) in
       let b : Term Text = apply (bindings_now c) (goal_now c term) in
       let z : size b ≡ size (value_of c.bindings term) =
-      ap size (sym (value-named c.store c.bindings term)) ∙ size-named c.store.names (value_of c.bindings term) in
+      ap size (sym (value-named c.store c.bindings term)) ∙ size-rename (name_at c.store.names) (value_of c.bindings term) in
       let vs : length (variables_of b) ≡ length (distinct_variables (value_of c.bindings term)) =
       ap length (ap variables_of (sym (value-named c.store c.bindings term)) ∙ variables-named c.store.names (value_of c.bindings term)) in
       let fits : c.steps + size b ≤ c.budget = omega arith in
@@ -171,7 +165,7 @@ thrown-spent c s term k g n new good below short still is =
     let m : Moved = ball_thrown c (goal_now c term) k g n in
     let b : Term Text = apply (bindings_now c) (goal_now c term) in
     let z : size b ≡ size (value_of c.bindings term) =
-    ap size (sym (value-named c.store c.bindings term)) ∙ size-named c.store.names (value_of c.bindings term) in
+    ap size (sym (value-named c.store c.bindings term)) ∙ size-rename (name_at c.store.names) (value_of c.bindings term) in
     subst (λ (x : Core). Advances c x m step.Silent) (sym is)
     (subst (λ (b : State). Advances c (record c { bindings = b; steps = c.budget; mode = mode.Over outcome.Spent }) m step.Silent)
     (sym still)

@@ -186,7 +186,7 @@ frames-clauses t floor v (f ∷ F) w a = go f.kept.kind a.2.kind
     u : Level
     u = level_at f v
 
-    go : (q : ChoiceKind) → IsKind (length t.names) q
+    go : (q : ChoiceKind) → IsKind (length t.names) (level_at f v).terms f.kept.goal q
         → HasClauses (Backward (choice_point_by t u q f.kept.goal f.rest ∷ choice_points_of t u F) w)
     go (kind.Redo c) k = tt
     go (kind.Branch m) k = tt
@@ -194,6 +194,7 @@ frames-clauses t floor v (f ∷ F) w a = go f.kept.kind a.2.kind
         HasClauses (Backward (More cs c (term_in t u f.kept.goal) (bindings_in t u) (items_in t u f.rest) ∷ choice_points_of t u F) w))
         (sym (clauses_from-some t rs i k.0).1.1) tt
     go (kind.Fail c) k = tt
+    go (kind.Catch c) k = tt
     go (kind.Condition c m) k = tt
 
 pub has-clauses : (t : Stored) (floor : ℕ) (v : Level) (x : Framed Alternative) (w : World) (b : Option (Term ℕ)) (q : Mode)

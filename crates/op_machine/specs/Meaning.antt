@@ -54,6 +54,7 @@ item_term t v (item.Goal r m) = world.Goal (term_in t v r) m
 item_term t v (item.Cut m) = world.Cut m
 item_term t v (item.Exit k r) = world.Exit k (term_in t v r)
 item_term t v (item.Execute k r) = world.Execute world.First k (term_in t v r)
+item_term t v (item.Recover k r) = world.Execute world.Recovery k (term_in t v r)
 
 abbrev pub items_in : Stored → Level → ℕ → List world.Item
 items_in t v n = map (item_term t v) (continuation_in v.continuations n)
@@ -64,6 +65,7 @@ choice_point_by t v (kind.Redo k) g n = visit.Redo k (term_in t v g) (bindings_i
 choice_point_by t v (kind.Branch m) g n = visit.Branch (term_in t v g) m (bindings_in t v) (items_in t v n)
 choice_point_by t v (kind.More k rs i) g n = visit.More (clauses_from t rs i) k (term_in t v g) (bindings_in t v) (items_in t v n)
 choice_point_by t v (kind.Fail k) g n = visit.Fail k (term_in t v g) (bindings_in t v) (items_in t v n)
+choice_point_by t v (kind.Catch k) g n = visit.Catch k (term_in t v g) (bindings_in t v) (items_in t v n)
 choice_point_by t v (kind.Condition c m) g n = visit.Condition c (term_in t v g) m (bindings_in t v) (items_in t v n)
 
 abbrev pub choice_point_of : Stored → Level → Frame → visit.Choice

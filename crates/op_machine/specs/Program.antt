@@ -4,7 +4,7 @@ use Rattle.op_logic.specs.Term.{Term}
 use Rattle.op_logic.specs.Names.{named}
 use Rattle.op_bind.specs.declared.places.Clause.{Clause as NumberedClause}
 use Rattle.op_trace.specs.Database.{Text, Clause}
-use Rattle.op_trace.specs.Visit.{Inside, Clauses, WithoutProcedure}
+use Rattle.op_trace.specs.Visit.{Inside, Clauses, inside_procedure}
 use Rattle.op_store.specs.declared.procedures.pi.Pi.{Pi}
 use Rattle.op_store.specs.Stored.{Stored}
 use Rattle.op_store.specs.NumberedProcedures.{clause_named, IsNumberedClause}
@@ -27,6 +27,6 @@ abbrev pub AreKnown : ℕ → List NumberedClause → Type 0
 AreKnown n snapshot = All (λ r. IsKnown n r) snapshot
 
 -- what is in the box of a goal, by the clauses of its procedure
-abbrev pub inside_snapshot : Stored → Option (List NumberedClause) → Inside
-inside_snapshot t None = WithoutProcedure
-inside_snapshot t (Some snapshot) = Clauses (clauses_from t snapshot 0)
+abbrev pub inside_snapshot : Stored → Option (List NumberedClause) → Term Text → Inside
+inside_snapshot t None g = inside_procedure None g
+inside_snapshot t (Some snapshot) g = Clauses (clauses_from t snapshot 0)

@@ -7,13 +7,14 @@ use Rattle.op_trace.specs.declared.port.Port.TheVariants as port
 use Rattle.op_trace.specs.declared.barrier.Barrier.{Barrier}
 use Rattle.op_trace.specs.declared.barrier.Barrier.TheVariants.{Call, InCondition, AtSuccess}
 use Rattle.op_trace.specs.Database.{Text, text_eq, Clause}
-use Rattle.op_trace.specs.World.{World, same_barrier, Execution, First, Item, Goal, Cut, Exit, Execute, open_boxes, Turn, Shown, Solved}
+use Rattle.op_trace.specs.World.{World, same_barrier, Execution, First, Recovery, Item, Goal, Cut, Exit, Execute, open_boxes, Turn, Shown}
+use Rattle.op_trace.specs.World.{Solved}
 use Rattle.op_trace.specs.Act.{Yield, Fails, Succeeds, Succeeds_again, Runs, Throws, Halts, Act, Setup}
 use Rattle.op_trace.specs.Visit.{Verdict, Failed, CutTo, Thrown, Stopped, Halted, Spent, is_open, around, Visited}
 use Rattle.op_trace.specs.Visit.{gives, and_then, event_of, with_event, Control, TrueGoal}
 use Rattle.op_trace.specs.Visit.{FailGoal, CutGoal, Conjunction, Disjunction, IfThenElse, BoxedGoal, control, Inside, Clauses}
-use Rattle.op_trace.specs.Visit.{WithoutProcedure, inside, entered, Choice, Redo}
-use Rattle.op_trace.specs.Visit.{Branch, More, Again, Fail, Condition, counted_as, after, visit}
+use Rattle.op_trace.specs.Visit.{WithoutProcedure, Protected, inside, last_choice, catcher_of, entered, Choice, Redo}
+use Rattle.op_trace.specs.Visit.{Branch, More, Again, Fail, Catch, Condition, counted_as, after, visit}
 
 -- where no choice point is left, a cut leaves nothing more to fail
 abbrev pub at_top : Verdict → World → Visited
@@ -29,15 +30,15 @@ unfoldable pub resume : Setup → List Choice → Verdict → World → Visited
 resume s [] r w = at_top r w
 resume s (c ∷ K) r w = and_then (after (visit s) s c r w) (resume s K)
 
--- a choice point to which a cut to a barrier comes, and which it keeps: a box's own, which makes its fail event, and a condition's for a
--- cut
--- inside the condition
+-- a choice point to which a cut to a barrier comes, and which it keeps: a box's own, which makes its fail event and may catch a ball, and a
+-- condition's for a cut inside the condition
 abbrev pub stays : Choice → Barrier → Bool
 stays (Redo k g σ J) m = false
 stays (Branch t b σ J) m = false
 stays (More cs k g σ J) m = false
 stays (Again t k g σ J) m = false
 stays (Fail k g σ J) m = same_barrier m (Call k)
+stays (Catch k g σ J) m = same_barrier m (Call k)
 stays (Condition n t b σ J) m = same_barrier m (InCondition n)
 
 -- one to which it comes, and which it drops as the last: a condition's, where the condition has succeeded
@@ -47,6 +48,7 @@ goes (Branch t b σ J) m = false
 goes (More cs k g σ J) m = false
 goes (Again t k g σ J) m = false
 goes (Fail k g σ J) m = false
+goes (Catch k g σ J) m = false
 goes (Condition n t b σ J) m = same_barrier m (AtSuccess n)
 
 -- what a cut to a barrier keeps
@@ -96,12 +98,14 @@ with_more (c ∷ cs) k g σ J K = More (c ∷ cs) k g σ J ∷ K
 abbrev pub entered_state : Inside → ℕ → Term Text → List Item → List Choice → Bindings Text → World → State
 entered_state (Clauses cs) k g J K σ w = Backward (with_more cs k g σ J K) w
 entered_state WithoutProcedure k g J K σ w = Forward (Execute First k g ∷ J) K σ w
+entered_state Protected k g J K σ w = Forward (Execute First k g ∷ J) K σ w
 
 abbrev pub invoked : Term Text → List Item → List Choice → Bindings Text → World → Moved
 invoked g J K σ w =
     let k : ℕ = w.calls + 1 in
     let u : World = record w { calls = k } in
-    showing port.Call k g σ J u (entered_state (inside w.database g) k g J (Fail k g σ J ∷ K) σ (with_event u))
+    let i : Inside = inside w.database g in
+    showing port.Call k g σ J u (entered_state i k g J (last_choice i k g σ J ∷ K) σ (with_event u))
 
 abbrev pub acted : Bool → Setup → Act → World → (Yield → World → Moved) → Moved
 acted true s a w h = h a.yield (record (counted_as w a.after) { steps = w.steps + a.cost })
@@ -159,16 +163,31 @@ branched s t m σ J K w = pay s 1 w (λ u. silent (Forward (Goal t m ∷ J) K σ
 abbrev pub executed_again : Setup → Execution → ℕ → Term Text → Bindings Text → List Item → List Choice → World → Moved
 executed_again s t k g σ J K w = pay s 1 w (λ u. silent (Forward (Execute t k g ∷ J) K σ u))
 
--- a ball leaves the next open box, which shows it; where there is none, it is the end
-abbrev pub leaving : Term Text → List ℕ → List Choice → World → Moved
-leaving b o [] w = silent (Over (Thrown b o) w)
-leaving b o (Redo k g σ J ∷ K) w = leaving b o K w
-leaving b o (Branch t m σ J ∷ K) w = leaving b o K w
-leaving b o (More cs k g σ J ∷ K) w = leaving b o K w
-leaving b o (Again t k g σ J ∷ K) w = leaving b o K w
-leaving b o (Fail k g σ J ∷ K) w =
-    if is_open k o then showing port.Exception k g σ J w (Throwing b (around k o) K (with_event w)) else leaving b o K w
-leaving b o (Condition n t m σ J ∷ K) w = leaving b o K w
+-- a ball leaves a box, which shows it, and these boxes are around it
+abbrev pub raised : ℕ → Term Text → Bindings Text → List Item → List Choice → Term Text → List ℕ → World → Moved
+raised k g σ J K b o w = showing port.Exception k g σ J w (Throwing b o K (with_event w))
+
+abbrev pub ball_unified : Setup → ℕ → Term Text → Bindings Text → List Item → List Choice → Term Text → List ℕ → World
+    → Option (Result Text) → Moved
+ball_unified s k g σ J K b o w None = silent (Over Spent (record w { steps = s.budget }))
+ball_unified s k g σ J K b o w (Some (None, left)) = raised k g σ J K b o (record w { steps = s.budget - left })
+ball_unified s k g σ J K b o w (Some (Some τ, left)) =
+    executed_again s Recovery k g τ J (Fail k g σ J ∷ K) (record w { steps = s.budget - left })
+
+-- a ball comes to a box that catches
+abbrev pub ball_met : Setup → ℕ → Term Text → Bindings Text → List Item → List Choice → Term Text → List ℕ → World → Moved
+ball_met s k g σ J K b o w = ball_unified s k g σ J K b o w (unify text_eq (s.budget - w.steps) σ ((b, catcher_of g) ∷ []))
+
+-- a ball comes to the next open box, which shows it or catches it; where there is none, it is the end
+abbrev pub leaving : Setup → Term Text → List ℕ → List Choice → World → Moved
+leaving s b o [] w = silent (Over (Thrown b o) w)
+leaving s b o (Redo k g σ J ∷ K) w = leaving s b o K w
+leaving s b o (Branch t m σ J ∷ K) w = leaving s b o K w
+leaving s b o (More cs k g σ J ∷ K) w = leaving s b o K w
+leaving s b o (Again t k g σ J ∷ K) w = leaving s b o K w
+leaving s b o (Fail k g σ J ∷ K) w = if is_open k o then raised k g σ J K b (around k o) w else leaving s b o K w
+leaving s b o (Catch k g σ J ∷ K) w = if is_open k o then ball_met s k g σ J K b (around k o) w else leaving s b o K w
+leaving s b o (Condition n t m σ J ∷ K) w = leaving s b o K w
 
 abbrev pub move : Setup → State → Moved
 move s (Forward [] K σ w) = at_solution s K σ w
@@ -181,10 +200,11 @@ move s (Backward (Redo k g σ J ∷ K) w) = showing port.Redo k g σ J w (Backwa
 move s (Backward (Branch t m σ J ∷ K) w) = branched s t m σ J K w
 move s (Backward (Condition n t m σ J ∷ K) w) = branched s t m σ J K w
 move s (Backward (Fail k g σ J ∷ K) w) = showing port.Fail k g σ J w (Backward K (with_event w))
+move s (Backward (Catch k g σ J ∷ K) w) = showing port.Fail k g σ J w (Backward K (with_event w))
 move s (Backward (Again t k g σ J ∷ K) w) = executed_again s t k g σ J K w
 move s (Backward (More [] k g σ J ∷ K) w) = silent (Backward K w)
 move s (Backward (More (c ∷ cs) k g σ J ∷ K) w) = tried s c k g σ J (with_more cs k g σ J K) w
-move s (Throwing b o K w) = leaving b o K w
+move s (Throwing b o K w) = leaving s b o K w
 move s (Over r w) = silent (Over r w)
 
 abbrev pub world_of : State → World

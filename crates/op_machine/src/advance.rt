@@ -50,7 +50,7 @@ impl Core {
 
     // An outcome as it is answered, with a copy of the ball.
     fn ending(&self, outcome: Outcome) -> Result<Ending, Memory>
-        requires { IsBall (length self.now.store.names) self.now.ball }
+        requires { IsBall (length self.now.store.names) self.now.bindings.count self.now.ball }
         ensures ending { IfOk result (λ e. ending_of (verdict_of self.now.store self.now.frames self.now.ball outcome)
             ≡ ending_for self.now.store.names e) }
         ensures names { IfOk result (λ e. HasBallNames (length self.now.store.names) e) }
@@ -74,7 +74,7 @@ impl Core {
         match self.mode {
             Mode::Forward { items } => self.forward(items),
             Mode::Backward => self.backward(),
-            Mode::Throwing { inner } => Ok(self.leave_box(inner)),
+            Mode::Throwing { inner } => self.leave_box(inner),
             Mode::Over { outcome: _ } => Ok(Step::Silent),
         }
     }
@@ -115,6 +115,7 @@ impl Core {
             }
             Item::Exit { call, goal } => self.exit_box(call, goal, rest),
             Item::Execute { call, goal } => self.execute_goal(call, goal, rest),
+            Item::Recover { call, goal } => self.run_part(2, call, goal, rest),
         }
     }
 
@@ -164,6 +165,7 @@ impl Core {
                 next,
             } => self.try_clauses(snapshot, *next, *call, goal, rest),
             ChoiceKind::Fail { call } => Ok(self.show_and_go_back(Port::Fail, *call, goal, rest)),
+            ChoiceKind::Catch { call } => Ok(self.show_and_go_back(Port::Fail, *call, goal, rest)),
             ChoiceKind::Condition { barrier, .. } => self.try_branch(goal, *barrier, rest),
         }
     }

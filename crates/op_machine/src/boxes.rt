@@ -1,14 +1,20 @@
-ghost use Rattle.std.specs.Prelude.{◌≡◌, ◌+◌, length, IfOk, OnOk};
-ghost use Rattle.op_machine.specs.Meaning.{world_in, items_now, goal_now, bindings_now, choice_points_in, event_seen};
-ghost use Rattle.op_machine.specs.inner.Invariant.{IsGood, HasItems, HasGoal, HasCalled, CanGrow};
+ghost use Rattle.std.specs.Prelude.{◌≡◌, ◌+◌, ℕ, length, IfOk, OnOk, None};
+ghost use Rattle.op_machine.specs.Meaning.{world_in, level_in, items_now, goal_now, bindings_now, choice_points_in, choice_point_by};
+ghost use Rattle.op_machine.specs.Meaning.{event_seen};
+ghost use Rattle.op_machine.specs.Program.{inside_snapshot};
+ghost use Rattle.op_machine.specs.inner.Boxes.{IsTried};
+ghost use Rattle.op_machine.specs.inner.Invariant.{IsGood, IsKind, HasItems, HasGoal, HasCalled, CanGrow};
+ghost use Rattle.op_store.specs.Stored.{database_of};
 ghost use Rattle.op_machine.specs.inner.Moves.{Keeps, Advances, exit_moved, box_invoked};
 ghost use Rattle.op_machine.specs.Resume.{Backward, showing};
-ghost use Rattle.op_trace.specs.Visit.{event_of, with_event};
+ghost use Rattle.op_trace.specs.Visit.{event_of, with_event, inside, inside_procedure, last_choice};
 
+use crate::builtin_kind::is_catch_goal;
 use crate::choice_points::ChoiceKind;
 use crate::core_state::{Core, Mode, Seen, Step};
 use op_base::Memory;
 use op_bind::Ref;
+use op_store::Snapshot;
 use op_trace::Port;
 
 impl Core {
@@ -24,8 +30,10 @@ impl Core {
     {
         let call = self.call_box(goal, rest)?;
         self.show_event(Port::Call, call, goal, rest);
-        self.push_choice_point(ChoiceKind::Fail { call }, goal, rest)?;
-        self.enter_box(call, goal, rest)?;
+        let clauses = self.clauses_of(goal)?;
+        let kind = self.last_kind(&clauses, call, goal);
+        self.push_choice_point(kind, goal, rest)?;
+        self.enter_box(clauses, call, goal, rest)?;
         Ok(Step::Event)
     }
 
@@ -47,6 +55,41 @@ impl Core {
         let mark = self.bindings.mark();
         self.frames.push_box(number, parent, goal, mark)?;
         Ok(number)
+    }
+
+    // What the choice point of a box does, below those of its alternatives: that of catch/3 may catch a ball.
+    fn last_kind(&self, clauses: &Option<Snapshot>, call: u64, goal: Ref) -> ChoiceKind
+        requires goal { HasGoal self.now goal }
+        requires inside { inside (database_of self.now.store) (goal_now self.now goal)
+            ≡ inside_snapshot self.now.store clauses.now (goal_now self.now goal) }
+        ensures last { (n : ℕ) → choice_point_by self.now.store (level_in self.now) result goal n
+            ≡ last_choice (inside (database_of self.now.store) (goal_now self.now goal)) call (goal_now self.now goal)
+            (bindings_now self.now) (items_now self.now n) }
+        ensures kind { IsKind (length self.now.store.names) self.now.bindings.terms goal result }
+        ensures tried { (n : ℕ) → HasCalled self.now call goal n
+            → IsTried self.now.frames.boxes self.now.calls self.now.continuations result goal n }
+    {
+        match clauses {
+            Some(_) => ChoiceKind::Fail { call },
+            None => self.last_kind_alone(call, goal),
+        }
+    }
+
+    // The same for a goal without a procedure.
+    fn last_kind_alone(&self, call: u64, goal: Ref) -> ChoiceKind
+        requires goal { HasGoal self.now goal }
+        ensures last { (n : ℕ) → choice_point_by self.now.store (level_in self.now) result goal n
+            ≡ last_choice (inside_procedure None (goal_now self.now goal)) call (goal_now self.now goal)
+            (bindings_now self.now) (items_now self.now n) }
+        ensures kind { IsKind (length self.now.store.names) self.now.bindings.terms goal result }
+        ensures tried { (n : ℕ) → HasCalled self.now call goal n
+            → IsTried self.now.frames.boxes self.now.calls self.now.continuations result goal n }
+    {
+        if is_catch_goal(&self.store, self.bindings.outline(&goal)) {
+            ChoiceKind::Catch { call }
+        } else {
+            ChoiceKind::Fail { call }
+        }
     }
 
     // The exit of a box, which is redone when the machine comes back to it.

@@ -3,7 +3,9 @@ ghost use Rattle.op_logic.specs.Term.{Term, args_of, arity};
 ghost use Rattle.op_logic.specs.Bind.{Bindings};
 ghost use Rattle.op_logic.specs.Names.{HasNames};
 ghost use Rattle.op_term.specs.Head.{head};
+ghost use Rattle.std.specs.Bool.{OnTrue, OnFalse};
 ghost use Rattle.op_trace.specs.Builtins.{act_of_goal};
+ghost use Rattle.op_trace.specs.Visit.{is_catch};
 ghost use Rattle.op_trace.specs.Database.{Text};
 ghost use Rattle.op_trace.specs.World.{World};
 ghost use Rattle.op_machine.specs.Program.{goal_named};
@@ -13,7 +15,7 @@ ghost use Rattle.op_machine.specs.declared.builtin_kind.Around.TheVariants.{Alon
 
 use crate::goal_kind::names_law;
 use op_store::Store;
-use op_store::names::control::{CALL, HALT, NOT, ONCE, THROW};
+use op_store::names::control::{CALL, CATCH, HALT, NOT, ONCE, THROW};
 use op_term::{Node, Sym};
 
 /// What stands around a goal that runs in the box of another.
@@ -32,6 +34,8 @@ pub enum Around {
 pub enum Builtin {
     /// The first argument runs in the box.
     Run(Around),
+    /// catch/3, of which the first argument runs in the box.
+    Catch,
     /// throw/1.
     Throw,
     /// halt/0.
@@ -103,11 +107,36 @@ fn single_builtin(name: Sym) -> Builtin
 fn longer_builtin(name: Sym, arity: u64) -> Builtin
     ensures call { name.0 ≡ CALL.0 → arity ≤ 8 → result ≡ builtin.Run Alone }
     ensures long { 8 < arity → result ≡ builtin.Unknown name arity }
-    ensures other { name.0 ≢ CALL.0 → result ≡ builtin.Unknown name arity }
+    ensures catch { name.0 ≡ CATCH.0 → arity ≡ 3 → result ≡ builtin.Catch }
+    ensures other_catch { name.0 ≡ CATCH.0 → arity ≢ 3 → result ≡ builtin.Unknown name arity }
+    ensures other { name.0 ≢ CALL.0 → name.0 ≢ CATCH.0 → result ≡ builtin.Unknown name arity }
 {
     if name == CALL && arity <= 8 {
         Builtin::Run(Around::Alone)
+    } else if name == CATCH && arity == 3 {
+        Builtin::Catch
     } else {
         Builtin::Unknown(name, arity)
     }
+}
+
+/// Whether a term with this outermost node is a goal of catch/3, over the names of a store.
+pub(crate) fn is_catch_goal(store: &Store, node: Node) -> bool
+    ensures catch { (g : Term _) → head g ≡ node → result ≡ is_catch (goal_named store.now g) }
+    ensures three { OnTrue result ((g : Term _) → head g ≡ node → arity (args_of g) ≡ 3) }
+{
+    names_law(store);
+    match node {
+        Node::Struct(name, arity) => is_catch_name(name, arity),
+        Node::Var(_) => false,
+        Node::Int(_) => false,
+        Node::Atom(_) => false,
+    }
+}
+
+fn is_catch_name(name: Sym, arity: u64) -> bool
+    ensures yes { OnTrue result ((name.0 ≡ CATCH.0) × (arity ≡ 3)) }
+    ensures no { OnFalse result (name.0 ≡ CATCH.0 → arity ≡ 3 → ⊥) }
+{
+    name == CATCH && arity == 3
 }

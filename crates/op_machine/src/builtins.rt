@@ -1,10 +1,10 @@
 ghost use Rattle.std.specs.Prelude.{◌≡◌, ◌<◌, ◌≤◌, ◌++◌, ℕ, IfOk, OnOk, length, map, drop, take, All};
-ghost use Rattle.op_logic.specs.Term.{node, args_of, arity};
+ghost use Rattle.op_logic.specs.Term.{node, args_of, arity, nth_arg, IsWithin};
 ghost use Rattle.op_logic.specs.Bind.{follow};
 ghost use Rattle.op_logic.specs.Names.{name_at, HaveNames};
 ghost use Rattle.op_term.specs.Places.{term_at};
 ghost use Rattle.op_term.specs.Arguments.{args_list};
-ghost use Rattle.op_bind.specs.State.{resolved};
+ghost use Rattle.op_bind.specs.State.{resolved, value_of};
 ghost use Rattle.op_trace.specs.Act.{Halts, done};
 ghost use Rattle.op_trace.specs.Builtins.{instantiation_error, type_error, unknown};
 ghost use Rattle.op_trace.specs.Builtins as builtins;
@@ -12,7 +12,7 @@ ghost use Rattle.op_machine.specs.Meaning.{world_in, goal_now, bindings_now};
 ghost use Rattle.op_machine.specs.inner.Invariant.{IsGood, HasItems, HasGoal, HasCalled};
 ghost use Rattle.op_machine.specs.inner.BuiltinKinds.{first_argument as the_first_argument, more_arguments, with_more_arguments};
 ghost use Rattle.op_machine.specs.inner.Moves.{Keeps, Advances, Makes, act_moved, steps_left, goal_executed, ball_thrown, body_run};
-ghost use Rattle.op_machine.specs.inner.Moves.{ball_raised, argument_run, goal_run};
+ghost use Rattle.op_machine.specs.inner.Moves.{ball_raised, argument_run, part_run, goal_run};
 ghost use Rattle.op_machine.specs.declared.core_state.Step.TheVariants as step;
 
 use crate::builtin_kind::{Around, Builtin, builtin_of};
@@ -39,6 +39,7 @@ impl Core {
     {
         match builtin_of(&self.store, self.bindings.outline(&goal)) {
             Builtin::Run(around) => self.run_argument(around, call, goal, rest),
+            Builtin::Catch => self.run_part(0, call, goal, rest),
             Builtin::Throw => self.throw_argument(call, goal, rest),
             Builtin::Halt => Ok(self.halt(0)),
             Builtin::HaltWith => self.halt_with(call, goal, rest),
@@ -72,7 +73,19 @@ impl Core {
         ensures there { HasGoal self.now result }
         ensures value { goal_now self.now result ≡ follow (bindings_now self.now) (the_first_argument (goal_now self.now goal)) }
     {
-        self.bindings.followed(&self.bindings.argument(&goal, 0))
+        self.followed_argument(goal, 0)
+    }
+
+    // An argument of a goal, by its place, followed.
+    fn followed_argument(&self, goal: Ref, place: u64) -> Ref
+        requires goal { HasGoal self.now goal }
+        requires bound { HaveNames (length self.now.store.names) (resolved self.now.bindings.terms self.now.bindings.bound) }
+        requires argument { place < arity (args_of (term_at self.now.bindings.terms goal)) }
+        ensures there { HasGoal self.now result }
+        ensures value { goal_now self.now result ≡ follow (bindings_now self.now) (nth_arg (args_of (goal_now self.now goal)) place) }
+    {
+        self.bindings
+            .followed(&self.bindings.argument(&goal, place))
     }
 
     fn halt_with(&mut self, call: u64, goal: Ref, rest: u64) -> Result<Step, Memory>
@@ -209,6 +222,7 @@ impl Core {
     fn raise(&mut self, ball: Ref, call: u64) -> Result<(), Memory>
         requires good { IsGood self.old }
         requires ball { HasGoal self.old ball }
+        requires within { IsWithin self.old.bindings.count (value_of self.old.bindings ball) }
         ensures advances { OnOk result (Advances self.old self.new (ball_raised self.old ball call) step.Silent) }
         ensures keeps { Keeps self.old self.new }
     {
@@ -246,6 +260,30 @@ impl Core {
         }
         let whole = self.make_goal(argument, goal)?;
         self.run(around, whole, call, goal, rest)
+    }
+
+    // An argument of a goal, by its place, runs in its box, as that of call/1 does.
+    pub(crate) fn run_part(
+        &mut self,
+        place: u64,
+        call: u64,
+        goal: Ref,
+        rest: u64,
+    ) -> Result<Step, Memory>
+        requires good { IsGood self.old }
+        requires steps { self.old.steps ≤ self.old.budget }
+        requires there { HasItems self.old rest }
+        requires goal { HasGoal self.old goal }
+        requires called { HasCalled self.old call goal rest }
+        requires argument { place < arity (args_of (term_at self.old.bindings.terms goal)) }
+        ensures advances { IfOk result (Advances self.old self.new (part_run self.old place call goal rest)) }
+        ensures keeps { Keeps self.old self.new }
+    {
+        let argument = self.followed_argument(goal, place);
+        if let Node::Var(_) = self.bindings.outline(&argument) {
+            return self.throw_instantiation_error(call, goal, rest);
+        }
+        self.run(Around::Alone, argument, call, goal, rest)
     }
 
     // A goal with the arguments that stand behind the first of another; a number takes none.

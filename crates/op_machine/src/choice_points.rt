@@ -5,7 +5,7 @@ ghost use Rattle.op_machine.specs.Program.{clauses_from, AreKnown};
 ghost use Rattle.op_machine.specs.Resume.{keep, with_more};
 ghost use Rattle.op_machine.specs.inner.Boxes.{IsTried, boxes_before};
 ghost use Rattle.op_machine.specs.inner.Cuts.{frame_stays, frame_goes, keep_frames};
-ghost use Rattle.op_bind.specs.State.{undone};
+ghost use Rattle.op_bind.specs.State.{undone, mark_of, IsGoodMark};
 ghost use Rattle.op_frames.specs.Frames.{open_from};
 
 use crate::core_state::Core;
@@ -36,6 +36,10 @@ pub enum ChoiceKind {
     Fail {
         call: u64,
     },
+    /// A box has no alternative left, and may catch a ball that comes out of it.
+    Catch {
+        call: u64,
+    },
     /// The condition with this number has no solution, and the else branch is tried; a cut in it cuts to the barrier.
     Condition {
         number: u64,
@@ -64,6 +68,7 @@ fn stays(choice: &Choice<Alternative>, barrier: Barrier) -> bool
         ChoiceKind::Branch { .. } => false,
         ChoiceKind::More { .. } => false,
         ChoiceKind::Fail { call } => barrier.is(Barrier::Call(*call)),
+        ChoiceKind::Catch { call } => barrier.is(Barrier::Call(*call)),
         ChoiceKind::Condition { number, .. } => barrier.is(Barrier::InCondition(*number)),
     }
 }
@@ -107,7 +112,7 @@ impl Core {
         requires good { IsGood self.old }
         requires there { HasItems self.old rest }
         requires goal { HasGoal self.old goal }
-        requires kind { IsKind (length self.old.store.names) kind }
+        requires kind { IsKind (length self.old.store.names) self.old.bindings.terms goal kind }
         requires tried { IsTried self.old.frames.boxes self.old.calls self.old.continuations kind goal rest }
         ensures choices { OnOk result (choice_points_in self.new
             ≡ choice_point_by self.old.store (level_in self.old) kind goal rest ∷ choice_points_in self.old) }
@@ -115,10 +120,27 @@ impl Core {
         ensures rest { self.new ≡ record self.old { frames = self.new.frames } }
         ensures boxes { self.new.frames.boxes ≡ self.old.frames.boxes }
     {
+        let choice = self.choice_now(kind, goal, rest);
+        self.frames.push_choice(choice)?;
+        Ok(())
+    }
+
+    // A choice point of the present moment.
+    pub(crate) fn choice_now(&self, kind: ChoiceKind, goal: Ref, rest: u64) -> Choice<Alternative>
+        ensures mark { result.mark ≡ mark_of self.now.bindings }
+        ensures good { IsGoodMark self.now.bindings result.mark }
+        ensures rest { result.rest ≡ rest }
+        ensures kept { result.kept ≡ record {
+          goal = goal;
+          continuations = length self.now.continuations;
+          calls = self.now.calls;
+          kind = kind;
+        } }
+    {
         let mark = self.bindings.mark();
         let continuations = self.continuations.len();
         let calls = self.calls;
-        self.frames.push_choice(Choice {
+        Choice {
             mark,
             rest,
             kept: Alternative {
@@ -127,8 +149,7 @@ impl Core {
                 calls,
                 kind,
             },
-        })?;
-        Ok(())
+        }
     }
 
     // Clauses from one on are tried, where there are any.

@@ -44,11 +44,20 @@ fn places_law(snapshot: &Snapshot)
 
 impl Core {
     // A box is entered: the clauses of its goal's procedure are tried by going back to them, and a goal without a procedure is executed.
-    pub(crate) fn enter_box(&mut self, call: u64, goal: Ref, rest: u64) -> Result<(), Memory>
+    pub(crate) fn enter_box(
+        &mut self,
+        clauses: Option<Snapshot>,
+        call: u64,
+        goal: Ref,
+        rest: u64,
+    ) -> Result<(), Memory>
         requires good { IsGood self.old }
         requires there { HasItems self.old rest }
         requires goal { HasGoal self.old goal }
         requires called { HasCalled self.old call goal rest }
+        requires inside { inside (database_of self.old.store) (goal_now self.old goal)
+            ≡ inside_snapshot self.old.store clauses (goal_now self.old goal) }
+        requires known { AreKnown (length self.old.store.names) (snapshot_clauses clauses) }
         ensures state { OnOk result (state_of self.new ≡ box_entered self.old call goal rest) }
         ensures good { OnOk result (IsGood self.new) }
         ensures rest { OnOk result (self.new ≡ record self.old {
@@ -58,7 +67,7 @@ impl Core {
         }) }
         ensures keeps { Keeps self.old self.new }
     {
-        match self.clauses_of(goal)? {
+        match clauses {
             Some(snapshot) => {
                 self.push_more(&snapshot, 0, call, goal, rest)?;
                 self.mode = Mode::Backward;
@@ -72,10 +81,10 @@ impl Core {
     }
 
     // The clauses of a goal's procedure at this moment, or None where there is no such procedure.
-    fn clauses_of(&self, goal: Ref) -> Result<Option<Snapshot>, Memory>
+    pub(crate) fn clauses_of(&self, goal: Ref) -> Result<Option<Snapshot>, Memory>
         requires { HasGoal self.now goal }
         ensures inside { IfOk result (λ o. inside (database_of self.now.store) (goal_now self.now goal)
-            ≡ inside_snapshot self.now.store o) }
+            ≡ inside_snapshot self.now.store o (goal_now self.now goal)) }
         ensures known { IfOk result (λ o. AreKnown (length self.now.store.names) (snapshot_clauses o)) }
     {
         match pi_of(self.bindings.outline(&goal)) {

@@ -23,6 +23,8 @@ pub enum Item {
     Exit { call: u64, goal: Ref },
     /// The first execution of the goal that a box was called with, which has no procedure.
     Execute { call: u64, goal: Ref },
+    /// The execution of the recovery of the goal of catch/3 that a box was called with.
+    Recover { call: u64, goal: Ref },
 }
 
 /// An item before a continuation, with the innermost box that is open behind it and how many there are.
@@ -167,6 +169,7 @@ fn opened_before(cells: &Vec<Cell>, item: &Item, rest: u64) -> (u64, u64)
         Item::Cut { .. } => (parent, depth),
         Item::Exit { call, .. } => (*call, depth + 1),
         Item::Execute { call, .. } => (*call, depth + 1),
+        Item::Recover { call, .. } => (*call, depth + 1),
     }
 }
 

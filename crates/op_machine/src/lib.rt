@@ -6,6 +6,7 @@ mod boxes;
 mod budget;
 mod builtin_kind;
 mod builtins;
+mod catching;
 mod choice_points;
 mod clauses;
 mod continuations;

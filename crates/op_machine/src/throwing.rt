@@ -1,13 +1,16 @@
-ghost use Rattle.std.specs.Prelude.{◌≡◌, ◌<◌, ◌≤◌, length, take, reverse, false, true, IfSome, IfNone};
+ghost use Rattle.std.specs.Prelude.{◌≡◌, ◌<◌, ◌≤◌, length, take, reverse, false, true, IfSome, IfNone, IfOk};
 ghost use Rattle.op_trace.specs.Visit.{is_open, around};
 ghost use Rattle.op_machine.specs.Meaning.{open_in, level_in};
-ghost use Rattle.op_machine.specs.inner.Invariant.{IsGood, IsFrame, CanGrow};
-ghost use Rattle.op_machine.specs.inner.Leaving.{left_frames, kind_leaves, BeginsLeft, IsLeft, box_left};
+ghost use Rattle.op_machine.specs.inner.Boxes.{IsTried};
+ghost use Rattle.op_machine.specs.inner.Invariant.{IsGood, IsFrame, HasItems, HasGoal, CanGrow};
+ghost use Rattle.op_machine.specs.inner.Leaving.{left_frames, kind_leaves, BeginsLeft, IsLeft, IsOwn, box_left, box_reached};
 ghost use Rattle.op_machine.specs.inner.Moves.{Keeps, Advances, ball_moved};
 ghost use Rattle.op_machine.specs.declared.core_state.Mode.TheVariants as mode;
 
 use crate::choice_points::{Alternative, ChoiceKind};
 use crate::core_state::{Core, Mode, Outcome, Step};
+use op_base::Memory;
+use op_bind::Ref;
 use op_frames::{Choice, Frames};
 use op_trace::Port;
 
@@ -52,6 +55,7 @@ fn left_at(
 {
     match &choice.kept.kind {
         ChoiceKind::Fail { call } => Some((*call, around_open(frames, *call, inner)?)),
+        ChoiceKind::Catch { call } => Some((*call, around_open(frames, *call, inner)?)),
         _ => None,
     }
 }
@@ -83,13 +87,14 @@ fn next_leaving(frames: &Frames<Alternative>, inner: u64) -> Leaving
 }
 
 impl Core {
-    // A ball leaves the next open box, which shows it; where there is none, it is the end.
-    pub(crate) fn leave_box(&mut self, inner: u64) -> Step
+    // A ball comes to the next open box, which shows it or catches it; where there is none, it is the end.
+    pub(crate) fn leave_box(&mut self, inner: u64) -> Result<Step, Memory>
         requires good { IsGood self.old }
         requires fits { CanGrow self.old.events }
         requires calls { CanGrow self.old.calls }
+        requires steps { self.old.steps ≤ self.old.budget }
         requires mode { self.old.mode ≡ mode.Throwing inner }
-        ensures advances { Advances self.old self.new (ball_moved self.old inner) result }
+        ensures advances { IfOk result (Advances self.old self.new (ball_moved self.old inner)) }
         ensures keeps { Keeps self.old self.new }
     {
         let next = next_leaving(&self.frames, inner);
@@ -97,26 +102,53 @@ impl Core {
         match self.pop_choice_point() {
             Some(choice) => {
                 self.restore(&choice);
-                self.show_and_go_up(&choice, next.call, next.around)
+                self.reach_box(&choice, next.call, next.around)
             }
             None => {
                 self.mode = Mode::Over {
                     outcome: Outcome::Thrown { inner },
                 };
-                Step::Silent
+                Ok(Step::Silent)
             }
         }
     }
 
-    // A box shows the ball that leaves it, at the moment at which its choice point was made, and the ball goes on up.
-    fn show_and_go_up(&mut self, choice: &Choice<Alternative>, call: u64, around: u64) -> Step
+    // A ball has come to a box, at the moment at which the box's choice point was made.
+    fn reach_box(
+        &mut self,
+        choice: &Choice<Alternative>,
+        call: u64,
+        around: u64,
+    ) -> Result<Step, Memory>
         requires good { IsGood self.old }
         requires fits { CanGrow self.old.events }
+        requires steps { self.old.steps ≤ self.old.budget }
         requires frame { IsFrame self.old.store (level_in self.old) choice.now }
-        ensures advances { Advances self.old self.new (box_left self.old call choice.now.kept.goal choice.now.rest around) result }
+        requires own { IsOwn call choice.now.kept.kind }
+        requires calls { choice.now.kept.calls ≤ self.old.calls }
+        requires tried { IsTried self.old.frames.boxes choice.now.kept.calls self.old.continuations choice.now.kept.kind
+            choice.now.kept.goal choice.now.rest }
+        ensures advances { IfOk result (Advances self.old self.new
+            (box_reached self.old choice.now.kept.kind call choice.now.kept.goal choice.now.rest around)) }
         ensures keeps { Keeps self.old self.new }
     {
-        self.show_event(Port::Exception, call, choice.kept.goal, choice.rest);
+        let goal = choice.kept.goal;
+        match &choice.kept.kind {
+            ChoiceKind::Catch { .. } => self.meet_ball(call, goal, choice.rest, around),
+            _ => Ok(self.show_and_go_up(call, goal, choice.rest, around)),
+        }
+    }
+
+    // A box shows the ball that leaves it, and the ball goes on up.
+    pub(crate) fn show_and_go_up(&mut self, call: u64, goal: Ref, rest: u64, around: u64) -> Step
+        requires good { IsGood self.old }
+        requires fits { CanGrow self.old.events }
+        requires there { HasItems self.old rest }
+        requires goal { HasGoal self.old goal }
+        ensures advances { Advances self.old self.new (box_left self.old call goal rest around) result }
+        ensures keeps { Keeps self.old self.new }
+    {
+        self.show_event(Port::Exception, call, goal, rest);
         self.mode = Mode::Throwing { inner: around };
         Step::Event
     }

@@ -14,6 +14,7 @@ built n =
     if n == 0 then codes "true" ∷ codes "fail" ∷ codes "false" ∷ codes "!" ∷ codes "halt" ∷ []
     else if n == 1 then codes "call" ∷ codes "throw" ∷ codes "\\+" ∷ codes "once" ∷ codes "halt" ∷ []
     else if n == 2 then codes "," ∷ codes ";" ∷ codes "->" ∷ codes "-->" ∷ codes "call" ∷ []
+    else if n == 3 then codes "call" ∷ codes "catch" ∷ []
     else codes "call" ∷ []
 
 -- a builtin that isn't built yet

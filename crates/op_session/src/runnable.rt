@@ -34,6 +34,8 @@ fn is_built_name(name: &str, arity: u64) -> bool
         is_among(name, &["call", "throw", "\\+", "once", "halt"])
     } else if arity == 2 {
         is_among(name, &[",", ";", "->", "-->", "call"])
+    } else if arity == 3 {
+        is_among(name, &["call", "catch"])
     } else {
         is_among(name, &["call"])
     }

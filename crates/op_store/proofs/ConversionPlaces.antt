@@ -7,6 +7,7 @@ use Rattle.op_logic.specs.Term.{Term, args_of, nth_arg, arity}
 use Rattle.op_logic.specs.Bind.{Bindings, follow}
 use Rattle.op_logic.specs.Laws.{Acyclic, rename_bindings}
 use Rattle.op_logic.specs.Names.{name_at, named, HasNames, HaveNames}
+use Rattle.op_logic.proofs.UnifierNames.{follow-names}
 use Rattle.op_trace.specs.Body.{Body, goal, call, control, divided}
 use Rattle.op_store.specs.inner.BodyParts.{part_of_term}
 use Rattle.op_store.specs.Nodes.{leaves}
@@ -16,7 +17,7 @@ use Rattle.op_store.specs.declared.bodies.body_part.Part.TheVariants as parts
 use Rattle.op_store.specs.declared.bodies.body_node.BodyNode.{BodyNode}
 use Rattle.op_store.specs.declared.bodies.body_node.BodyNode.TheVariants as nodes
 use Rattle.op_store.specs.Divided.{divided_in}
-use Rattle.op_store.proofs.FollowedParts.{parts_under, followed-named, followed-divided, follow-has}
+use Rattle.op_store.proofs.FollowedParts.{parts_under, followed-named, followed-divided}
 use Rattle.op_store.proofs.ConversionSteps.{T, control_name, IsControl, control-two, control-divided, goal-divided, variable-divided}
 use Rattle.op_store.proofs.ConversionSteps.{number-divided, left-leaf, left-refused, left-pair, left-some, left-start, leaves-goal}
 use Rattle.op_store.proofs.ConversionSteps.{leaves-other, all-two, part-named, part-has, arity-named}
@@ -40,7 +41,7 @@ module _ {P : Type 0} (names : List (List ℕ)) (under : Bindings ℕ) (term : P
   pub leads : (next at : P) → IsPlace at → term at ≡ follow under (term next) → Acyclic under → HaveNames (length names) under
       → HasNames (length names) (term next) → Leads next at
   leads next at place value acyclic bound has =
-      let h = follow-has (length names) under (term next) bound has in
+      let h = follow-names (length names) under (term next) bound has in
       record { good = (place, subst (λ (x : Term ℕ). HasNames (length names) x) (sym value) h); value = value; acyclic = acyclic }
 
   leads-divided : (next at : P) → Leads next at → divided texts (text next) ≡ parts_under texts (text at)

@@ -8,14 +8,14 @@ use Rattle.op_store.specs.declared.names.control_names.ControlNames.{ControlName
 use Rattle.op_store.proofs.ConvertedTerm.{names-more}
 
 -- a number below theirs has its first name
-first-name : (names : List (List ℕ)) (m k : ℕ) → take (length first_names) names ≡ first_names → m ≡ k → k < 21
+first-name : (names : List (List ℕ)) (m k : ℕ) → take (length first_names) names ≡ first_names → m ≡ k → k < 22
     → name_at names m ≡ name_at first_names k
 first-name names m k b e h = ap (name_at names) e ∙ name-more first_names names b k h
 
 pub first-control : (names : List (List ℕ)) (k : ControlNames) → take (length first_names) names ≡ first_names → k.comma.0 ≡ 3
     → k.semicolon.0 ≡ 4 → k.arrow.0 ≡ 5 → k.call.0 ≡ 7 → AreControlNames names k
 first-control names k b comma semicolon arrow call =
-    let l : 21 ≤ length names = names-more first_names names b in
+    let l : 22 ≤ length names = names-more first_names names b in
     record {
       comma = first-name names k.comma.0 3 b comma (omega arith);
       semicolon = first-name names k.semicolon.0 4 b semicolon (omega arith);

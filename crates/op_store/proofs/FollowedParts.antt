@@ -1,47 +1,14 @@
 -- What a term under bindings is divided into, by the term that it is followed to.
-use Rattle.std.proofs.Common.{◌≡◌, ℕ, ◌==◌, Bool, true, false, cond, List, [], ◌∷◌, Some, None, refl, sym, ap, ◌∙◌}
+use Rattle.std.proofs.Common.{◌≡◌, ℕ, cond, List, Some, None, refl, sym, ap, ◌∙◌}
 use Rattle.op_logic.specs.Term.{Term, var, int, node, Args, no_args, arg, args_of, rename}
-use Rattle.op_logic.specs.Bind.{Bindings, apply, follow, follow_on}
+use Rattle.op_logic.specs.Bind.{Bindings, apply, follow}
 use Rattle.op_logic.specs.Laws.{Acyclic, rename_bindings}
-use Rattle.op_logic.specs.Names.{name_at, named, HasNames, HaveNames}
+use Rattle.op_logic.specs.Names.{name_at, named}
 use Rattle.op_logic.proofs.AppliedBindings.{apply_args, apply-int, apply-node, apply_args-none, apply_args-arg, apply-free}
 use Rattle.op_logic.proofs.FollowedTerms.{apply-follow, follow-free}
-use Rattle.op_logic.proofs.RenamedUnification.{apply-rename}
+use Rattle.op_logic.proofs.RenamedUnification.{apply-rename, follow-rename}
 use Rattle.op_trace.specs.Database.{Text}
 use Rattle.op_trace.specs.Body.{goal, call, Division, one_step, has_parts, joined, compound, divided_by, divisions_by, divided}
-
--- following finds no new names
-module _ (n : ℕ) where
-  follow_on-has : (v : ℕ) (s t : Term ℕ) → HasNames n s → HasNames n t → HasNames n (follow_on v s t)
-  follow_on-has v s (var w) hs ht = either (v == w)
-    where
-      either : (b : Bool) → HasNames n (cond b s (var w))
-      either true = hs
-      either false = tt
-  follow_on-has v s (int i) hs ht = tt
-  follow_on-has v s (node f ts) hs ht = ht
-
-  pub follow-has : (σ : Bindings ℕ) (t : Term ℕ) → HaveNames n σ → HasNames n t → HasNames n (follow σ t)
-  follow-has [] t h ht = ht
-  follow-has (p ∷ σ) t h ht = follow_on-has p.0 (follow σ p.1) (follow σ t) (follow-has σ p.1 h.1 h.0) (follow-has σ t h.1 ht)
-
--- following commutes with a renaming of the names
-module _ (f : ℕ → Text) where
-  follow_on-renamed : (v : ℕ) (s q : Term ℕ) → follow_on v (rename f s) (rename f q) ≡ rename f (follow_on v s q)
-  follow_on-renamed v s (var w) = either (v == w)
-    where
-      either : (b : Bool) → cond b (rename f s) (var w) ≡ rename f (cond b s (var w))
-      either true = refl
-      either false = refl
-  follow_on-renamed v s (int i) = refl
-  follow_on-renamed v s (node g ts) = refl
-
-  follow-renamed : (σ : Bindings ℕ) (t : Term ℕ) → follow (rename_bindings f σ) (rename f t) ≡ rename f (follow σ t)
-  follow-renamed [] t = refl
-  follow-renamed (p ∷ σ) t =
-      let τ : Bindings Text = rename_bindings f σ in
-      ap (λ (x : Term Text). follow_on p.0 x (follow τ (rename f t))) (follow-renamed σ p.1)
-      ∙ (ap (follow_on p.0 (rename f (follow σ p.1))) (follow-renamed σ t) ∙ follow_on-renamed p.0 (follow σ p.1) (follow σ t))
 
 -- a term is followed to another, which has its value, and which is unbound where it is a variable
 pub record IsFollowed (σ : Bindings Text) (t u : Term Text) : Type 0 where
@@ -61,7 +28,7 @@ module _ (names : List Text) (under : Bindings ℕ) where
   followed-named t u h e =
       let f : ℕ → Text = name_at names in
       record {
-        term = follow-renamed f under t ∙ ap (rename f) (sym e);
+        term = follow-rename f under t ∙ ap (rename f) (sym e);
         value = apply-rename f under t
             ∙ (ap (rename f) (sym (apply-follow under t h) ∙ ap (apply under) (sym e)) ∙ sym (apply-rename f under u));
         free = λ v k.

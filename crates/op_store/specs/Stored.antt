@@ -31,7 +31,7 @@ control_names = codes "true" ∷ codes "fail" ∷ codes "false" ∷ codes "," �
 
 -- those of the builtins of control (7.8, 8.15 and 8.17)
 abbrev pub builtin_names : List Text
-builtin_names = codes "once" ∷ codes "\\+" ∷ codes "throw" ∷ codes "halt" ∷ []
+builtin_names = codes "once" ∷ codes "\\+" ∷ codes "throw" ∷ codes "halt" ∷ codes "catch" ∷ []
 
 -- and those of the errors of these (7.12.2)
 abbrev pub error_names : List Text

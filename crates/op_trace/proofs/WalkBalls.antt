@@ -7,17 +7,18 @@ use Rattle.op_logic.specs.Bind.{Bindings, unify, Solved as Result}
 use Rattle.op_trace.specs.declared.barrier.Barrier.{Barrier}
 use Rattle.op_trace.specs.declared.barrier.Barrier.TheVariants.{Call, InCondition, AtSuccess}
 use Rattle.op_trace.specs.Database.{Text, text_eq, Clause}
-use Rattle.op_trace.specs.World.{World, same_barrier, Execution, First, Item, Goal, Cut, Exit, Execute, open_boxes}
+use Rattle.op_trace.specs.World.{World, same_barrier, Execution, First, Recovery, Item, Goal, Cut, Exit, Execute, open_boxes}
 use Rattle.op_trace.specs.Act.{Yield, Fails, Succeeds, Succeeds_again, Runs, Throws, Halts, Act, Setup}
-use Rattle.op_trace.specs.Visit.{acts, Inside, Clauses, WithoutProcedure, inside, Again, executes_again, after}
+use Rattle.op_trace.specs.Visit.{acts, Inside, Clauses, WithoutProcedure, Protected, inside, executes_again, after}
+use Rattle.op_trace.specs.Visit.{catcher_of, caught, catches, last_choice}
 use Rattle.op_trace.specs.Visit.{entered_box, exits, yields, Verdict}
-use Rattle.op_trace.specs.Visit.{Failed, CutTo, Thrown, Stopped, Halted, Spent, Visited, gives, and_then}
+use Rattle.op_trace.specs.Visit.{Failed, CutTo, Thrown, Stopped, Halted, Spent, Visited, gives}
 use Rattle.op_trace.specs.Visit.{on_failed, reaches, on_end, on_condition, cut}
 use Rattle.op_trace.specs.Visit.{pays, is_open, around, selects, fails, raises, Control, TrueGoal}
 use Rattle.op_trace.specs.Visit.{FailGoal, CutGoal, Conjunction, Disjunction, IfThenElse}
 use Rattle.op_trace.specs.Visit.{BoxedGoal, control, is_true, entered, with_event, Visitor, matched}
 use Rattle.op_trace.specs.Visit.{try_clause, alternatives, branches, boxed}
-use Rattle.op_trace.specs.Visit.{Choice, Redo, Branch, More, Fail, Condition, if_then_else, selected, visit_with, visit_by, visit}
+use Rattle.op_trace.specs.Visit.{if_then_else, selected, visit_with, visit_by, visit}
 
 -- a result whose ball, if it is one, leaves boxes of which each is one of these or has a number above n
 abbrev pub LeavesOnly : List ℕ → ℕ → Verdict → Type 0
@@ -184,17 +185,55 @@ module _ (visit : Visitor) (s : Setup) (leave : VisitsLeave visit) where
       → Leaves (k ∷ open_boxes J) w.calls (entered_box visit s i k g σ J w)
   entered_box-leaves (Clauses cs) k g σ J w = alternatives-leaves cs k g σ J Failed w w.calls tt (omega arith)
   entered_box-leaves WithoutProcedure k g σ J w = leave (Execute First k g ∷ J) σ w
+  entered_box-leaves Protected k g σ J w = leave (Execute First k g ∷ J) σ w
+
+  -- a ball that goes on from a catch leaves what it would have left, and one of the recovery what is open in its items
+  pub caught-leaves : (k : ℕ) (g : Term Text) (σ : Bindings Text) (J : List Item) (b : Term Text) (p : List ℕ) (w : World) (n : ℕ)
+      (q : Option (Result Text))
+      → n < k → LeavesOnly (open_boxes J) n (Thrown b p) → n ≤ w.calls → Leaves (open_boxes J) n (caught visit s k g σ J b p w q)
+  caught-leaves k g σ J b p w n None fresh l low = (tt, low)
+  caught-leaves k g σ J b p w n (Some (None, left)) fresh l low = (l, low)
+  caught-leaves k g σ J b p w n (Some (Some τ, left)) fresh l low =
+      let u : World = record w { steps = s.budget - left } in
+      let v : Visited = executes_again visit s Recovery k g τ J u in
+      let m : Leaves (open_boxes J) n v =
+      left_of (k ∷ open_boxes J) (open_boxes J) n n v (among_new (open_boxes J) k n fresh) (omega arith)
+      (again-leaves Recovery k g τ J u n low) in
+      box-leaves k g σ J v.verdict v.world (open_boxes J) n m.0 m.1
+
+  pub catch-leaves : (k : ℕ) (g : Term Text) (σ : Bindings Text) (J : List Item) (r : Verdict) (w : World) (n : ℕ)
+      → n < k → LeavesOnly (open_boxes J) n r → n ≤ w.calls
+      → Leaves (open_boxes J) n (on_end k (fails k g σ J) (catches visit s k g σ J) r w)
+  catch-leaves k g σ J Failed w n fresh l low = (tt, low)
+  catch-leaves k g σ J (CutTo x) w n fresh l low =
+      reaches-leaves (same_barrier x (Call k)) (fails k g σ J) (gives (CutTo x)) w (open_boxes J) n (tt, low) (tt, low)
+  catch-leaves k g σ J (Thrown b x) w n fresh l low =
+      reaches-leaves (is_open k x) (catches visit s k g σ J b (around k x)) (gives (Thrown b x)) w (open_boxes J) n
+      (caught-leaves k g σ J b (around k x) w n (unify text_eq (s.budget - w.steps) σ ((b, catcher_of g) ∷ [])) fresh
+      (λ j e. l j (around-open k j x e)) low)
+      (l, low)
+  catch-leaves k g σ J Stopped w n fresh l low = (tt, low)
+  catch-leaves k g σ J (Halted i) w n fresh l low = (tt, low)
+  catch-leaves k g σ J Spent w n fresh l low = (tt, low)
+
+  pub last_choice-leaves : (i : Inside) (k : ℕ) (g : Term Text) (σ : Bindings Text) (J : List Item) (r : Verdict) (w : World) (n : ℕ)
+      → n < k → LeavesOnly (open_boxes J) n r → n ≤ w.calls → Leaves (open_boxes J) n (after visit s (last_choice i k g σ J) r w)
+  last_choice-leaves (Clauses cs) k g σ J r w n fresh l low = box-leaves k g σ J r w (open_boxes J) n l low
+  last_choice-leaves WithoutProcedure k g σ J r w n fresh l low = box-leaves k g σ J r w (open_boxes J) n l low
+  last_choice-leaves Protected k g σ J r w n fresh l low = catch-leaves k g σ J r w n fresh l low
 
   pub boxed-leaves : (g : Term Text) (J : List Item) (σ : Bindings Text) (w : World) (n : ℕ) → n ≤ w.calls
       → Leaves (open_boxes J) n (boxed visit s g J σ w)
   boxed-leaves g J σ w n low =
       let k : ℕ = w.calls + 1 in
       let u : World = with_event (record w { calls = k }) in
-      let v : Visited = entered_box visit s (inside w.database g) k g σ J u in
+      let i : Inside = inside w.database g in
+      let v : Visited = entered_box visit s i k g σ J u in
+      let fresh : n < w.calls + 1 = omega (arith, low) in
       let l : Leaves (open_boxes J) n v =
-      left_of (k ∷ open_boxes J) (open_boxes J) k n v (among_new (open_boxes J) k n (omega (arith, low))) (omega (arith, low))
-      (entered_box-leaves (inside w.database g) k g σ J u) in
-      box-leaves k g σ J v.verdict v.world (open_boxes J) n l.0 l.1
+      left_of (k ∷ open_boxes J) (open_boxes J) k n v (among_new (open_boxes J) k n fresh) (omega (arith, low))
+      (entered_box-leaves i k g σ J u) in
+      last_choice-leaves i k g σ J v.verdict v.world n fresh l.0 l.1
 
   pub exits-leaves : (rest : Bindings Text → World → Visited) (k : ℕ) (g : Term Text) (J : List Item) (σ : Bindings Text)
       (w : World) (n : ℕ)

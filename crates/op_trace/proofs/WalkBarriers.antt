@@ -7,9 +7,10 @@ use Rattle.op_logic.specs.Bind.{Bindings, unify, Solved as Result}
 use Rattle.op_trace.specs.declared.barrier.Barrier.{Barrier}
 use Rattle.op_trace.specs.declared.barrier.Barrier.TheVariants.{Call, InCondition, AtSuccess}
 use Rattle.op_trace.specs.Database.{Text, text_eq, Clause}
-use Rattle.op_trace.specs.World.{World, same_barrier, Execution, First, Item, Goal, Cut, Exit, Execute, Has}
+use Rattle.op_trace.specs.World.{World, same_barrier, Execution, First, Recovery, Item, Goal, Cut, Exit, Execute, Has}
 use Rattle.op_trace.specs.Act.{Yield, Fails, Succeeds, Succeeds_again, Runs, Throws, Halts, Act, Setup}
-use Rattle.op_trace.specs.Visit.{acts, Inside, Clauses, WithoutProcedure, inside, Again, executes_again, after}
+use Rattle.op_trace.specs.Visit.{acts, Inside, Clauses, WithoutProcedure, Protected, inside, executes_again, after}
+use Rattle.op_trace.specs.Visit.{catcher_of, ends, caught, catches, last_choice}
 use Rattle.op_trace.specs.Visit.{entered_box, exits, yields, Verdict}
 use Rattle.op_trace.specs.Visit.{Failed, CutTo, Thrown, Stopped, Halted, Spent, Visited, gives, on_failed, reaches, on_end, on_condition}
 use Rattle.op_trace.specs.Visit.{cut, pays, is_open, around, selects, fails, raises}
@@ -160,17 +161,42 @@ module _ (visit : Visitor) (s : Setup) (only : VisitsOnly visit) where
   pub entered_box-only : (i : Inside) (k : ℕ) (g : Term Text) (σ : Bindings Text) (J : List Item) (w : World)
       → Only (Cut (Call k) ∷ J) (entered_box visit s i k g σ J w).verdict
   entered_box-only (Clauses cs) k g σ J w = alternatives-only cs k g σ J Failed w tt
+  entered_box-only Protected k g σ J w =
+      only-of (Execute First k g ∷ J) (Cut (Call k) ∷ J) (visit (Execute First k g ∷ J) σ w).verdict (λ n h. h)
+      (only (Execute First k g ∷ J) σ w)
   entered_box-only WithoutProcedure k g σ J w =
       only-of (Execute First k g ∷ J) (Cut (Call k) ∷ J) (visit (Execute First k g ∷ J) σ w).verdict (λ n h. h) (only
       (Execute First k g ∷ J) σ w)
+
+  pub ends-only : (k : ℕ) (g : Term Text) (σ : Bindings Text) (J : List Item) (r : Verdict) (w : World)
+      → Only (Cut (Call k) ∷ J) r → Only J (ends k g σ J r w).verdict
+  ends-only k g σ J r w o = on_end-only k (fails k g σ J) (raises k g σ J) J r w o (λ x. tt) (λ b p x. tt)
+
+  -- the recovery's cuts end in the box, as those of the goal do
+  pub caught-only : (k : ℕ) (g : Term Text) (σ : Bindings Text) (J : List Item) (b : Term Text) (p : List ℕ) (w : World)
+      (q : Option (Result Text)) → Only J (caught visit s k g σ J b p w q).verdict
+  caught-only k g σ J b p w None = tt
+  caught-only k g σ J b p w (Some (None, left)) = tt
+  caught-only k g σ J b p w (Some (Some τ, left)) =
+      let u : World = record w { steps = s.budget - left } in
+      let v : Visited = executes_again visit s Recovery k g τ J u in
+      ends-only k g σ J v.verdict v.world (again-only Recovery k g τ J u)
+
+  pub last_choice-only : (i : Inside) (k : ℕ) (g : Term Text) (σ : Bindings Text) (J : List Item) (r : Verdict) (w : World)
+      → Only (Cut (Call k) ∷ J) r → Only J (after visit s (last_choice i k g σ J) r w).verdict
+  last_choice-only (Clauses cs) k g σ J r w o = ends-only k g σ J r w o
+  last_choice-only WithoutProcedure k g σ J r w o = ends-only k g σ J r w o
+  last_choice-only Protected k g σ J r w o =
+      on_end-only k (fails k g σ J) (catches visit s k g σ J) J r w o (λ x. tt)
+      (λ b p x. caught-only k g σ J b p x (unify text_eq (s.budget - x.steps) σ ((b, catcher_of g) ∷ [])))
 
   pub boxed-only : (g : Term Text) (J : List Item) (σ : Bindings Text) (w : World) → Only J (boxed visit s g J σ w).verdict
   boxed-only g J σ w =
       let k : ℕ = w.calls + 1 in
       let u : World = with_event (record w { calls = k }) in
-      let v : Visited = entered_box visit s (inside w.database g) k g σ J u in
-      on_end-only k (fails k g σ J) (raises k g σ J) J v.verdict v.world
-      (entered_box-only (inside w.database g) k g σ J u) (λ x. tt) (λ b o x. tt)
+      let i : Inside = inside w.database g in
+      let v : Visited = entered_box visit s i k g σ J u in
+      last_choice-only i k g σ J v.verdict v.world (entered_box-only i k g σ J u)
 
   pub exits-only : (rest : Bindings Text → World → Visited) (k : ℕ) (g : Term Text) (J : List Item) (σ : Bindings Text) (w : World)
       → ((τ : Bindings Text) (u : World) → Only J (rest τ u).verdict) → Only J (exits visit s rest k g J σ w).verdict

@@ -3,14 +3,15 @@ use Rattle.std.proofs.Common.{◌≡◌, ℕ, zero, suc, ◌+◌, ◌-◌, ◌�
 use Rattle.std.proofs.Common.{◌∙◌, arith}
 use Rattle.std.proofs.lemmas.Bool.Decides.{nat_tests}
 use Rattle.op_logic.specs.Term.{Term, shift}
-use Rattle.op_logic.specs.Bind.{Bindings, Solved as Result, solve}
+use Rattle.op_logic.specs.Bind.{Bindings, Solved as Result, solve, unify}
 use Rattle.op_trace.specs.declared.port.Port.TheVariants as port
 use Rattle.op_trace.specs.declared.barrier.Barrier.{Barrier}
 use Rattle.op_trace.specs.declared.barrier.Barrier.TheVariants.{Call, InCondition, AtSuccess}
 use Rattle.op_trace.specs.Database.{Text, text_eq, Clause}
-use Rattle.op_trace.specs.World.{World, same_barrier, Execution, First, Item, Goal, Cut, Exit, Execute, Shown}
+use Rattle.op_trace.specs.World.{World, same_barrier, Execution, Recovery, Item, Goal, Cut, Exit, Execute, Shown}
 use Rattle.op_trace.specs.Act.{Yield, Fails, Succeeds, Succeeds_again, Runs, Throws, Halts, Act, Setup}
-use Rattle.op_trace.specs.Visit.{counted_as, acts, performs, Inside, Clauses, WithoutProcedure, inside, Again}
+use Rattle.op_trace.specs.Visit.{counted_as, acts, Inside, Clauses, WithoutProcedure, Protected, inside, Again, Catch}
+use Rattle.op_trace.specs.Visit.{on_end, is_open, around, fails, catcher_of, ends, caught, catches, last_choice}
 use Rattle.op_trace.specs.Visit.{executes_again, entered_box, exits, yields}
 use Rattle.op_trace.specs.Visit.{Verdict, Failed, CutTo, Thrown, Stopped, Halted, Spent, Visited, gives, with_turns}
 use Rattle.op_trace.specs.Visit.{and_then, on_failed, reaches, selects, control}
@@ -18,7 +19,7 @@ use Rattle.op_trace.specs.Visit.{on_condition, cut, with_event, event_of, pays, 
 use Rattle.op_trace.specs.Visit.{Disjunction, IfThenElse, BoxedGoal, Visitor, Choice, Redo, Branch, More, Fail, Condition, matched}
 use Rattle.op_trace.specs.Visit.{try_clause, alternatives, branches, after, boxed, selected, visit_with, visit_by, visit}
 use Rattle.op_trace.proofs.WalkSteps.{VisitsLater, Later, IsLess, within-less, try_clause-later, RestLater, exits-later, visit_with-later}
-use Rattle.op_trace.proofs.WalkSteps.{visit_by-later}
+use Rattle.op_trace.proofs.WalkSteps.{visit_by-later, entered_box-later}
 
 -- two visitors that agree wherever more than n steps were made, and no more than b
 abbrev pub Agree : ℕ → ℕ → Visitor → Visitor → Type 0
@@ -54,6 +55,16 @@ on_failed-same h i Spent w e = refl
 pub reaches-same : (t : Bool) (h i k : World → Visited) (w : World) → h w ≡ i w → reaches t h k w ≡ reaches t i k w
 reaches-same true h i k w e = e
 reaches-same false h i k w e = refl
+
+pub on_end-same : (k : ℕ) (h : World → Visited) (i j : Term Text → List ℕ → World → Visited) (r : Verdict) (w : World)
+    → ((b : Term Text) (o : List ℕ) → i b o w ≡ j b o w) → on_end k h i r w ≡ on_end k h j r w
+on_end-same k h i j Failed w e = refl
+on_end-same k h i j (CutTo m) w e = refl
+on_end-same k h i j (Thrown b o) w e =
+    reaches-same (is_open k o) (i b (around k o)) (j b (around k o)) (gives (Thrown b o)) w (e b (around k o))
+on_end-same k h i j Stopped w e = refl
+on_end-same k h i j (Halted x) w e = refl
+on_end-same k h i j Spent w e = refl
 
 pub on_condition-same : (n : ℕ) (h i : World → Visited) (r : Verdict) (w : World) → h w ≡ i w → on_condition n h r w ≡ on_condition n i r w
 on_condition-same n h i Failed w e = e
@@ -102,6 +113,24 @@ module _ (f g : Visitor) (s : Setup) (n : ℕ) (agree : Agree s.budget n f g) (l
   again-same t k x σ J w low high =
       spends-same s 1 w (f (Execute t k x ∷ J) σ) (g (Execute t k x ∷ J) σ) (λ fits. agree _ _ _ (omega arith) fits)
 
+  pub caught-same : (k : ℕ) (t : Term Text) (σ : Bindings Text) (J : List Item) (b : Term Text) (o : List ℕ) (w : World)
+      (q : Option (Result Text))
+      → n ≤ w.steps → w.steps ≤ s.budget → IsLess (s.budget - w.steps) q → caught f s k t σ J b o w q ≡ caught g s k t σ J b o w q
+  caught-same k t σ J b o w None low high less = refl
+  caught-same k t σ J b o w (Some (None, left)) low high less = refl
+  caught-same k t σ J b o w (Some (Some τ, left)) low high less =
+      let u : World = record w { steps = s.budget - left } in
+      let up : n ≤ s.budget - left = omega arith in
+      let in_budget : s.budget - left ≤ s.budget = omega arith in
+      and_then-same (executes_again f s Recovery k t τ J u) (executes_again g s Recovery k t τ J u) (ends k t σ J) (ends k t σ J)
+      (again-same Recovery k t τ J u up in_budget) refl
+
+  pub catches-same : (k : ℕ) (t : Term Text) (σ : Bindings Text) (J : List Item) (b : Term Text) (o : List ℕ) (w : World)
+      → n ≤ w.steps → w.steps ≤ s.budget → catches f s k t σ J b o w ≡ catches g s k t σ J b o w
+  catches-same k t σ J b o w low high =
+      caught-same k t σ J b o w (unify text_eq (s.budget - w.steps) σ ((b, catcher_of t) ∷ [])) low high
+      (within-less {A = Option (Bindings Text)} (s.budget - w.steps) (solve text_eq (s.budget - w.steps) σ ((b, catcher_of t) ∷ [])))
+
   pub after-same : (c : Choice) (r : Verdict) (w : World) → n ≤ w.steps → w.steps ≤ s.budget → after f s c r w ≡ after g s c r w
   after-same (Redo k t σ J) r w low high = refl
   after-same (More cs k t σ J) r w low high = alternatives-same cs k t σ J r w low high
@@ -110,6 +139,8 @@ module _ (f g : Visitor) (s : Setup) (n : ℕ) (agree : Agree s.budget n f g) (l
   after-same (Again t k x σ J) r w low high =
       on_failed-same (executes_again f s t k x σ J) (executes_again g s t k x σ J) r w (again-same t k x σ J w low high)
   after-same (Fail k t σ J) r w low high = refl
+  after-same (Catch k t σ J) r w low high =
+      on_end-same k (fails k t σ J) (catches f s k t σ J) (catches g s k t σ J) r w (λ b o. catches-same k t σ J b o w low high)
   after-same (Condition c t m σ J) r w low high =
       on_condition-same c (branches f s t m σ J) (branches g s t m σ J) r w (branches-same t m σ J w low high)
 
@@ -125,15 +156,20 @@ module _ (f g : Visitor) (s : Setup) (n : ℕ) (agree : Agree s.budget n f g) (l
       → n < w.steps → w.steps ≤ s.budget → entered_box f s i k t σ J w ≡ entered_box g s i k t σ J w
   entered_box-same (Clauses cs) k t σ J w low high = alternatives-same cs k t σ J Failed w (omega arith) high
   entered_box-same WithoutProcedure k t σ J w low high = agree _ _ _ low high
+  entered_box-same Protected k t σ J w low high = agree _ _ _ low high
 
   pub boxed-same : (t : Term Text) (J : List Item) (σ : Bindings Text) (w : World) → n < w.steps → w.steps ≤ s.budget
       → boxed f s t J σ w ≡ boxed g s t J σ w
   boxed-same t J σ w low high =
       let k : ℕ = w.calls + 1 in
       let u : World = with_event (record w { calls = k }) in
+      let i : Inside = inside w.database t in
+      let v : Visited = entered_box f s i k t σ J u in
+      let inner : Later s.budget w.steps v = entered_box-later f s i k t σ J u later high in
       ap (with_turns (Shown (event_of port.Call k t σ J (record w { calls = k })) u ∷ []))
-      (and_then-same (entered_box f s (inside w.database t) k t σ J u) (entered_box g s (inside w.database t) k t σ J u)
-      (after f s (Fail k t σ J)) (after g s (Fail k t σ J)) (entered_box-same (inside w.database t) k t σ J u low high) refl)
+      (and_then-same v (entered_box g s i k t σ J u) (after f s (last_choice i k t σ J)) (after g s (last_choice i k t σ J))
+      (entered_box-same i k t σ J u low high)
+      (after-same (last_choice i k t σ J) v.verdict v.world (omega (arith, inner.0)) inner.1))
 
   -- two walks of the rest of some items, from any bindings
   abbrev pub RestsAgree : (Bindings Text → World → Visited) → (Bindings Text → World → Visited) → Type 0

@@ -7,9 +7,10 @@ use Rattle.op_logic.specs.Bind.{Bindings, Solved as Result, within, solve}
 use Rattle.op_trace.specs.declared.barrier.Barrier.{Barrier}
 use Rattle.op_trace.specs.declared.barrier.Barrier.TheVariants.{Call, InCondition, AtSuccess}
 use Rattle.op_trace.specs.Database.{Text, text_eq, Clause}
-use Rattle.op_trace.specs.World.{World, same_barrier, Execution, First, Item, Goal, Cut, Exit, Execute}
+use Rattle.op_trace.specs.World.{World, same_barrier, Execution, First, Recovery, Item, Goal, Cut, Exit, Execute}
 use Rattle.op_trace.specs.Act.{Yield, Fails, Succeeds, Succeeds_again, Runs, Throws, Halts, Act, Setup}
-use Rattle.op_trace.specs.Visit.{counted_as, acts, performs, Inside, Clauses, WithoutProcedure, inside, Again}
+use Rattle.op_trace.specs.Visit.{counted_as, acts, Inside, Clauses, WithoutProcedure, Protected, inside, Again, Catch}
+use Rattle.op_trace.specs.Visit.{catcher_of, ends, caught, catches, last_choice}
 use Rattle.op_trace.specs.Visit.{executes_again, entered_box, exits, yields}
 use Rattle.op_trace.specs.Visit.{Verdict, Failed, CutTo, Thrown, Stopped, Halted, Spent, Visited, gives, and_then, on_failed, reaches}
 use Rattle.op_trace.specs.Visit.{on_end, on_condition, is_open, around, selects, fails, raises}
@@ -145,6 +146,30 @@ again-later visit s t k g σ J n w lv low high =
     (spends-later s 1 w _ high (λ fits. later_from s.budget w.steps (w.steps + 1) _ (omega arith)
     (lv (Execute t k g ∷ J) σ (record w { steps = w.steps + 1 }) fits)))
 
+pub ends-later : (b n k : ℕ) (g : Term Text) (σ : Bindings Text) (J : List Item) (r : Verdict) (w : World) → n ≤ w.steps → w.steps ≤ b
+    → Later b n (ends k g σ J r w)
+ends-later b n k g σ J r w low high = on_end-later b n k (fails k g σ J) (raises k g σ J) r w low high (low, high) (λ x o. (low, high))
+
+pub caught-later : (visit : Visitor) (s : Setup) (k : ℕ) (g : Term Text) (σ : Bindings Text) (J : List Item) (b : Term Text) (o : List ℕ)
+    (n : ℕ) (w : World) (q : Option (Result Text))
+    → VisitsLater s.budget visit → n ≤ w.steps → w.steps ≤ s.budget → IsLess (s.budget - w.steps) q
+    → Later s.budget n (caught visit s k g σ J b o w q)
+caught-later visit s k g σ J b o n w None lv low high less = (omega arith, omega arith)
+caught-later visit s k g σ J b o n w (Some (None, left)) lv low high less = (omega arith, omega arith)
+caught-later visit s k g σ J b o n w (Some (Some τ, left)) lv low high less =
+    let u : World = record w { steps = s.budget - left } in
+    let up : n ≤ s.budget - left = omega arith in
+    let in_budget : s.budget - left ≤ s.budget = omega arith in
+    and_then-later s.budget n (executes_again visit s Recovery k g τ J u) (ends k g σ J)
+    (again-later visit s Recovery k g τ J n u lv up in_budget) (λ r x l h. ends-later s.budget n k g σ J r x l h)
+
+pub catches-later : (visit : Visitor) (s : Setup) (k : ℕ) (g : Term Text) (σ : Bindings Text) (J : List Item) (b : Term Text) (o : List ℕ)
+    (n : ℕ) (w : World)
+    → VisitsLater s.budget visit → n ≤ w.steps → w.steps ≤ s.budget → Later s.budget n (catches visit s k g σ J b o w)
+catches-later visit s k g σ J b o n w lv low high =
+    caught-later visit s k g σ J b o n w _ lv low high
+    (within-less {A = Option (Bindings Text)} (s.budget - w.steps) (solve text_eq (s.budget - w.steps) σ ((b, catcher_of g) ∷ [])))
+
 pub after-later : (visit : Visitor) (s : Setup) (c : Choice) (n : ℕ) (r : Verdict) (w : World)
     → VisitsLater s.budget visit → n ≤ w.steps → w.steps ≤ s.budget → Later s.budget n (after visit s c r w)
 after-later visit s (Redo k g σ J) n r w lv low high = on_failed-later s.budget n _ r w low high (low, high)
@@ -153,8 +178,10 @@ after-later visit s (Branch t m σ J) n r w lv low high =
 after-later visit s (More cs k g σ J) n r w lv low high = alternatives-later visit s cs k g σ J n r w lv low high
 after-later visit s (Again t k g σ J) n r w lv low high =
     on_failed-later s.budget n (executes_again visit s t k g σ J) r w low high (again-later visit s t k g σ J n w lv low high)
-after-later visit s (Fail k g σ J) n r w lv low high = on_end-later s.budget n k (fails k g σ J) (raises k g σ J) r w low high
-    (low, high) (λ x o. (low, high))
+after-later visit s (Fail k g σ J) n r w lv low high = ends-later s.budget n k g σ J r w low high
+after-later visit s (Catch k g σ J) n r w lv low high =
+    on_end-later s.budget n k (fails k g σ J) (catches visit s k g σ J) r w low high (low, high)
+    (λ x o. catches-later visit s k g σ J x o n w lv low high)
 after-later visit s (Condition c t m σ J) n r w lv low high =
     on_condition-later s.budget n c (branches visit s t m σ J) r w low high (branches-later visit s t m σ J n w lv low high)
 
@@ -162,16 +189,17 @@ pub entered_box-later : (visit : Visitor) (s : Setup) (i : Inside) (k : ℕ) (g 
     → VisitsLater s.budget visit → w.steps ≤ s.budget → Later s.budget w.steps (entered_box visit s i k g σ J w)
 entered_box-later visit s (Clauses cs) k g σ J w lv below = alternatives-later visit s cs k g σ J w.steps Failed w lv (omega arith) below
 entered_box-later visit s WithoutProcedure k g σ J w lv below = lv (Execute First k g ∷ J) σ w below
+entered_box-later visit s Protected k g σ J w lv below = lv (Execute First k g ∷ J) σ w below
 
 pub boxed-later : (visit : Visitor) (s : Setup) (g : Term Text) (J : List Item) (σ : Bindings Text) (w : World)
     → VisitsLater s.budget visit → w.steps ≤ s.budget → Later s.budget w.steps (boxed visit s g J σ w)
 boxed-later visit s g J σ w lv below =
     let k : ℕ = w.calls + 1 in
     let u : World = with_event (record w { calls = k }) in
-    and_then-later s.budget w.steps (entered_box visit s (inside w.database g) k g σ J u) (after visit s (Fail k g σ J))
-    (entered_box-later visit s (inside w.database g) k g σ J u
-    lv below)
-    (λ r x l h. after-later visit s (Fail k g σ J) w.steps r x lv l h)
+    let i : Inside = inside w.database g in
+    and_then-later s.budget w.steps (entered_box visit s i k g σ J u) (after visit s (last_choice i k g σ J))
+    (entered_box-later visit s i k g σ J u lv below)
+    (λ r x l h. after-later visit s (last_choice i k g σ J) w.steps r x lv l h)
 
 -- a walk of the rest of some items, from any bindings
 abbrev pub RestLater : ℕ → (Bindings Text → World → Visited) → Type 0

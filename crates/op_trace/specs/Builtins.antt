@@ -1,11 +1,11 @@
 -- The builtins of control (ISO/IEC 13211-1, 7.8, 8.15 and 8.17): each execution as an act. Errors of an argument come first, without steps.
-use Rattle.std.specs.Prelude.{ℕ, suc, ◌+◌, ◌&&◌, nat_le, pos, List, [], ◌∷◌, length, Option, Some, None, codes, if◌then◌else◌}
-use Rattle.op_logic.specs.Term.{Term, var, int, node, Args, no_args, arg, atom, size, arity}
+use Rattle.std.specs.Prelude.{ℕ, suc, ◌+◌, ◌==◌, ◌&&◌, nat_le, pos, length, Some, None, codes, if◌then◌else◌}
+use Rattle.op_logic.specs.Term.{Term, var, int, node, Args, no_args, arg, args_of, nth_arg, atom, size, arity}
 use Rattle.op_logic.specs.Bind.{Bindings, apply, follow}
 use Rattle.op_trace.specs.Database.{Text, text_eq}
-use Rattle.op_trace.specs.World.{World, Execution}
+use Rattle.op_trace.specs.World.{World, Execution, First, Repeated, Recovery}
 use Rattle.op_trace.specs.Act.{Act, Fails, Runs, Throws, Halts, done, pay, Setup}
-use Rattle.op_trace.specs.Body.{Body, Division, divided, term_of, pair}
+use Rattle.op_trace.specs.Body.{Division, divided, term_of, pair}
 use Rattle.op_trace.specs.Copy.{variables_of, copied}
 
 -- the ball of an error (7.12.2)
@@ -69,7 +69,7 @@ halt_with (var v) left σ w = throw left σ instantiation_error w
 halt_with (int i) left σ w = done w (Halts i)
 halt_with t left σ w = throw left σ (type_error (codes "integer") t) w
 
--- call/1 to call/8, once/1, \+/1, throw/1, halt/0, halt/1, and any other goal, which has no procedure
+-- call/1 to call/8, once/1, \+/1, catch/3, throw/1, halt/0, halt/1, and any other goal, which has no procedure
 abbrev pub act_of_goal : ℕ → Term Text → Bindings Text → World → Act
 act_of_goal left (node f no_args) σ w = if text_eq f (codes "halt") then done w (Halts (pos 0)) else unknown f 0 left σ w
 act_of_goal left (node f (arg a no_args)) σ w =
@@ -80,11 +80,19 @@ act_of_goal left (node f (arg a no_args)) σ w =
     if text_eq f (codes "halt") then halt_with (follow σ a) left σ w else
     unknown f 1 left σ w
 act_of_goal left (node f (arg a us)) σ w =
-    if text_eq f (codes "call") && nat_le (arity us) 7 then run_goal alone (follow σ a) us left σ w else unknown f (suc (arity us)) left σ w
+    if text_eq f (codes "call") && nat_le (arity us) 7 then run_goal alone (follow σ a) us left σ w else
+    if text_eq f (codes "catch") && (arity us == 2) then run_goal alone (follow σ a) no_args left σ w else
+    unknown f (suc (arity us)) left σ w
 act_of_goal left t σ w = done w Fails
 
+-- the recovery of catch/3, its last argument, runs as a goal of call/1 does
+abbrev pub act_of_recovery : ℕ → Term Text → Bindings Text → World → Act
+act_of_recovery left g σ w = run_goal alone (follow σ (nth_arg (args_of g) 2)) no_args left σ w
+
 abbrev pub act_of_program : ℕ → Execution → Term Text → Bindings Text → World → Act
-act_of_program left n g σ w = act_of_goal left g σ w
+act_of_program left First g σ w = act_of_goal left g σ w
+act_of_program left Repeated g σ w = act_of_goal left g σ w
+act_of_program left Recovery g σ w = act_of_recovery left g σ w
 
 abbrev pub setup_for : ℕ → ℕ → Setup
 setup_for budget wanted = record { budget = budget; wanted = wanted; act = act_of_program }

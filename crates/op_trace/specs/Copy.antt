@@ -1,5 +1,5 @@
 -- A copy of a term: its variables by new ones, numbered from a first one on in order of first occurrence.
-use Rattle.std.specs.Prelude.{ℕ, zero, suc, ◌+◌, ◌==◌, Bool, List, [], ◌∷◌, ◌++◌, if◌then◌else◌}
+use Rattle.std.specs.Prelude.{ℕ, zero, suc, ◌+◌, ◌==◌, List, [], ◌∷◌, ◌++◌, if◌then◌else◌}
 use Rattle.std.specs.List.{list_any}
 use Rattle.op_logic.specs.Term.{Term, var, int, node, Args, no_args, arg}
 

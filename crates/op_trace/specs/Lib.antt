@@ -2,6 +2,7 @@ pub mod Act
 pub mod Body
 pub mod BodyExamples
 pub mod Builtins
+pub mod CatchExamples
 pub mod Copy
 pub mod Database
 pub mod Ending

@@ -4,14 +4,15 @@
 use Rattle.std.specs.Prelude.{ℕ, ℤ, zero, suc, ◌+◌, ◌-◌, ◌==◌, nat_le, Bool, true, false, List, [], ◌∷◌, ◌++◌, length, codes, if◌then◌else◌}
 use Rattle.std.specs.Prelude.{Option, Some, None}
 use Rattle.std.specs.List.{list_any}
-use Rattle.op_logic.specs.Term.{Term, node, no_args, arg, atom, shift}
+use Rattle.op_logic.specs.Term.{Term, node, no_args, arg, args_of, nth_arg, atom, shift}
 use Rattle.op_logic.specs.Bind.{Bindings, apply, unify, Solved as Result}
 use Rattle.op_trace.specs.declared.port.Port.{Port}
 use Rattle.op_trace.specs.declared.port.Port.TheVariants as port
 use Rattle.op_trace.specs.declared.barrier.Barrier.{Barrier}
 use Rattle.op_trace.specs.declared.barrier.Barrier.TheVariants.{Call, InCondition, AtSuccess}
 use Rattle.op_trace.specs.Database.{Text, text_eq, Clause, Procedure, Database, procedure_of}
-use Rattle.op_trace.specs.World.{World, same_barrier, Execution, First, Item, Goal, Cut, Exit, Execute, open_boxes, head_number, Event}
+use Rattle.op_trace.specs.World.{World, same_barrier, Execution, First, Recovery, Item, Goal, Cut, Exit, Execute, open_boxes, head_number}
+use Rattle.op_trace.specs.World.{Event}
 use Rattle.op_trace.specs.World.{Turn, Shown, Solved}
 use Rattle.op_trace.specs.Act.{Yield, Fails, Succeeds, Succeeds_again, Runs, Throws, Halts, Act, Setup}
 
@@ -166,17 +167,27 @@ abbrev pub is_true : Term Text → Bool
 is_true (node f no_args) = text_eq f (codes "true")
 is_true _ = false
 
--- what is in the box of a goal: the clauses of its procedure, or its executions, where there is no procedure
+-- catch/3 (7.8.9), and the term that a ball is to be unified with
+abbrev pub is_catch : Term Text → Bool
+is_catch (node f (arg a (arg c (arg r no_args)))) = text_eq f (codes "catch")
+is_catch _ = false
+
+abbrev pub catcher_of : Term Text → Term Text
+catcher_of g = nth_arg (args_of g) 1
+
+-- what is in the box of a goal: the clauses of its procedure, or its executions, where there is no procedure; those of catch/3 are
+-- protected: a ball that comes out of them may be caught
 pub data Inside : Type 0 where
   Clauses : List Clause → Inside
   WithoutProcedure : Inside
+  Protected : Inside
 
-abbrev pub inside_procedure : Option Procedure → Inside
-inside_procedure None = WithoutProcedure
-inside_procedure (Some p) = Clauses p.clauses
+abbrev pub inside_procedure : Option Procedure → Term Text → Inside
+inside_procedure None g = if is_catch g then Protected else WithoutProcedure
+inside_procedure (Some p) g = Clauses p.clauses
 
 abbrev pub inside : Database → Term Text → Inside
-inside d g = inside_procedure (procedure_of d g)
+inside d g = inside_procedure (procedure_of d g) g
 
 -- what is to be done in a box once a clause's head has matched: its body, then the exit; nothing but the exit for a fact
 abbrev pub entered : ℕ → Clause → ℕ → Term Text → List Item → List Item
@@ -188,14 +199,14 @@ Visitor = List Item → Bindings Text → World → Visited
 
 -- what is left to do on backtracking, and after each other result, of an item that the walk has entered:
 -- an exit is redone; a disjunction has a second branch; a box has further clauses, or further executions; a box has no further
--- alternative; a
--- condition with this number has an else branch
+-- alternative, and may catch a ball that comes out of it; a condition with this number has an else branch
 pub data Choice : Type 0 where
   Redo : ℕ → Term Text → Bindings Text → List Item → Choice
   Branch : Term Text → Barrier → Bindings Text → List Item → Choice
   More : List Clause → ℕ → Term Text → Bindings Text → List Item → Choice
   Again : Execution → ℕ → Term Text → Bindings Text → List Item → Choice
   Fail : ℕ → Term Text → Bindings Text → List Item → Choice
+  Catch : ℕ → Term Text → Bindings Text → List Item → Choice
   Condition : ℕ → Term Text → Barrier → Bindings Text → List Item → Choice
 
 -- a head that was unified with the goal, or not, or whose steps were not there
@@ -236,26 +247,51 @@ on_condition n h Stopped w = gives Stopped w
 on_condition n h (Halted i) w = gives (Halted i) w
 on_condition n h Spent w = gives Spent w
 
+-- the end of a box
+abbrev pub ends : ℕ → Term Text → Bindings Text → List Item → Verdict → World → Visited
+ends k g σ J r w = on_end k (fails k g σ J) (raises k g σ J) r w
+
+-- a ball that was unified with the catcher, or not, or whose steps were not there: where it was, the recovery is executed in the same box,
+-- which catches nothing any more; else the ball leaves the box
+abbrev pub caught : Visitor → Setup → ℕ → Term Text → Bindings Text → List Item → Term Text → List ℕ → World → Option (Result Text)
+    → Visited
+caught visit s k g σ J b o w None = spent s w
+caught visit s k g σ J b o w (Some (None, left)) = raises k g σ J b o (record w { steps = s.budget - left })
+caught visit s k g σ J b o w (Some (Some τ, left)) =
+    and_then (executes_again visit s Recovery k g τ J (record w { steps = s.budget - left })) (ends k g σ J)
+
+-- a ball in a box that catches: it is unified with the catcher, under the bindings at the call
+abbrev pub catches : Visitor → Setup → ℕ → Term Text → Bindings Text → List Item → Term Text → List ℕ → World → Visited
+catches visit s k g σ J b o w = caught visit s k g σ J b o w (unify text_eq (s.budget - w.steps) σ ((b, catcher_of g) ∷ []))
+
 -- what each kind of choice point does after a result
 abbrev pub after : Visitor → Setup → Choice → Verdict → World → Visited
 after visit s (Redo k g σ J) r w = on_failed (λ u. shows port.Redo k g σ J u (gives Failed)) r w
 after visit s (Branch t m σ J) r w = on_failed (branches visit s t m σ J) r w
 after visit s (More cs k g σ J) r w = alternatives visit s cs k g σ J r w
 after visit s (Again t k g σ J) r w = on_failed (executes_again visit s t k g σ J) r w
-after visit s (Fail k g σ J) r w = on_end k (fails k g σ J) (raises k g σ J) r w
+after visit s (Fail k g σ J) r w = ends k g σ J r w
+after visit s (Catch k g σ J) r w = on_end k (fails k g σ J) (catches visit s k g σ J) r w
 after visit s (Condition n t m σ J) r w = on_condition n (branches visit s t m σ J) r w
 
 -- the alternatives of a box
 abbrev pub entered_box : Visitor → Setup → Inside → ℕ → Term Text → Bindings Text → List Item → World → Visited
 entered_box visit s (Clauses cs) k g σ J w = alternatives visit s cs k g σ J Failed w
 entered_box visit s WithoutProcedure k g σ J w = visit (Execute First k g ∷ J) σ w
+entered_box visit s Protected k g σ J w = visit (Execute First k g ∷ J) σ w
+
+-- the choice point of a box, below those of its alternatives
+abbrev pub last_choice : Inside → ℕ → Term Text → Bindings Text → List Item → Choice
+last_choice (Clauses cs) k g σ J = Fail k g σ J
+last_choice WithoutProcedure k g σ J = Fail k g σ J
+last_choice Protected k g σ J = Catch k g σ J
 
 -- a goal with a box: the next call number, the event call, its alternatives, and the event fail after them
 abbrev pub boxed : Visitor → Setup → Term Text → List Item → Bindings Text → World → Visited
 boxed visit s g J σ w =
     let k : ℕ = w.calls + 1 in
     shows port.Call k g σ J (record w { calls = k }) (λ u.
-    and_then (entered_box visit s (inside u.database g) k g σ J u) (after visit s (Fail k g σ J)))
+    and_then (entered_box visit s (inside u.database g) k g σ J u) (after visit s (last_choice (inside u.database g) k g σ J)))
 
 -- the exit of a box, and the items behind it
 abbrev pub exits : Visitor → Setup → (Bindings Text → World → Visited) → ℕ → Term Text → List Item → Bindings Text → World → Visited

@@ -74,10 +74,12 @@ same_barrier (InCondition a) (InCondition b) = a == b
 same_barrier (AtSuccess a) (AtSuccess b) = a == b
 same_barrier _ _ = false
 
--- which execution of a goal comes next: the first, or a further one (it is re-executed, 7.7.8) of a goal that succeeds each time
+-- which execution of a goal comes next: the first; a further one (it is re-executed, 7.7.8) of a goal that succeeds each time; or that of
+-- the recovery of catch/3 (7.8.9)
 pub data Execution : Type 0 where
   First : Execution
   Repeated : Execution
+  Recovery : Execution
 
 -- what is still to be done: a goal, the cut of a condition that has succeeded, the exit of a box that was called with a goal, or an
 -- execution of

@@ -4,8 +4,8 @@
 use Rattle.std.specs.Prelude.{◌≡◌, ◌⊎◌, ℕ, ◌≤◌, ◌<◌, true, List, [], ◌∷◌, if◌then◌else◌}
 use Rattle.op_trace.specs.declared.barrier.Barrier.{Barrier}
 use Rattle.op_trace.specs.declared.barrier.Barrier.TheVariants.{Call, InCondition, AtSuccess}
-use Rattle.op_trace.specs.World.{Item, Goal, Cut, Exit, Execute, Has, open_boxes}
-use Rattle.op_trace.specs.Visit.{Choice, Redo, Branch, More, Again, Fail, Condition, is_open}
+use Rattle.op_trace.specs.World.{Recovery, Item, Goal, Cut, Exit, Execute, Has, open_boxes}
+use Rattle.op_trace.specs.Visit.{Choice, Redo, Branch, More, Again, Fail, Catch, Condition, is_open}
 use Rattle.op_machine.specs.Resume.{keep, State, Forward, Backward, Throwing, Over}
 
 -- the choice points from that of the next of these boxes on
@@ -16,6 +16,7 @@ left_to o (Branch t m σ J ∷ K) = left_to o K
 left_to o (More cs k g σ J ∷ K) = left_to o K
 left_to o (Again t k g σ J ∷ K) = left_to o K
 left_to o (Fail k g σ J ∷ K) = if is_open k o then Fail k g σ J ∷ K else left_to o K
+left_to o (Catch k g σ J ∷ K) = if is_open k o then Catch k g σ J ∷ K else left_to o K
 left_to o (Condition n t m σ J ∷ K) = left_to o K
 
 -- each box of o is one of these, or has a number above c
@@ -60,13 +61,16 @@ AreGiven c d (Cut m ∷ J) = IsGiven c d m × AreGiven c d J
 AreGiven c d (Exit k g ∷ J) = (k ≤ c) × AreGiven c d J
 AreGiven c d (Execute t k g ∷ J) = (k ≤ c) × AreGiven c d J
 
--- a choice point goes on over the choice points below it: a cut to the box of further clauses leaves all of these
+-- a choice point goes on over the choice points below it: a cut to the box of further clauses leaves all of these, and a recovery goes on
+-- over its box's own that catches nothing
 abbrev pub IsScopedChoicePoint : ℕ → ℕ → Choice → List Choice → Type 0
 IsScopedChoicePoint c d (Redo k g σ J) K = Unit {0}
 IsScopedChoicePoint c d (Branch t m σ J) K = Scoped c K (Goal t m ∷ J) × AreGiven c d (Goal t m ∷ J)
 IsScopedChoicePoint c d (More cs k g σ J) K = (keep (Call k) K ≡ K) × Scoped c K J × (k ≤ c) × AreGiven c d J
 IsScopedChoicePoint c d (Again t k g σ J) K = Scoped c K (Execute t k g ∷ J) × AreGiven c d (Execute t k g ∷ J)
 IsScopedChoicePoint c d (Fail k g σ J) K = Unit {0}
+IsScopedChoicePoint c d (Catch k g σ J) K =
+    Scoped c (Fail k g σ J ∷ K) (Execute Recovery k g ∷ J) × AreGiven c d (Execute Recovery k g ∷ J)
 IsScopedChoicePoint c d (Condition n t m σ J) K = Scoped c K (Goal t m ∷ J) × AreGiven c d (Goal t m ∷ J)
 
 abbrev pub AreScoped : ℕ → ℕ → List Choice → Type 0

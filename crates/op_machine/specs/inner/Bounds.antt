@@ -2,7 +2,7 @@
 use Rattle.std.specs.Prelude.{ℕ, suc, ◌+◌, ◌*◌, ◌<◌, ◌≤◌, List, [], ◌∷◌, length}
 use Rattle.op_trace.specs.World.{World, Item, Goal, Cut, Exit, Execute, open_boxes}
 use Rattle.op_trace.specs.Act.{Setup}
-use Rattle.op_trace.specs.Visit.{Choice, Redo, Branch, More, Again, Fail, Condition}
+use Rattle.op_trace.specs.Visit.{Choice, Redo, Branch, More, Again, Fail, Catch, Condition}
 use Rattle.op_machine.specs.Resume.{State, Forward, Backward, Throwing, Over}
 
 -- how many events the choice points show by themselves
@@ -13,6 +13,7 @@ pending (More cs k g σ J ∷ K) = pending K
 pending (Again t k g σ J ∷ K) = pending K
 pending (Branch t m σ J ∷ K) = pending K
 pending (Fail k g σ J ∷ K) = suc (pending K)
+pending (Catch k g σ J ∷ K) = suc (pending K)
 pending (Condition n t m σ J ∷ K) = pending K
 
 -- these items begin with a goal
@@ -38,6 +39,7 @@ AreNested n (Again t k g σ J ∷ K) = IsNested n (Exit k g ∷ J) × AreNested 
 AreNested n (Branch t m σ J ∷ K) = IsNested n J × AreNested n K
 AreNested n (Condition c t m σ J ∷ K) = IsNested n J × AreNested n K
 AreNested n (Fail k g σ J ∷ K) = IsNested n (Exit k g ∷ J) × AreNested n K
+AreNested n (Catch k g σ J ∷ K) = IsNested n (Exit k g ∷ J) × AreNested n K
 
 -- so many events come with so many steps at the most
 abbrev pub event_bound : ℕ → ℕ

@@ -22,6 +22,7 @@ exits (item.Goal g m ∷ I) = exits I
 exits (item.Cut m ∷ I) = exits I
 exits (item.Exit k g ∷ I) = (k, g) ∷ exits I
 exits (item.Execute k g ∷ I) = (k, g) ∷ exits I
+exits (item.Recover k g ∷ I) = (k, g) ∷ exits I
 
 -- the number of the innermost of them, or 0
 abbrev pub innermost : List Item → ℕ
@@ -38,6 +39,7 @@ IsEntered B calls L (item.Goal g m) n = Unit {0}
 IsEntered B calls L (item.Cut m) n = Unit {0}
 IsEntered B calls L (item.Exit k g) n = IsCalled B calls L k g n
 IsEntered B calls L (item.Execute k g) n = IsCalled B calls L k g n
+IsEntered B calls L (item.Recover k g) n = IsCalled B calls L k g n
 
 -- the boxes have numbers that were given out, and the exits of each continuation are the open boxes of the innermost
 pub record AreBoxes (B : List BoxFrame) (calls : ℕ) (L : List (List Item)) : Type 0 where
@@ -45,12 +47,14 @@ pub record AreBoxes (B : List BoxFrame) (calls : ℕ) (L : List (List Item)) : T
   pub given : (n : ℕ) → n < length L → innermost (continuation_in L n) ≤ calls
   pub chains : (n : ℕ) → n < length L → open_from B (innermost (continuation_in L n)) ≡ exits (continuation_in L n)
 
--- the box whose clauses a choice point tries is kept, and a box that fails was called, of so many that had been
+-- the box whose clauses a choice point tries, or which may catch a ball, is kept, and a box that fails was called, of so many that had
+-- been
 abbrev pub IsTried : List BoxFrame → ℕ → List (List Item) → ChoiceKind → ℕ → ℕ → Type 0
 IsTried B calls L (kind.Redo k) g n = Unit {0}
 IsTried B calls L (kind.Branch m) g n = Unit {0}
 IsTried B calls L (kind.More k rs i) g n = IsCalled B calls L k g n
 IsTried B calls L (kind.Fail k) g n = k ≤ calls
+IsTried B calls L (kind.Catch k) g n = IsCalled B calls L k g n
 IsTried B calls L (kind.Condition c m) g n = Unit {0}
 
 -- a choice point was made when no more boxes had been called, and no more continuations were there

@@ -37,6 +37,7 @@ with_more_arguments t us = t
 
 abbrev pub act_of_kind : Stored → Builtin → Term Text → ℕ → Bindings Text → World → Act
 act_of_kind t (builtin.Run r) g left σ w = run_goal (body_around r) (follow σ (first_argument g)) (more_arguments g) left σ w
+act_of_kind t builtin.Catch g left σ w = run_goal alone (follow σ (first_argument g)) no_args left σ w
 act_of_kind t builtin.Throw g left σ w = throw_argument (follow σ (first_argument g)) left σ w
 act_of_kind t builtin.Halt g left σ w = done w (Halts (pos 0))
 act_of_kind t builtin.HaltWith g left σ w = halt_with (follow σ (first_argument g)) left σ w
@@ -46,6 +47,7 @@ act_of_kind t builtin.NoGoal g left σ w = done w Fails
 -- it has an argument
 abbrev pub HasArgument : Builtin → Type 0
 HasArgument (builtin.Run r) = Unit {0}
+HasArgument builtin.Catch = Unit {0}
 HasArgument builtin.Throw = Unit {0}
 HasArgument builtin.HaltWith = Unit {0}
 HasArgument b = ⊥

@@ -27,6 +27,7 @@ opened (item.Goal f m ∷ I) = opened I
 opened (item.Cut m ∷ I) = opened I
 opened (item.Exit k g ∷ I) = k ∷ opened I
 opened (item.Execute k g ∷ I) = k ∷ opened I
+opened (item.Recover k g ∷ I) = k ∷ opened I
 
 -- each cell leads to a continuation that is there, and knows what is open in its own
 abbrev pub AreLinked : List (List Item) → List Cell → Type 0

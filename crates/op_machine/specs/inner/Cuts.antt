@@ -12,6 +12,7 @@ kind_stays (kind.Redo k) m = false
 kind_stays (kind.Branch b) m = false
 kind_stays (kind.More k rs i) m = false
 kind_stays (kind.Fail k) m = same_barrier m (Call k)
+kind_stays (kind.Catch k) m = same_barrier m (Call k)
 kind_stays (kind.Condition c b) m = same_barrier m (InCondition c)
 
 abbrev pub kind_goes : ChoiceKind → Barrier → Bool

@@ -1,6 +1,6 @@
 -- What holds of a machine's parts between two moves.
 use Rattle.std.specs.Prelude.{◌≡◌, ℕ, ◌+◌, ◌^◌, ◌<◌, ◌≤◌, List, [], ◌∷◌, length, reverse, take, All, Option, Some, None}
-use Rattle.op_logic.specs.Term.{Term, var, atom}
+use Rattle.op_logic.specs.Term.{Term, var, atom, args_of, arity, IsWithin}
 use Rattle.op_logic.specs.Names.{HasNames, HaveNames}
 use Rattle.op_term.specs.Places.{term_at}
 use Rattle.op_bind.specs.State.{resolved, oldest}
@@ -23,11 +23,16 @@ use Rattle.op_machine.specs.Meaning.{Frame, Level, level_at, setup_of, level_in,
 abbrev pub IsGoal : ℕ → List (Term ℕ) → ℕ → Type 0
 IsGoal n ts r = (r < length ts) × HasNames n (term_at ts r)
 
+-- a goal with the arguments of catch/3, the last of which is its recovery
+abbrev pub HasRecovery : List (Term ℕ) → ℕ → Type 0
+HasRecovery ts r = arity (args_of (term_at ts r)) ≡ 3
+
 abbrev pub IsItem : ℕ → List (Term ℕ) → Item → Type 0
 IsItem n ts (item.Goal r m) = IsGoal n ts r
 IsItem n ts (item.Cut m) = Unit {0}
 IsItem n ts (item.Exit k r) = IsGoal n ts r
 IsItem n ts (item.Execute k r) = IsGoal n ts r
+IsItem n ts (item.Recover k r) = IsGoal n ts r × HasRecovery ts r
 
 abbrev pub AreItems : ℕ → List (Term ℕ) → List Item → Type 0
 AreItems n ts [] = Unit {0}
@@ -49,19 +54,20 @@ pub record IsEarlier (f : Frame) (v : Level) : Type 0 where
   pub bound_below : All (λ p. p.1 < f.mark.terms) (oldest f.mark.bound v.bound)
   pub continuations_there : f.kept.continuations ≤ length v.continuations
 
--- some clause is left of those that are tried
-abbrev pub IsKind : ℕ → ChoiceKind → Type 0
-IsKind n (kind.Redo k) = Unit {0}
-IsKind n (kind.Branch m) = Unit {0}
-IsKind n (kind.More k rs i) = (i < length rs) × AreKnown n rs
-IsKind n (kind.Fail k) = Unit {0}
-IsKind n (kind.Condition c m) = Unit {0}
+-- some clause is left of those that are tried, and a box that may catch a ball has a recovery
+abbrev pub IsKind : ℕ → List (Term ℕ) → ℕ → ChoiceKind → Type 0
+IsKind n ts g (kind.Redo k) = Unit {0}
+IsKind n ts g (kind.Branch m) = Unit {0}
+IsKind n ts g (kind.More k rs i) = (i < length rs) × AreKnown n rs
+IsKind n ts g (kind.Fail k) = Unit {0}
+IsKind n ts g (kind.Catch k) = HasRecovery ts g
+IsKind n ts g (kind.Condition c m) = Unit {0}
 
 -- a choice point leads to what was there when it was made
 pub record IsFrame (t : Stored) (v : Level) (f : Frame) : Type 0 where
   pub rest : f.rest < length v.continuations
   pub goal : IsGoal (length t.names) v.terms f.kept.goal
-  pub kind : IsKind (length t.names) f.kept.kind
+  pub kind : IsKind (length t.names) v.terms f.kept.goal f.kept.kind
 
 -- the last first
 abbrev pub AreFrames : Stored → ℕ → Level → List Frame → Type 0
@@ -85,10 +91,10 @@ AreValues ts _ _ = ⊥
 abbrev pub IsFailure : List (Term ℕ) → ℕ → Type 0
 IsFailure ts r = (r < length ts) × (term_at ts r ≡ atom 1)
 
--- the names of the ball that was thrown are among the first n
-abbrev pub IsBall : ℕ → Option (Term ℕ) → Type 0
-IsBall n None = Unit {0}
-IsBall n (Some b) = HasNames n b
+-- the names of the ball that was thrown are among the first n, and its variables among so many that were given out
+abbrev pub IsBall : ℕ → ℕ → Option (Term ℕ) → Type 0
+IsBall n variables None = Unit {0}
+IsBall n variables (Some b) = HasNames n b × IsWithin variables b
 
 -- each number leads to what is there
 pub record IsGood (c : Core) : Type 0 where
@@ -97,7 +103,7 @@ pub record IsGood (c : Core) : Type 0 where
   pub mode : IsMode (length c.continuations) c.mode
   pub values : AreValues (take c.floor.terms c.bindings.terms) c.values.items c.names
   pub failure : IsFailure (take c.floor.terms c.bindings.terms) c.failure
-  pub ball : IsBall (length c.store.names) c.ball
+  pub ball : IsBall (length c.store.names) c.bindings.count c.ball
   pub boxes : AreBoxes c.frames.boxes c.calls c.continuations
   pub boxed : AreBoxed c.frames.boxes c.continuations c.calls (length c.continuations) (reverse c.frames.choices)
 

@@ -1,6 +1,6 @@
 -- What one move of the machine does to its parts.
 use Rattle.std.specs.Prelude.{◌≡◌, ℕ, ◌-◌, ◌≤◌, List, [], ◌∷◌, if◌then◌else◌, Option}
-use Rattle.op_logic.specs.Term.{Term, shift, Args, args_of, nth_arg}
+use Rattle.op_logic.specs.Term.{Term, shift, Args, no_args, args_of, nth_arg}
 use Rattle.op_term.specs.Places.{term_at}
 use Rattle.op_logic.specs.Bind.{apply, follow, unify, Solved as Result}
 use Rattle.op_trace.specs.World as world
@@ -10,7 +10,7 @@ use Rattle.op_trace.specs.Database.{Text, text_eq}
 use Rattle.op_trace.specs.World.{World, Turn, Shown, Solved}
 use Rattle.op_trace.specs.Act.{Act}
 use Rattle.op_trace.specs.Body.{divided}
-use Rattle.op_trace.specs.Builtins.{act_of_goal, throw, run_goal, run_division}
+use Rattle.op_trace.specs.Builtins.{act_of_goal, throw, run_goal, run_division, alone}
 use Rattle.op_trace.specs.Visit.{control, inside, is_true}
 use Rattle.op_trace.specs.Visit as visit
 use Rattle.op_bind.specs.declared.places.Clause.{Clause as NumberedClause}
@@ -29,7 +29,7 @@ use Rattle.op_machine.specs.inner.BuiltinKinds.{body_around, first_argument, mor
 use Rattle.op_machine.specs.Resume.{State, entered_state, Moved, Forward, Backward, Throwing, silent, pay}
 use Rattle.op_machine.specs.Resume.{keep, if_then_else_chosen, chosen, invoked}
 use Rattle.op_machine.specs.Resume.{head_unified, tried}
-use Rattle.op_machine.specs.Resume.{branched, performed, yielded, leaving, move}
+use Rattle.op_machine.specs.Resume.{branched, executed_again, performed, yielded, leaving, move}
 
 -- the turn that a machine shows after a step
 abbrev pub turns_of : Step → Core → List Turn
@@ -142,6 +142,16 @@ abbrev pub argument_run : Core → Around → ℕ → ℕ → ℕ → Moved
 argument_run c r k g n = act_moved c (run_goal (body_around r) (follow (bindings_now c) (first_argument (goal_now c g)))
     (more_arguments (goal_now c g)) (steps_left c) (bindings_now c) (world_in c)) k g n
 
+-- one of its arguments, by its place, runs in its box, with no more arguments
+abbrev pub part_run : Core → ℕ → ℕ → ℕ → ℕ → Moved
+part_run c i k g n = act_moved c (run_goal alone (follow (bindings_now c) (nth_arg (args_of (goal_now c g)) i)) no_args (steps_left c)
+    (bindings_now c) (world_in c)) k g n
+
+-- the recovery of a box comes next, over the choice points that there are
+abbrev pub recovery_moved : Core → ℕ → ℕ → ℕ → Moved
+recovery_moved c k g n = executed_again (setup_of c) world.Recovery k (goal_now c g) (bindings_now c) (items_now c n)
+    (choice_points_in c) (world_in c)
+
 -- a goal is converted, and runs in the box of another
 abbrev pub goal_run : Core → Around → ℕ → ℕ → ℕ → ℕ → Moved
 goal_run c r q k g n = act_moved c (run_division (divided (bindings_now c) (goal_now c q)) (body_around r) (goal_now c q) (steps_left c)
@@ -154,7 +164,7 @@ body_run c b k g n = silent (Forward (world.Goal (goal_now c b) (Call k) ∷ wor
 
 -- a ball goes up from a box
 abbrev pub ball_moved : Core → ℕ → Moved
-ball_moved c n = leaving (ball_text c.store c.ball) (open_in c.frames n) (choice_points_in c) (world_in c)
+ball_moved c n = leaving (setup_of c) (ball_text c.store c.ball) (open_in c.frames n) (choice_points_in c) (world_in c)
 
 -- the program and the goal's names stay, also where memory is wanting, and steps never fall
 pub record Keeps (old new : Core) : Type 0 where

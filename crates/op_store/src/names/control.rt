@@ -27,21 +27,23 @@ pub const NOT: Sym = Sym(9);
 pub const THROW: Sym = Sym(10);
 /// `halt`.
 pub const HALT: Sym = Sym(11);
+/// `catch`.
+pub const CATCH: Sym = Sym(12);
 /// `error`, the name of error terms.
-pub const ERROR: Sym = Sym(12);
+pub const ERROR: Sym = Sym(13);
 /// `opium`, the second argument of error terms.
-pub const OPIUM: Sym = Sym(13);
+pub const OPIUM: Sym = Sym(14);
 /// `instantiation_error`.
-pub const INSTANTIATION_ERROR: Sym = Sym(14);
+pub const INSTANTIATION_ERROR: Sym = Sym(15);
 /// `type_error`.
-pub const TYPE_ERROR: Sym = Sym(15);
+pub const TYPE_ERROR: Sym = Sym(16);
 /// `callable`.
-pub const CALLABLE: Sym = Sym(16);
+pub const CALLABLE: Sym = Sym(17);
 /// `integer`.
-pub const INTEGER: Sym = Sym(17);
+pub const INTEGER: Sym = Sym(18);
 /// `existence_error`.
-pub const EXISTENCE_ERROR: Sym = Sym(18);
+pub const EXISTENCE_ERROR: Sym = Sym(19);
 /// `procedure`.
-pub const PROCEDURE: Sym = Sym(19);
+pub const PROCEDURE: Sym = Sym(20);
 /// `/`.
-pub const SLASH: Sym = Sym(20);
+pub const SLASH: Sym = Sym(21);

@@ -3,7 +3,7 @@ ghost use Rattle.op_logic.specs.Names.{IsTable, name_at};
 ghost use Rattle.op_store.specs.Stored.{control_names, builtin_names, error_names, first_names};
 
 use crate::names::control::{
-    ARROW, CALL, CALLABLE, COMMA, CUT, ERROR, EXISTENCE_ERROR, FAIL, FALSE, HALT,
+    ARROW, CALL, CALLABLE, CATCH, COMMA, CUT, ERROR, EXISTENCE_ERROR, FAIL, FALSE, HALT,
     INSTANTIATION_ERROR, INTEGER, NOT, ONCE, OPIUM, PROCEDURE, SEMICOLON, SLASH, THROW, TRUE,
     TYPE_ERROR,
 };
@@ -34,6 +34,7 @@ fn add_builtin_names(symbols: &mut Symbols) -> Result<(), Memory>
     symbols.intern("\\+")?;
     symbols.intern("throw")?;
     symbols.intern("halt")?;
+    symbols.intern("catch")?;
     Ok(())
 }
 
@@ -60,7 +61,7 @@ pub(crate) fn first_symbols(alloc: Global) -> Result<Symbols, Memory>
     ensures table { IfOk result (λ s. IsTable s) }
     ensures control { map (λ s. name_at first_names s.0) (TRUE ∷ FAIL ∷ FALSE ∷ COMMA ∷ SEMICOLON ∷ ARROW ∷ CUT ∷ CALL ∷ [])
         ≡ control_names }
-    ensures builtins { map (λ s. name_at first_names s.0) (ONCE ∷ NOT ∷ THROW ∷ HALT ∷ []) ≡ builtin_names }
+    ensures builtins { map (λ s. name_at first_names s.0) (ONCE ∷ NOT ∷ THROW ∷ HALT ∷ CATCH ∷ []) ≡ builtin_names }
     ensures errors { map (λ s. name_at first_names s.0) (ERROR ∷ OPIUM ∷ INSTANTIATION_ERROR ∷ TYPE_ERROR ∷ CALLABLE ∷ INTEGER
         ∷ EXISTENCE_ERROR ∷ PROCEDURE ∷ SLASH ∷ []) ≡ error_names }
 {

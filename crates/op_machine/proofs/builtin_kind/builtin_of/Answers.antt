@@ -30,4 +30,4 @@ returns-in-Struct-clause-act c =
     let many : 1 < more.arity = omega (arith, h.1, h.2, count.1) in
     longer-act c.args.store.now c.names_law.ensures.table c.names_law.ensures.begins left σ w more.name more.arity
     c.longer_builtin.result g
-    (record { call = b.call; long = b.long; other = b.other }) h.0 h.1 many
+    (record { call = b.call; long = b.long; catch = b.catch; other_catch = b.other_catch; other = b.other }) h.0 h.1 many

@@ -23,11 +23,17 @@ unfolding built
 returns-then-arity-eq2 c =
     c.is_among-then-arity-eq2.ensures ∙ sym (ap (λ (n : ℕ). is_among (built n) c.args.name.now) c.if-arity-eq2.true)
 
-pub returns-else-arity-eq2 : goal.returns-else-arity-eq2
+pub returns-then-arity-eq3 : goal.returns-then-arity-eq3
 unfolding built
-returns-else-arity-eq2 c =
-    c.is_among-else-arity-eq2.ensures
+returns-then-arity-eq3 c =
+    c.is_among-then-arity-eq3.ensures ∙ sym (ap (λ (n : ℕ). is_among (built n) c.args.name.now) c.if-arity-eq3.true)
+
+pub returns-else-arity-eq3 : goal.returns-else-arity-eq3
+unfolding built
+returns-else-arity-eq3 c =
+    c.is_among-else-arity-eq3.ensures
     ∙ sym (ap (λ (names : List Text). is_among names c.args.name.now)
     (if_false (c.args.arity == 0) _ _ (not-eq c.args.arity 0 c.if-arity-eq0.false)
     ∙ (if_false (c.args.arity == 1) _ _ (not-eq c.args.arity 1 c.if-arity-eq1.false)
-    ∙ (if_false (c.args.arity == 2) _ _ (not-eq c.args.arity 2 c.if-arity-eq2.false)))))
+    ∙ (if_false (c.args.arity == 2) _ _ (not-eq c.args.arity 2 c.if-arity-eq2.false)
+    ∙ (if_false (c.args.arity == 3) _ _ (not-eq c.args.arity 3 c.if-arity-eq3.false))))))

@@ -20,6 +20,20 @@ run_argument-requires-clause-argument c =
     c.builtin_of.ensures.argument (term_at old.bindings.terms c.args.goal) (sym c.outline.ensures)
     (subst HasArgument (sym c.in-Run.is) tt)
 
+pub returns-in-Catch-clause-advances : goal.returns-in-Catch-clause-advances
+returns-in-Catch-clause-advances c =
+    let old : Core = c.args.self.now in
+    act-as old c.run_part.new.self _ _ c.args.call c.args.goal c.args.rest c.run_part.result
+    (executed-kind old c.builtin_of.result builtin.Catch c.args.goal
+    (c.builtin_of.ensures.act (term_at old.bindings.terms c.args.goal) (sym c.outline.ensures)) c.in-Catch.is)
+    c.run_part.ensures.advances
+
+pub run_part-requires-clause-argument : goal.run_part-requires-clause-argument
+run_part-requires-clause-argument c =
+    let old : Core = c.args.self.now in
+    c.builtin_of.ensures.argument (term_at old.bindings.terms c.args.goal) (sym c.outline.ensures)
+    (subst HasArgument (sym c.in-Catch.is) tt)
+
 pub returns-in-Throw-clause-advances : goal.returns-in-Throw-clause-advances
 returns-in-Throw-clause-advances c =
     let old : Core = c.args.self.now in

@@ -40,7 +40,7 @@ returns-in_default-clause-advances c =
     let t : Term Text = goal_now old c.first_argument-argument.result in
     act-as old c.throw_type_error.new.self _ _ c.args.call c.args.goal c.args.rest c.throw_type_error.result
     (ap (λ (f : Text). throw (steps_left old) (bindings_now old) (type_error f t) (world_in old))
-    (first-name old.store.names 17 c.names_law.ensures.begins (omega arith))
+    (first-name old.store.names 18 c.names_law.ensures.begins (omega arith))
     ∙ (halt-other old.store.names (steps_left old) (bindings_now old) (world_in old)
     (term_at old.bindings.terms c.first_argument-argument.result) (λ v e. c.in_default.not-Var v (c.outline.ensures ∙ e))
     (λ i e. c.in_default.not-Int i (c.outline.ensures ∙ e))
@@ -48,4 +48,4 @@ returns-in_default-clause-advances c =
     c.throw_type_error.ensures.advances
 
 pub throw_type_error-requires-clause-name : goal.throw_type_error-requires-clause-name
-throw_type_error-requires-clause-name c = first-there c.args.self.now.store.names 17 c.names_law.ensures.begins (omega arith)
+throw_type_error-requires-clause-name c = first-there c.args.self.now.store.names 18 c.names_law.ensures.begins (omega arith)

@@ -15,9 +15,9 @@ make_pair-requires-clause-name c =
     let old : Core = c.args.self.now in
     let one = c.in_ok-name in
     let two = c.in_ok-count in
-    made-name c.make_atom.new.self c.make_integer.new.self two.count two.ensures.made 20
-    (made-name old c.make_atom.new.self one.name one.ensures.made 20
-    (first-there old.store.names 20 c.names_law.ensures.begins (omega arith)))
+    made-name c.make_atom.new.self c.make_integer.new.self two.count two.ensures.made 21
+    (made-name old c.make_atom.new.self one.name one.ensures.made 21
+    (first-there old.store.names 21 c.names_law.ensures.begins (omega arith)))
 
 pub returns-clause-made : goal.returns-clause-made
 returns-clause-made c =
@@ -38,9 +38,9 @@ returns-clause-value c =
     let two = c.in_ok-count.ensures.made in
     let name = c.in_ok-name.name in
     let count = c.in_ok-count.count in
-    let slash : name_at counted.store.names 20 ≡ codes "/" =
-    made-name_at named counted count two 20 ∙ (made-name_at old named name one 20
-    ∙ first-name old.store.names 20 c.names_law.ensures.begins (omega arith)) in
+    let slash : name_at counted.store.names 21 ≡ codes "/" =
+    made-name_at named counted count two 21 ∙ (made-name_at old named name one 21
+    ∙ first-name old.store.names 21 c.names_law.ensures.begins (omega arith)) in
     let is_name : goal_now counted name ≡ atom (name_at old.store.names c.args.name.0) =
     made-goal named counted count two name one.there ∙ c.in_ok-name.ensures.value in
     let number : SFits w64 (pos c.args.arity) × (c.in-Ok.number ≡ pos c.args.arity) =
@@ -48,6 +48,6 @@ returns-clause-value c =
     let same = to_z-of_z w64 c.in-Ok.number (subst (SFits w64) (sym number.1) number.0) in
     let is_count : goal_now counted count ≡ int (pos c.args.arity) = c.in_ok-count.ensures.value ∙ ap int (same ∙ number.1) in
     IfOk-weaker c.make_pair.result _ _
-    (λ r e. e ∙ pair-same (name_at counted.store.names 20) (codes "/") (goal_now counted name) (atom (name_at old.store.names
+    (λ r e. e ∙ pair-same (name_at counted.store.names 21) (codes "/") (goal_now counted name) (atom (name_at old.store.names
     c.args.name.0))
     (goal_now counted count) (int (pos c.args.arity)) slash is_name is_count) c.make_pair.ensures.value

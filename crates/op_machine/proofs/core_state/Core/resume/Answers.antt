@@ -8,7 +8,8 @@ use Rattle.op_machine.proofs.core_state.Core.resume.Goals as goal
 
 pub try_clauses-requires-clause-known : goal.try_clauses-requires-clause-known
 try_clauses-requires-clause-known c =
-    (subst (IsKind (length c.args.self.now.store.names)) c.in-More.is c.requires.frame.kind).1
+    let old : Core = c.args.self.now in
+    (subst (IsKind (length old.store.names) old.bindings.terms c.args.choice.now.kept.goal) c.in-More.is c.requires.frame.kind).1
 
 pub try_clauses-requires-clause-called : goal.try_clauses-requires-clause-called
 try_clauses-requires-clause-called c =

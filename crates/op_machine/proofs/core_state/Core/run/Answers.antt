@@ -121,7 +121,7 @@ throw_type_error-requires-clause-culprit c =
     c.requires.whole
 
 pub throw_type_error-requires-clause-name : goal.throw_type_error-requires-clause-name
-throw_type_error-requires-clause-name c = first-there c.args.self.now.store.names 16 c.names_law.ensures.begins (omega arith)
+throw_type_error-requires-clause-name c = first-there c.args.self.now.store.names 17 c.names_law.ensures.begins (omega arith)
 
 pub returns-in-Err-NotCallable-clause-advances : goal.returns-in-Err-NotCallable-clause-advances
 returns-in-Err-NotCallable-clause-advances c =
@@ -136,10 +136,10 @@ returns-in-Err-NotCallable-clause-advances c =
     ∙ (ap (λ (ns : List Text). c.body_in.new.fuel + (D ns).steps) c.symbols.ensures.names
     ∙ ap (λ (n : ℕ). n + (D old.store.names).steps) (sym c.left-in-Err-NotCallable.ensures))) in
     refused-answer old c.throw_type_error.new.self s c.args.around c.args.whole c.args.call c.args.goal c.args.rest
-    c.left-in-Err-NotCallable.result (name_at old.store.names 16) c.throw_type_error.result c.requires.good c.requires.steps
+    c.left-in-Err-NotCallable.result (name_at old.store.names 17) c.throw_type_error.result c.requires.good c.requires.steps
     c.in-Err-NotCallable.ensures.grows c.in-Err-NotCallable.ensures.bindings c.in-Err-NotCallable.ensures.count
     c.requires.whole c.requires.goal c.requires.there none paid
-    (first-name old.store.names 16 c.names_law.ensures.begins (omega arith)) c.throw_type_error.ensures.advances
+    (first-name old.store.names 17 c.names_law.ensures.begins (omega arith)) c.throw_type_error.ensures.advances
 
 pub returns-in-Err-Spent-clause-advances : goal.returns-in-Err-Spent-clause-advances
 returns-in-Err-Spent-clause-advances c =

@@ -1,10 +1,11 @@
 use Rattle.std.proofs.Common.{ℕ, ◌-◌, Err, sym, ap, ◌∙◌, subst, arith}
-use Rattle.op_bind.specs.State.{State}
+use Rattle.op_bind.specs.State.{State, value_of}
 use Rattle.op_machine.specs.declared.core_state.Core.{Core}
 use Rattle.op_machine.specs.declared.core_state.Step.TheVariants as step
 use Rattle.op_machine.specs.inner.Moves.{Advances, ball_raised}
 use Rattle.op_machine.proofs.HeadUnification.{bound_on}
 use Rattle.op_machine.proofs.ThrownBalls.{copied-good, copied-goal, thrown-copied, thrown-spent}
+use Rattle.op_machine.proofs.CopiedVariables.{copied-within}
 use Rattle.op_machine.proofs.core_state.Core.throw.Goals as goal
 
 pub raise-requires-clause-good : goal.raise-requires-clause-good
@@ -18,6 +19,11 @@ raise-requires-clause-ball c =
     let old : Core = c.args.self.now in
     copied-goal old c.copy.new.self c.args.term c.requires.good c.in-Ok.ensures.grows c.in-Ok.ensures.bindings c.requires.term
     c.in-Ok.ball (old.budget - c.left.result) c.in-Ok.ensures.there c.in-Ok.ensures.value
+
+pub raise-requires-clause-within : goal.raise-requires-clause-within
+raise-requires-clause-within c =
+    copied-within c.args.self.now.bindings.count (value_of c.args.self.now.bindings c.args.term) (value_of c.copy.new.self c.in-Ok.ball)
+    c.copy.new.self.count c.in-Ok.ensures.free c.in-Ok.ensures.count
 
 pub returns-in_ok-raise-in-Ok-clause-advances : goal.returns-in_ok-raise-in-Ok-clause-advances
 returns-in_ok-raise-in-Ok-clause-advances c =
