@@ -211,7 +211,8 @@ module _ (t : Stored) (table : IsTable t.names) (begins : take (length first_nam
         (λ three. as-builtin g builtin.Catch b (h.catch q three)
         (ap (λ (c : Bool). act_by c catches) not_call
         ∙ ap (act_by false)
-        (both-hold (text_eq name (codes "catch")) (arity rest == 2) (is-name f.0 12 (codes "catch") (omega arith) refl q) (exactly-three (arity rest) n count three))))
+        (both-hold (text_eq name (codes "catch")) (arity rest == 2)
+        (is-name f.0 12 (codes "catch") (omega arith) refl q) (exactly-three (arity rest) n count three))))
         (λ no. as-builtin g (builtin.Unknown f n) b (h.other_catch q no)
         (none not_call (second-fails (text_eq name (codes "catch")) (arity rest == 2) (not-three (arity rest) n count no))))
 

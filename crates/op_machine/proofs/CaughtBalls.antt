@@ -72,7 +72,8 @@ module _ (c : Core) (ball : Term ℕ) (k g n outer a : ℕ) (thrown : c.ball ≡
   met-named : IsTable c.store.names → box_met c k g n outer ≡ by_unifier (rename_solved (name_at c.store.names) numbered)
   met-named table =
       let catcher : catcher_of (goal_now c g) ≡ goal_named c.store (term_at c.bindings.terms a) =
-      argument-renamed (name_at c.store.names) (term_at c.bindings.terms g) 1 (omega (arith, recovery)) ∙ ap (goal_named c.store) (sym value) in
+      argument-renamed (name_at c.store.names) (term_at c.bindings.terms g) 1 (omega (arith, recovery))
+      ∙ ap (goal_named c.store) (sym value) in
       ap (λ (t : Term Text). by_unifier (unify text_eq (c.budget - c.steps) (bindings_now c) ((t, catcher_of (goal_now c g)) ∷ [])))
       (ap (ball_text c.store) thrown)
       ∙ (ap (λ (t : Term Text).

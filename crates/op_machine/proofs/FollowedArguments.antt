@@ -23,7 +23,8 @@ module _ (f : ℕ → Text) where
   argument-renamed (node g ts) i h = nth-rename f ts i h
 
 -- an argument that was followed is there, and means the argument, followed
-module _ (c : Core) (g a r i : ℕ) (goal : HasGoal c g) (value : term_at c.bindings.terms a ≡ nth_arg (args_of (term_at c.bindings.terms g)) i)
+module _ (c : Core) (g a r i : ℕ) (goal : HasGoal c g) (value : term_at c.bindings.terms a
+    ≡ nth_arg (args_of (term_at c.bindings.terms g)) i)
     (followed : term_at c.bindings.terms r ≡ follow (bindings c.bindings) (term_at c.bindings.terms a)) where
   pub followed-there : HaveNames (length c.store.names) (bindings c.bindings) → a < length c.bindings.terms → r < length c.bindings.terms
       → HasGoal c r

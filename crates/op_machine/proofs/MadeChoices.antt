@@ -46,5 +46,6 @@ module _ (c : Core) (q : ChoiceKind) (g n : ℕ) (f : Frame) (now : IsMadeNow c 
       } in
       pushed-good c f (c.frames.choices ++ f ∷ []) good now.mark now.good continuations calls frame
       (subst (λ (a : Alternative). at a f.rest) (sym now.kept)
-      (subst (λ (m : ℕ). at (record { goal = g; continuations = length c.continuations; calls = c.calls; kind = q }) m) (sym now.rest) tried))
+      (subst (λ (m : ℕ). at (record { goal = g; continuations = length c.continuations; calls = c.calls; kind = q }) m) (sym now.rest)
+      tried))
       (reverse-append c.frames.choices (f ∷ []))

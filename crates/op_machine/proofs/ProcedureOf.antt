@@ -27,7 +27,8 @@ pi_head (node f no_args) n e = ap pi_of_node e
 pi_head (node f (arg t ts)) n e = ap pi_of_node e
 
 -- what is in the box of a goal, by the clauses of its procedure
-inside-clauses : (t : Stored) (g : Term Text) (o : Option Procedure) (q : Option (List NumberedClause)) → option_map (λ (p : Procedure). p.clauses) o
+inside-clauses : (t : Stored) (g : Term Text) (o : Option Procedure) (q : Option (List NumberedClause))
+    → option_map (λ (p : Procedure). p.clauses) o
     ≡ option_map (map (clause_named t.names)) q
     → inside_procedure o g ≡ inside_snapshot t q g
 inside-clauses t g None None e = refl
@@ -43,7 +44,8 @@ pub inside-found : (t : Stored) (g : Term ℕ) (q : Option (List NumberedClause)
 inside-found t g q e = inside-clauses t (goal_named t g) (procedure_of (database_of t) (named t.names g)) q e
 
 -- a term that is no goal has no procedure
-pub inside-none : (t : Stored) (g : Term ℕ) → pi_of g ≡ None → inside (database_of t) (goal_named t g) ≡ inside_snapshot t None (goal_named t g)
+pub inside-none : (t : Stored) (g : Term ℕ) → pi_of g ≡ None → inside (database_of t) (goal_named t g)
+    ≡ inside_snapshot t None (goal_named t g)
 inside-none t (var v) e = refl
 inside-none t (int i) e = refl
 inside-none t (node f ts) e = absurd cc

@@ -36,7 +36,8 @@ enter_box-requires-clause-known c =
 pub push_choice_point-requires-clause-tried : goal.push_choice_point-requires-clause-tried
 push_choice_point-requires-clause-tried c =
     c.last_kind-kind.ensures.tried c.args.rest
-    (subst (λ (x : Core). HasCalled x c.in_ok-call.call c.args.goal c.args.rest) (sym c.show_event.ensures.rest) c.in_ok-call.ensures.called)
+    (subst (λ (x : Core). HasCalled x c.in_ok-call.call c.args.goal c.args.rest) (sym c.show_event.ensures.rest)
+    c.in_ok-call.ensures.called)
 
 pub returns-clause-advances : goal.returns-clause-advances
 returns-clause-advances c =

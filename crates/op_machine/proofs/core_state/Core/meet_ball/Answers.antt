@@ -37,7 +37,8 @@ recover-requires-clause-good c =
     let s : State = c.unify_ball.new.terms in
     let them = paid-by old c.in-Some.ball c.argument-catcher.result c.new-fuel.result _ c.new-fuel.ensures
     (c.in-Ok-Yes.ensures.yes (ap Ok c.in-Ok-Yes.field-0-is)) in
-    subst (λ (x : Framed Alternative). IsGood (with_frames old s (old.budget - c.left.result) x)) (sym c.in_ok-push_choice-in-Ok-Yes.ensures.ok)
+    subst (λ (x : Framed Alternative). IsGood (with_frames old s (old.budget - c.left.result) x))
+    (sym c.in_ok-push_choice-in-Ok-Yes.ensures.ok)
     (subst (λ (n : ℕ). IsGood (with_frames old s (old.budget - n) (record old.frames { choices = old.frames.choices ++ f ∷ [] })))
     (sym c.left.ensures)
     (caught-good old c.in-Some.ball c.args.call c.args.goal c.args.rest c.args.around c.argument-catcher.result c.in-Some.is
@@ -83,7 +84,8 @@ pub returns-in-Err-Spent-clause-advances : goal.returns-in-Err-Spent-clause-adva
 returns-in-Err-Spent-clause-advances c =
     let old : Core = c.args.self.now in
     let is = ap Err c.in-Err-Spent.field-0-is in
-    let none = paid-by old c.in-Some.ball c.argument-catcher.result c.new-fuel.result _ c.new-fuel.ensures (c.in-Err-Spent.ensures.spent is) in
+    let none = paid-by old c.in-Some.ball c.argument-catcher.result c.new-fuel.result _ c.new-fuel.ensures
+    (c.in-Err-Spent.ensures.spent is) in
     unpaid-advances old c.in-Some.ball c.args.call c.args.goal c.args.rest c.args.around c.argument-catcher.result c.in-Some.is
     c.argument-catcher.ensures.value c.argument-catcher.ensures.there c.requires.goal c.requires.recovery c.requires.good
     c.unify_ball.new.terms c.run_out.new.self c.names_law.ensures.table none (c.in-Err-Spent.ensures.still is) c.run_out.ensures

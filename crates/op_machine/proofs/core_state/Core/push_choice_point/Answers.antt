@@ -25,4 +25,5 @@ returns-clause-good c =
     let now : IsMadeNow old c.args.kind c.args.goal c.args.rest f =
     record { mark = h.mark; good = h.good; rest = h.rest; kept = h.kept } in
     subst (λ (x : Framed Alternative). IsGood (record old { frames = x })) (sym c.in_ok-push_choice.ensures.ok)
-    (made-good old c.args.kind c.args.goal c.args.rest f now c.requires.good c.requires.there c.requires.goal c.requires.kind c.requires.tried)
+    (made-good old c.args.kind c.args.goal c.args.rest f now c.requires.good c.requires.there c.requires.goal c.requires.kind
+    c.requires.tried)

@@ -20,4 +20,5 @@ meet_ball-requires-clause-called c =
     subst (λ k. HasCalled old k f.kept.goal f.rest) own
     (called-along old.frames.boxes old.frames.boxes old.continuations old.continuations f.kept.calls old.calls _ f.kept.goal
     f.rest c.requires.calls refl refl
-    (subst (λ (q : ChoiceKind). IsTried old.frames.boxes f.kept.calls old.continuations q f.kept.goal f.rest) c.in-Catch.is c.requires.tried))
+    (subst (λ (q : ChoiceKind). IsTried old.frames.boxes f.kept.calls old.continuations q f.kept.goal f.rest) c.in-Catch.is
+    c.requires.tried))

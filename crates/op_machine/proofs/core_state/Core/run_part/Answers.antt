@@ -9,7 +9,8 @@ returns-in-Var-clause-advances c =
     let old : Core = c.args.self.now in
     IfOk-weaker c.throw_instantiation_error.result _ _
     (λ s h. unbound-part old c.args.place c.args.call c.args.goal c.args.rest c.followed_argument-argument.result
-    c.followed_argument-argument.ensures.value c.throw_instantiation_error.new.self s c.in-Var.field-0 (sym c.outline.ensures ∙ c.in-Var.is) h)
+    c.followed_argument-argument.ensures.value c.throw_instantiation_error.new.self s
+    c.in-Var.field-0 (sym c.outline.ensures ∙ c.in-Var.is) h)
     c.throw_instantiation_error.ensures.advances
 
 pub returns-clause-advances : goal.returns-clause-advances
