@@ -1,0 +1,1 @@
+p :- catch(q,x,true), throw(x). q.
