@@ -53,7 +53,7 @@ by-ender P p1 p2 p3 p4 p5 Comma h = p4
 by-ender P p1 p2 p3 p4 p5 Bar h = p5
 by-ender P p1 p2 p3 p4 p5 other h = absurd (let z : false ≡ true = h in cc)
 
-pub none-either : (l : Bool) → cond {A = Option ℕ} l None None ≡ None
+pub none-either : {A : Type 0} (l : Bool) → cond {A = Option A} l None None ≡ None
 none-either true = refl
 none-either false = refl
 
@@ -121,11 +121,8 @@ module _ (ops : Table) where
   round-pair (t ∷ ts) = refl
 
   pub no-negative : (k : Known) (ks : List Known) → magnitude_behind (firsts ks) ≡ None → k_negative k ks ≡ None
-  no-negative k ks h = ap (λ (o : Option ℕ). cond (minus_name k) (option_and_then negated o) None) h ∙ none-z (minus_name k)
-    where
-      none-z : (l : Bool) → cond {A = Option ℤ} l None None ≡ None
-      none-z true = refl
-      none-z false = refl
+  no-negative k ks h = ap (λ (o : Option ℕ). cond (minus_name k) (option_and_then negated o) None) h
+      ∙ none-either (minus_name k)
 
   -- the word of a name, and the tokens behind it
   pub record NameWord (f : List ℕ) (ns : List Lexeme) (e2 : Edge) (ks : List Known) : Type 0 where
