@@ -257,7 +257,7 @@ module _ (ops : Table) where
     pub set_digit : e ≡ Minus → magnitude_behind (firsts ks) ≡ None
     pub alone : is_operand bound ≡ true → k_alone ops ks ≡ false
 
-  begins-apart : (ks : List Known) (bound : Bound) (e : Edge) (l : Bool) → is_empty_pair OpenSquare (firsts ks) ≡ false
+  pub begins-apart : (ks : List Known) (bound : Bound) (e : Edge) (l : Bool) → is_empty_pair OpenSquare (firsts ks) ≡ false
       → is_empty_pair OpenCurly (firsts ks) ≡ false → opens (firsts ks) ≡ false → magnitude_behind (firsts ks) ≡ None
       → (is_operand bound ≡ true → k_alone ops ks ≡ false) → Begins bound e l ks
   begins-apart ks bound e l s c o m a = record {
