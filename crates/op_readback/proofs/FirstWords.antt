@@ -42,37 +42,18 @@ step P m ns s at e l k = subst P (sym (if_false (is_space m) _ _ s)) (by_test (g
 pub by-name-kind : (P : TokenKind → Type 0) → P Name → P QuotedName → (kind : TokenKind) → is_name kind ≡ true → P kind
 by-name-kind P p q Name h = p
 by-name-kind P p q QuotedName h = q
-by-name-kind P p q Variable h = absurd (let z : false ≡ true = h in cc)
-by-name-kind P p q (Integer m) h = absurd (let z : false ≡ true = h in cc)
-by-name-kind P p q Text h = absurd (let z : false ≡ true = h in cc)
-by-name-kind P p q OpenRound h = absurd (let z : false ≡ true = h in cc)
-by-name-kind P p q CloseRound h = absurd (let z : false ≡ true = h in cc)
-by-name-kind P p q OpenSquare h = absurd (let z : false ≡ true = h in cc)
-by-name-kind P p q CloseSquare h = absurd (let z : false ≡ true = h in cc)
-by-name-kind P p q OpenCurly h = absurd (let z : false ≡ true = h in cc)
-by-name-kind P p q CloseCurly h = absurd (let z : false ≡ true = h in cc)
-by-name-kind P p q Comma h = absurd (let z : false ≡ true = h in cc)
-by-name-kind P p q Bar h = absurd (let z : false ≡ true = h in cc)
-by-name-kind P p q End h = absurd (let z : false ≡ true = h in cc)
+by-name-kind P p q other h = absurd (let z : false ≡ true = h in cc)
 
 pub by-ender : (P : TokenKind → Type 0) → P CloseRound → P CloseSquare → P CloseCurly → P Comma → P Bar → (kind : TokenKind)
     → ends_operand kind ≡ true → P kind
-by-ender P p1 p2 p3 p4 p5 Name h = absurd (let z : false ≡ true = h in cc)
-by-ender P p1 p2 p3 p4 p5 QuotedName h = absurd (let z : false ≡ true = h in cc)
-by-ender P p1 p2 p3 p4 p5 Variable h = absurd (let z : false ≡ true = h in cc)
-by-ender P p1 p2 p3 p4 p5 (Integer m) h = absurd (let z : false ≡ true = h in cc)
-by-ender P p1 p2 p3 p4 p5 Text h = absurd (let z : false ≡ true = h in cc)
-by-ender P p1 p2 p3 p4 p5 OpenRound h = absurd (let z : false ≡ true = h in cc)
 by-ender P p1 p2 p3 p4 p5 CloseRound h = p1
-by-ender P p1 p2 p3 p4 p5 OpenSquare h = absurd (let z : false ≡ true = h in cc)
 by-ender P p1 p2 p3 p4 p5 CloseSquare h = p2
-by-ender P p1 p2 p3 p4 p5 OpenCurly h = absurd (let z : false ≡ true = h in cc)
 by-ender P p1 p2 p3 p4 p5 CloseCurly h = p3
 by-ender P p1 p2 p3 p4 p5 Comma h = p4
 by-ender P p1 p2 p3 p4 p5 Bar h = p5
-by-ender P p1 p2 p3 p4 p5 End h = absurd (let z : false ≡ true = h in cc)
+by-ender P p1 p2 p3 p4 p5 other h = absurd (let z : false ≡ true = h in cc)
 
-pub none-either : (l : Bool) → cond {A = Option ℕ} l None None ≡ None
+pub none-either : {A : Type 0} (l : Bool) → cond {A = Option A} l None None ≡ None
 none-either true = refl
 none-either false = refl
 
@@ -140,11 +121,8 @@ module _ (ops : Table) where
   round-pair (t ∷ ts) = refl
 
   pub no-negative : (k : Known) (ks : List Known) → magnitude_behind (firsts ks) ≡ None → k_negative k ks ≡ None
-  no-negative k ks h = ap (λ (o : Option ℕ). cond (minus_name k) (option_and_then negated o) None) h ∙ none-z (minus_name k)
-    where
-      none-z : (l : Bool) → cond {A = Option ℤ} l None None ≡ None
-      none-z true = refl
-      none-z false = refl
+  no-negative k ks h = ap (λ (o : Option ℕ). cond (minus_name k) (option_and_then negated o) None) h
+      ∙ none-either (minus_name k)
 
   -- the word of a name, and the tokens behind it
   pub record NameWord (f : List ℕ) (ns : List Lexeme) (e2 : Edge) (ks : List Known) : Type 0 where
@@ -279,6 +257,19 @@ module _ (ops : Table) where
     pub set_digit : e ≡ Minus → magnitude_behind (firsts ks) ≡ None
     pub alone : is_operand bound ≡ true → k_alone ops ks ≡ false
 
+  pub begins-apart : (ks : List Known) (bound : Bound) (e : Edge) (l : Bool) → is_empty_pair OpenSquare (firsts ks) ≡ false
+      → is_empty_pair OpenCurly (firsts ks) ≡ false → opens (firsts ks) ≡ false → magnitude_behind (firsts ks) ≡ None
+      → (is_operand bound ≡ true → k_alone ops ks ≡ false) → Begins bound e l ks
+  begins-apart ks bound e l s c o m a = record {
+    square = s;
+    curly = c;
+    laid = λ x. o;
+    set = λ x. o;
+    laid_digit = λ x. m;
+    set_digit = λ x. m;
+    alone = a;
+  }
+
   pub begins-round : (ns : List Lexeme) (bound : Bound) (at : ℕ) (e : Edge) (l : Bool) → Begins bound e l (tokens at e l (sign 40 ∷ ns))
   begins-round ns bound at e l = step (Begins bound e l) (sign 40) ns refl at e l (λ at1 l1 h g i. record {
     square = refl;
@@ -291,26 +282,12 @@ module _ (ops : Table) where
   })
 
   pub begins-square : (ns : List Lexeme) (bound : Bound) (at : ℕ) (e : Edge) (l : Bool) → Begins bound e l (tokens at e l (sign 91 ∷ ns))
-  begins-square ns bound at e l = step (Begins bound e l) (sign 91) ns refl at e l (λ at1 l1 h g i. record {
-    square = refl;
-    curly = refl;
-    laid = λ x. refl;
-    set = λ x. refl;
-    laid_digit = λ x. none-either l1;
-    set_digit = λ x. none-either l1;
-    alone = λ o. refl;
-  })
+  begins-square ns bound at e l = step (Begins bound e l) (sign 91) ns refl at e l (λ at1 l1 h g i. begins-apart _ bound e l
+      refl refl refl (none-either l1) (λ o. refl))
 
   pub begins-curly : (ns : List Lexeme) (bound : Bound) (at : ℕ) (e : Edge) (l : Bool) → Begins bound e l (tokens at e l (sign 123 ∷ ns))
-  begins-curly ns bound at e l = step (Begins bound e l) (sign 123) ns refl at e l (λ at1 l1 h g i. record {
-    square = refl;
-    curly = refl;
-    laid = λ x. refl;
-    set = λ x. refl;
-    laid_digit = λ x. none-either l1;
-    set_digit = λ x. none-either l1;
-    alone = λ o. refl;
-  })
+  begins-curly ns bound at e l = step (Begins bound e l) (sign 123) ns refl at e l (λ at1 l1 h g i. begins-apart _ bound e l
+      refl refl refl (none-either l1) (λ o. refl))
 
   -- a name that is no infix operator alone, or behind which arguments follow
   only-no : (kind : TokenKind) (a b : ℕ) (l : Bool) (f : List ℕ) (js : List Known) → is_name kind ≡ true → (is_infix_alone ops f ≡ false)
@@ -337,46 +314,14 @@ module _ (ops : Table) where
   begins-token kind a b l1 f js bound e l k alone =
       by-name-kind (λ kind. (is_operand bound ≡ true → k_alone ops ((tok kind a b l1, f) ∷ js) ≡ false)
       → Begins bound e l ((tok kind a b l1, f) ∷ js))
-      (λ al. record {
-        square = refl;
-        curly = refl;
-        laid = λ x. refl;
-        set = λ x. refl;
-        laid_digit = λ x. none-either l1;
-        set_digit = λ x. none-either l1;
-        alone = al;
-      })
-      (λ al. record {
-        square = refl;
-        curly = refl;
-        laid = λ x. refl;
-        set = λ x. refl;
-        laid_digit = λ x. none-either l1;
-        set_digit = λ x. none-either l1;
-        alone = al;
-      }) kind k alone
+      (λ al. begins-apart _ bound e l refl refl refl (none-either l1) al)
+      (λ al. begins-apart _ bound e l refl refl refl (none-either l1) al) kind k alone
 
   pub begins-atom : (f : List ℕ) (ns : List Lexeme) (bound : Bound) → (is_operand bound ≡ true → is_infix_alone ops f ≡ false)
       → (at : ℕ) (e : Edge) (l : Bool) → Begins bound e l (tokens at e l (name f ∷ ns))
   begins-atom f ns bound i at e l = named (Begins bound e l) f ns at e l
-      (λ q a b c d n l1 h. record {
-        square = refl;
-        curly = refl;
-        laid = λ x. refl;
-        set = λ x. refl;
-        laid_digit = λ x. none-either l1;
-        set_digit = λ x. none-either l1;
-        alone = λ o. refl;
-      })
-      (λ q a b c d n l1 h. record {
-        square = refl;
-        curly = refl;
-        laid = λ x. refl;
-        set = λ x. refl;
-        laid_digit = λ x. none-either l1;
-        set_digit = λ x. none-either l1;
-        alone = λ o. refl;
-      })
+      (λ q a b c d n l1 h. begins-apart _ bound e l refl refl refl (none-either l1) (λ o. refl))
+      (λ q a b c d n l1 h. begins-apart _ bound e l refl refl refl (none-either l1) (λ o. refl))
       (λ kind k a b n l1 h. let js = tokens n (edge_behind e (lexeme_fragment (name f))) false ns
       in begins-token kind a b l1 f js bound e l k
       (λ o. only-no kind a b l1 f js k (i o)))
@@ -388,24 +333,8 @@ module _ (ops : Table) where
   pub begins-functor : (f : List ℕ) → IsUtf8 f → (ns : List Lexeme) (bound : Bound) (at : ℕ) (e : Edge) (l : Bool)
       → Begins bound e l (tokens at e l (name f ∷ sign 40 ∷ ns))
   begins-functor f u ns bound at e l = named (Begins bound e l) f (sign 40 ∷ ns) at e l
-      (λ q a b c d n l1 h. record {
-        square = refl;
-        curly = refl;
-        laid = λ x. refl;
-        set = λ x. refl;
-        laid_digit = λ x. none-either l1;
-        set_digit = λ x. none-either l1;
-        alone = λ o. refl;
-      })
-      (λ q a b c d n l1 h. record {
-        square = refl;
-        curly = refl;
-        laid = λ x. refl;
-        set = λ x. refl;
-        laid_digit = λ x. none-either l1;
-        set_digit = λ x. none-either l1;
-        alone = λ o. refl;
-      })
+      (λ q a b c d n l1 h. begins-apart _ bound e l refl refl refl (none-either l1) (λ o. refl))
+      (λ q a b c d n l1 h. begins-apart _ bound e l refl refl refl (none-either l1) (λ o. refl))
       (λ kind k a b n l1 h. let e2 = edge_behind e (lexeme_fragment (name f)) in let js = tokens n e2 false (sign 40 ∷ ns) in
       begins-token kind a b l1 f js bound e l k (λ o. only-open kind a b l1 f js k (opens-round ns n e2 (name-round f u e))))
 

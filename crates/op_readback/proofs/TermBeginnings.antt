@@ -37,7 +37,7 @@ use Rattle.op_readback.proofs.RowTrees.{notation-prefix}
 use Rattle.op_readback.proofs.LexemeTokens.{Known, tok, tokens, gap}
 use Rattle.op_readback.proofs.KnownWords.{k_alone, k_negative}
 use Rattle.op_readback.proofs.FirstWords.{step, none-either, Begins, begins-round, begins-square, begins-curly, begins-atom, begins-functor}
-use Rattle.op_readback.proofs.FirstWords.{begins-prefix}
+use Rattle.op_readback.proofs.FirstWords.{begins-prefix, begins-apart}
 use Rattle.op_readback.proofs.Operands.{begins-operand, left-operand}
 use Rattle.op_readback.proofs.OperatorTerms.{Starts}
 
@@ -81,15 +81,7 @@ module _ (ops : Table) where
       (le-leb (suc k) least_magnitude (let z : k < 2 ^ 63 = h in omega (arith, z))) in
       let alone : k_alone ops (one ∷ two ∷ js) ≡ false =
       ap (λ (x : Option ℤ). is_infix_alone ops (codes "-") && true && not (is_some x)) neg ∙ and-none (is_infix_alone ops (codes "-")) in
-      record {
-        square = refl;
-        curly = refl;
-        laid = λ x. refl;
-        set = λ x. refl;
-        laid_digit = λ x. none-either l1;
-        set_digit = λ x. none-either l1;
-        alone = λ o. alone;
-      })
+      begins-apart ops (one ∷ two ∷ js) bound e l refl refl refl (none-either l1) (λ o. alone))
     where
       and-none : (b : Bool) → (b && true && false) ≡ false
       and-none true = refl
