@@ -87,7 +87,7 @@ insert-next [] i e u h = absurd cc
 insert-next (d ∷ ds) zero e u h = let same : d ≡ e = cc in ap (λ (y : Pi × NumberedProcedure). y ∷ []) (sym same)
 insert-next (d ∷ ds) (suc i) e u h =
     let other : pi_eq e.0 d.0 ≡ false =
-        pi-apart d.0 e.0 (key-apart d.0 ds i e (IsDistinct-head pi_eq d.0 (keys_of ds) u) h) in
+    pi-apart d.0 e.0 (key-apart d.0 ds i e (IsDistinct-head pi_eq d.0 (keys_of ds) u) h) in
     let rest = insert-next ds i e (IsDistinct-tail pi_eq d.0 (keys_of ds) u) h in
     if_false (pi_eq e.0 d.0) ((d.0, e.1) ∷ take i ds) (d ∷ insert_entry pi_eq (take i ds) e.0 e.1) other
     ∙ ap (λ (xs : NumberedProcedures). d ∷ xs) rest
