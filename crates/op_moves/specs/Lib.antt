@@ -4,3 +4,4 @@ pub mod Laws
 pub mod Moves
 pub mod Pairs
 pub mod Pattern
+pub mod Places

@@ -1,0 +1,8 @@
+//! The feed of a run's events: each place can be reached again, since the run is made again.
+#![tactic(auto)]
+
+mod fault;
+mod feed;
+
+pub use fault::{Cause, FeedFault};
+pub use feed::{Feed, FeedStep};
