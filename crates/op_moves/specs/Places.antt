@@ -54,3 +54,22 @@ pub record TakesNothingBack (w : World) (a : Act) : Type 0 where
 abbrev pub ActsGoOn : Setup → Type 0
 ActsGoOn s =
     (left : ℕ) (t : world.Execution) (g : Term Text) (σ : Bindings Text) (w : World) → TakesNothingBack w (s.act left t g σ w)
+
+-- a world without a further event
+pub record IsSilent (w u : World) : Type 0 where
+  pub steps : w.steps ≤ u.steps
+  pub events : u.events ≡ w.events
+  pub goes_on : GoesOn w u
+
+-- a world with one more event, whose number is that of the events by then
+pub record IsShown (w : World) (e : Event) (u : World) : Type 0 where
+  pub chrono : e.chrono ≡ w.events + 1
+  pub steps : w.steps ≤ u.steps
+  pub events : u.events ≡ w.events + 1
+  pub goes_on : GoesOn w u
+
+-- turns that lead from one world to another
+abbrev pub IsCourse : World → List Turn → World → Type 0
+IsCourse w [] v = IsSilent w v
+IsCourse w (Shown e u ∷ ts) v = IsShown w e u × IsCourse u ts v
+IsCourse w (Solved σ u ∷ ts) v = IsSilent w u × IsCourse u ts v

@@ -1,3 +1,5 @@
 pub mod Fed
+pub mod Holding
 pub mod Sight
 pub mod Takes
+pub mod inner
