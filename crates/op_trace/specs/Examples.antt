@@ -9,15 +9,15 @@ use Rattle.op_trace.specs.Database.{Text, text_eq, Clause, Indicator, Database, 
 use Rattle.op_trace.specs.Database.{with_clause}
 use Rattle.op_trace.specs.World.{World, loaded, Event, Turn, Shown, Solved, Execution, Repeated}
 use Rattle.op_trace.specs.Act.{Act, Fails, Succeeds, Succeeds_again, done, pay, Setup}
-use Rattle.op_trace.specs.Builtins.{setup_for, error_of, type_error, no_procedure, instantiation_error}
+use Rattle.op_trace.specs.Builtins.{setup_for, type_error, no_procedure, instantiation_error}
 use Rattle.op_trace.specs.Ending.{Failed, Stopped, Thrown, Halted, Spent}
 use Rattle.op_trace.specs.Visit.{visit, visit_by, visit_with}
 use Rattle.op_trace.specs.Run.{Run, run, events_of, output_at}
 
-abbrev name : Text → Term Text
+abbrev pub name : Text → Term Text
 name f = atom f
 
-abbrev conjunction : Term Text → Term Text → Term Text
+abbrev pub conjunction : Term Text → Term Text → Term Text
 conjunction a b = node (codes ",") (arg a (arg b no_args))
 
 abbrev disjunction : Term Text → Term Text → Term Text
@@ -26,7 +26,7 @@ disjunction a b = node (codes ";") (arg a (arg b no_args))
 abbrev if_then : Term Text → Term Text → Term Text
 if_then a b = node (codes "->") (arg a (arg b no_args))
 
-abbrev clause : ℕ → Text → Term Text → Clause
+abbrev pub clause : ℕ → Text → Term Text → Clause
 clause i f b = record { id = i; head = name f; body = b; variables = 0 }
 
 abbrev no_database : Database
@@ -41,13 +41,13 @@ with_clauses d [] = d
 with_clauses d (c ∷ cs) = with_clauses (added d (indicator_of_term c.head) c) cs
 
 -- the world of a program of these clauses
-abbrev program : List Clause → World
+abbrev pub program : List Clause → World
 program cs = loaded (with_clauses no_database cs)
 
-abbrev event : ℕ → ℕ → ℕ → ℕ → Port → Text → Event
+abbrev pub event : ℕ → ℕ → ℕ → ℕ → Port → Text → Event
 event n k p d q f = record { chrono = n; call = k; parent = p; depth = d; port = q; goal = name f }
 
-abbrev setup : Setup
+abbrev pub setup : Setup
 setup = setup_for 100 1
 
 abbrev all : Setup
@@ -256,7 +256,7 @@ unfolding visit visit_by visit_with
 loop_steps = refl
 
 -- e(a,b). e(b,c). p(X,Z) :- e(X,Y), e(Y,Z).
-abbrev two : Text → Term Text → Term Text → Term Text
+abbrev pub two : Text → Term Text → Term Text → Term Text
 two f a b = node f (arg a (arg b no_args))
 
 abbrev edges : World
@@ -269,7 +269,7 @@ edges = program (record { id = 0; head = two (codes "e") (name (codes "a")) (nam
       variables = 3;
     } ∷ [])
 
-abbrev shown : ℕ → ℕ → ℕ → ℕ → Port → Term Text → Event
+abbrev pub shown : ℕ → ℕ → ℕ → ℕ → Port → Term Text → Event
 shown n k p d q g = record { chrono = n; call = k; parent = p; depth = d; port = q; goal = g }
 
 -- p(a,W): the goal's variable is _0, those of p's clause are _1 to _3
@@ -477,7 +477,7 @@ unfolding visit visit_by visit_with
 edge_solutions = refl
 
 -- Goals as arguments, and balls.
-abbrev one : Text → Term Text → Term Text
+abbrev pub one : Text → Term Text → Term Text
 one f a = node f (arg a no_args)
 
 abbrev call_one : Term Text → Term Text
