@@ -1,16 +1,17 @@
 -- The acts of a program take back nothing.
-use Rattle.std.proofs.Common.{ℕ, suc, ◌-◌, ◌==◌, ◌&&◌, nat_le, pos, Bool, true, false, cond, Option, Some, None, codes}
+use Rattle.std.proofs.Common.{ℕ, suc, ◌+◌, ◌-◌, ◌==◌, ◌&&◌, nat_le, pos, Bool, true, false, cond, length, Option, Some, None, codes, refl}
 use Rattle.op_logic.specs.Term.{Term, var, int, node, Args, no_args, arg, args_of, nth_arg, size, arity}
 use Rattle.op_logic.specs.Bind.{Bindings, apply, follow}
 use Rattle.op_trace.specs.Database.{Text, text_eq}
 use Rattle.op_trace.specs.World.{World, Execution, First, Repeated, Recovery}
-use Rattle.op_trace.specs.Act.{Act, Yield, Fails, Runs, Halts, done, pay, paid}
+use Rattle.op_trace.specs.Act.{Act, Yield, Fails, Runs, Throws, Halts, done, pay, paid}
 use Rattle.op_trace.specs.Body.{Body, Division, divided, term_of}
+use Rattle.op_trace.specs.Copy.{variables_of, copied}
 use Rattle.op_trace.specs.Builtins.{throw, unknown, no_procedure, run_division, run_goal, added, alone, first_solution, no_solution}
 use Rattle.op_trace.specs.Builtins.{throw_argument, halt_with, act_of_goal, act_of_recovery, act_of_program, setup_for}
 use Rattle.op_trace.specs.Builtins.{instantiation_error, type_error}
 use Rattle.op_moves.specs.Places.{TakesNothingBack, ActsGoOn}
-use Rattle.op_moves.proofs.WalkCourses.{goes-same}
+use Rattle.op_moves.proofs.WalkCourses.{goes-same, goes-kept}
 
 -- an act leaves the bytes of the input and of the output as they were
 done-keeps : (w : World) (y : Yield) → TakesNothingBack w (done w y)
@@ -30,8 +31,10 @@ pay-keeps n left w rest h = paid-keeps (nat_le n left) n left w rest h
 
 throw-keeps : (left : ℕ) (σ : Bindings Text) (t : Term Text) (w : World) → TakesNothingBack w (throw left σ t w)
 throw-keeps left σ t w =
-    pay-keeps (size (apply σ t)) left w _
-    (λ l. record { after = goes-same w; interrupted = goes-same w })
+    let b : Term Text = apply σ t in
+    let u : World = record w { variables = w.variables + length (variables_of b) } in
+    pay-keeps (size b) left w (λ l. done u (Throws (copied w.variables b)))
+    (λ l. record { after = goes-kept w u refl refl; interrupted = goes-kept w u refl refl })
 
 unknown-keeps : (f : Text) (n left : ℕ) (σ : Bindings Text) (w : World) → TakesNothingBack w (unknown f n left σ w)
 unknown-keeps f n left σ w =
@@ -78,7 +81,8 @@ builtin-keeps (node f (arg a (arg b us))) left σ w =
     (by_if (text_eq f (codes "catch") && (arity (arg b us) == 2)) w _ _ (goal-keeps alone (follow σ a) no_args left σ w)
     (unknown-keeps f (suc (arity (arg b us))) left σ w))
 
-execution-keeps : (t : Execution) (g : Term Text) (left : ℕ) (σ : Bindings Text) (w : World) → TakesNothingBack w (act_of_program left t g σ w)
+execution-keeps : (t : Execution) (g : Term Text) (left : ℕ) (σ : Bindings Text) (w : World)
+    → TakesNothingBack w (act_of_program left t g σ w)
 execution-keeps First g left σ w = builtin-keeps g left σ w
 execution-keeps Repeated g left σ w = builtin-keeps g left σ w
 execution-keeps Recovery g left σ w = goal-keeps alone (follow σ (nth_arg (args_of g) 2)) no_args left σ w

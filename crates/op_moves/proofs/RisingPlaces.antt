@@ -119,8 +119,8 @@ numbered-on w (Solved σ u ∷ ts) v i e c h =
     let q = c.0.events in
     omega arith
 
-numbered-at : (w : World) (r : Run) (i : ℕ) (e : Event) → w.events ≡ 0 → IsCourse w r.turns r.world → event_at (events_of r.turns) i ≡ Some e
-    → e.chrono ≡ i
+numbered-at : (w : World) (r : Run) (i : ℕ) (e : Event) → w.events ≡ 0 → IsCourse w r.turns r.world
+    → event_at (events_of r.turns) i ≡ Some e → e.chrono ≡ i
 numbered-at w r zero e z c h = absurd cc
 numbered-at w r (suc i) e z c h = let p = numbered-on w r.turns r.world i e c h in omega arith
 

@@ -9,7 +9,8 @@ use Rattle.op_trace.specs.declared.port.Port.TheVariants as port
 use Rattle.op_trace.specs.declared.barrier.Barrier.{Barrier}
 use Rattle.op_trace.specs.declared.barrier.Barrier.TheVariants.{Call, InCondition, AtSuccess}
 use Rattle.op_trace.specs.Database.{Text, text_eq, Clause}
-use Rattle.op_trace.specs.World.{World, same_barrier, Execution, First, Recovery, Item, Goal, Cut, Exit, Execute, Turn, Shown, Solved}
+use Rattle.op_trace.specs.World.{World, same_barrier, Execution, First, Recovery, Item, Goal, Cut, Exit, Execute, open_boxes}
+use Rattle.op_trace.specs.World.{Turn, Shown, Solved}
 use Rattle.op_trace.specs.Act.{Yield, Fails, Succeeds, Succeeds_again, Runs, Throws, Halts, Act, Setup}
 use Rattle.op_trace.specs.Visit.{counted_as, acts, Inside, Clauses, WithoutProcedure, Protected, inside, Again, Catch}
 use Rattle.op_trace.specs.Visit.{catcher_of, ends, caught, catches, last_choice}
@@ -17,7 +18,7 @@ use Rattle.op_trace.specs.Visit.{executes_again, entered_box, exits, yields}
 use Rattle.op_trace.specs.Visit.{Verdict, Failed, CutTo, Thrown, Stopped, Halted, Spent, Visited, gives, and_then, on_failed, reaches}
 use Rattle.op_trace.specs.Visit.{on_end, on_condition, is_open, around, selects, fails, raises, shows, solved}
 use Rattle.op_trace.specs.Visit.{cut, with_event, pays, spends, Control, TrueGoal, FailGoal, CutGoal, Conjunction, Disjunction, IfThenElse}
-use Rattle.op_trace.specs.Visit.{BoxedGoal, control, Visitor, Choice, Redo, Branch, More, Fail, Condition, matched, try_clause}
+use Rattle.op_trace.specs.Visit.{BoxedGoal, control, Visitor, Choice, Redo, Branch, More, Fail, Condition, entered, matched, try_clause}
 use Rattle.op_trace.specs.Visit.{alternatives, branches, after, boxed, if_then_else, selected, visit_with, visit_by, visit}
 use Rattle.op_trace.proofs.WalkSteps.{IsLess, within-less}
 use Rattle.op_moves.specs.Places.{IsWrittenBehind, GoesOn, TakesNothingBack, ActsGoOn, IsSilent, IsShown, IsCourse}
@@ -30,6 +31,10 @@ written-then xs ys zs a b = (a.0 ++ b.0, b.1 ∙ ap (λ l. l ++ b.0) a.1 ∙ app
 
 pub goes-same : (w : World) → GoesOn w w
 goes-same w = record { looked = omega arith; output = written-same w.output }
+
+-- what was looked at and what was written are as before
+pub goes-kept : (w u : World) → u.looked ≡ w.looked → u.output ≡ w.output → GoesOn w u
+goes-kept w u l o = record { looked = omega arith; output = ([], o ∙ sym (append-nil w.output)) }
 
 pub goes-then : (w u v : World) → GoesOn w u → GoesOn u v → GoesOn w v
 goes-then w u v a b = record {
@@ -49,12 +54,15 @@ silent-then w u v a b = record {
 
 pub silent-course : (w u : World) (ts : List Turn) (v : World) → IsSilent w u → IsCourse u ts v → IsCourse w ts v
 silent-course w u [] v a c = silent-then w u v a c
-silent-course w u (Shown e x ∷ ts) v a c = (record {
-  chrono = c.0.chrono ∙ ap (λ n. n + 1) a.events;
-  steps = let p = a.steps in let q = c.0.steps in omega arith;
-  events = c.0.events ∙ ap (λ n. n + 1) a.events;
-  goes_on = goes-then w u x a.goes_on c.0.goes_on;
-}, c.1)
+silent-course w u (Shown e x ∷ ts) v a c = (
+  record {
+    chrono = c.0.chrono ∙ ap (λ n. n + 1) a.events;
+    steps = let p = a.steps in let q = c.0.steps in omega arith;
+    events = c.0.events ∙ ap (λ n. n + 1) a.events;
+    goes_on = goes-then w u x a.goes_on c.0.goes_on;
+  },
+  c.1,
+)
 silent-course w u (Solved σ x ∷ ts) v a c = (silent-then w u x a c.0, c.1)
 
 pub course-then : (w : World) (ts : List Turn) (u : World) (us : List Turn) (v : World) → IsCourse w ts u → IsCourse u us v
@@ -78,7 +86,7 @@ walks-gives b r w below = (silent-same w, below)
 
 -- a count of steps that rises
 with_steps : (w : World) (n : ℕ) → w.steps ≤ n → IsSilent w (record w { steps = n })
-with_steps w n h = record { steps = h; events = refl; goes_on = goes-same w }
+with_steps w n h = record { steps = h; events = refl; goes_on = goes-kept w (record w { steps = n }) refl refl }
 
 walks-pays : (t : Bool) (s : Setup) (n : ℕ) (w : World) (h : World → Visited) → nat_le (w.steps + n) s.budget ≡ t → w.steps ≤ s.budget
     → (w.steps + n ≤ s.budget → Walks s.budget (record w { steps = w.steps + n }) (h (record w { steps = w.steps + n })))
@@ -152,7 +160,7 @@ walks-then b w v h l k =
 walks-shows : (b : ℕ) (p : Port) (k : ℕ) (g : Term Text) (σ : Bindings Text) (J : List Item) (w : World) (h : World → Visited)
     → Walks b (with_event w) (h (with_event w)) → Walks b w (shows p k g σ J w h)
 walks-shows b p k g σ J w h l =
-    ((record { chrono = refl; steps = omega arith; events = refl; goes_on = goes-same w }, l.0), l.1)
+    ((record { chrono = refl; steps = omega arith; events = refl; goes_on = goes-kept w (with_event w) refl refl }, l.0), l.1)
 
 walks-ends : (b k : ℕ) (g : Term Text) (σ : Bindings Text) (J : List Item) (r : Verdict) (w : World) → w.steps ≤ b
     → Walks b w (ends k g σ J r w)
@@ -166,12 +174,17 @@ walks-matched : (visit : Visitor) (s : Setup) (c : Clause) (k : ℕ) (g : Term T
 walks-matched visit s c k g J w None lv below less = (with_steps w s.budget below, omega arith)
 walks-matched visit s c k g J w (Some (None, left)) lv below less = (with_steps w (s.budget - left) (omega arith), omega arith)
 walks-matched visit s c k g J w (Some (Some τ, left)) lv below less =
-    let n : ℕ = s.budget - left in
     let up : w.steps ≤ s.budget - left = omega arith in
     let in_budget : s.budget - left ≤ s.budget = omega arith in
-    walks-from s.budget w (record w { steps = s.budget - left }) _ (with_steps w (s.budget - left) up)
-    (walks-spends s c.variables (record w { steps = s.budget - left }) _ in_budget (λ fits.
-    walks-from s.budget _ _ _ (record { steps = omega arith; events = refl; goes_on = goes-same w }) (lv _ _ _ fits)))
+    let u : World = record w { steps = s.budget - left } in
+    let goes : World → Visited = λ x. visit (entered w.variables c k g J) τ (record x { variables = x.variables + c.variables }) in
+    walks-from s.budget w u (spends s c.variables u goes) (with_steps w (s.budget - left) up)
+    (walks-spends s c.variables u goes in_budget (λ fits.
+    let x : World = record u { steps = u.steps + c.variables } in
+    let y : World = record x { variables = x.variables + c.variables } in
+    walks-from s.budget x y (visit (entered w.variables c k g J) τ y)
+    (record { steps = omega arith; events = refl; goes_on = goes-kept x y refl refl })
+    (lv (entered w.variables c k g J) τ y fits)))
 
 walks-clause : (visit : Visitor) (s : Setup) (c : Clause) (k : ℕ) (g : Term Text) (σ : Bindings Text) (J : List Item) (w : World)
     → VisitsWalk s.budget visit → w.steps ≤ s.budget → Walks s.budget w (try_clause visit s c k g σ J w)
@@ -213,7 +226,7 @@ walks-caught visit s k g σ J b o w (Some (Some τ, left)) lv below less =
     let u : World = record w { steps = s.budget - left } in
     let up : w.steps ≤ s.budget - left = omega arith in
     let in_budget : s.budget - left ≤ s.budget = omega arith in
-    walks-from s.budget w u _ (with_steps w (s.budget - left) up)
+    walks-from s.budget w u (and_then (executes_again visit s Recovery k g τ J u) (ends k g σ J)) (with_steps w (s.budget - left) up)
     (walks-then s.budget u (executes_again visit s Recovery k g τ J u) (ends k g σ J)
     (walks-again visit s Recovery k g τ J u lv in_budget) (λ r x h. walks-ends s.budget k g σ J r x h))
 
@@ -254,8 +267,10 @@ walks-boxed visit s g J σ w lv below =
     let called : World = record w { calls = k } in
     let u : World = with_event called in
     let i : Inside = inside w.database g in
-    walks-from s.budget w called _ (record { steps = omega arith; events = refl; goes_on = goes-same w })
-    (walks-shows s.budget port.Call k g σ J called _
+    let goes : World → Visited = λ x. and_then (entered_box visit s i k g σ J x) (after visit s (last_choice i k g σ J)) in
+    walks-from s.budget w called (shows port.Call k g σ J called goes)
+    (record { steps = omega arith; events = refl; goes_on = goes-kept w called refl refl })
+    (walks-shows s.budget port.Call k g σ J called goes
     (walks-then s.budget u (entered_box visit s i k g σ J u) (after visit s (last_choice i k g σ J))
     (walks-entered visit s i k g σ J u lv below) (λ r x h. walks-after visit s (last_choice i k g σ J) r x lv h)))
 
@@ -267,7 +282,7 @@ walks-exits : (visit : Visitor) (s : Setup) (rest : Bindings Text → World → 
     (σ : Bindings Text) (w : World) → VisitsWalk s.budget visit → RestWalks s.budget rest → w.steps ≤ s.budget
     → Walks s.budget w (exits visit s rest k g J σ w)
 walks-exits visit s rest k g J σ w lv lr below =
-    walks-shows s.budget port.Exit k g σ J w _
+    walks-shows s.budget port.Exit k g σ J w (λ x. and_then (rest σ x) (after visit s (Redo k g σ J)))
     (walks-then s.budget (with_event w) (rest σ (with_event w)) (after visit s (Redo k g σ J)) (lr σ (with_event w) below)
     (λ r u h. walks-after visit s (Redo k g σ J) r u lv h))
 
@@ -280,7 +295,9 @@ walks-if : (visit : Visitor) (s : Setup) (c t e : Term Text) (m : Barrier) (J : 
 walks-if visit s c t e m J σ w lv below =
     let n : ℕ = w.conditions + 1 in
     let u : World = record w { conditions = n } in
-    walks-from s.budget w u _ (record { steps = omega arith; events = refl; goes_on = goes-same w })
+    walks-from s.budget w u
+    (and_then (visit (Goal c (InCondition n) ∷ Cut (AtSuccess n) ∷ Goal t m ∷ J) σ u) (after visit s (Condition n e m σ J)))
+    (record { steps = omega arith; events = refl; goes_on = goes-kept w u refl refl })
     (walks-then s.budget u (visit (Goal c (InCondition n) ∷ Cut (AtSuccess n) ∷ Goal t m ∷ J) σ u) (after visit s (Condition n e m σ J))
     (lv (Goal c (InCondition n) ∷ Cut (AtSuccess n) ∷ Goal t m ∷ J) σ u below)
     (λ r x h. walks-after visit s (Condition n e m σ J) r x lv h))
@@ -311,13 +328,13 @@ walks-yields visit s rest k g J σ (Succeeds_again τ t) w lv lr below =
     walks-then s.budget w (exits visit s rest k g J τ w) (after visit s (Again t k g σ J)) (walks-exits visit s rest k g J τ w lv lr below)
     (λ r u h. walks-after visit s (Again t k g σ J) r u lv h)
 walks-yields visit s rest k g J σ (Runs b) w lv lr below = walks-selects visit s b (Call k) (Exit k g ∷ J) σ w lv below
-walks-yields visit s rest k g J σ (Throws b) w lv lr below = walks-gives s.budget _ w below
+walks-yields visit s rest k g J σ (Throws b) w lv lr below = walks-gives s.budget (Thrown b (k ∷ open_boxes J)) w below
 walks-yields visit s rest k g J σ (Halts i) w lv lr below = walks-gives s.budget (Halted i) w below
 
 walks-solved : (s : Setup) (σ : Bindings Text) (w : World) → w.steps ≤ s.budget → Walks s.budget w (solved s σ w)
 walks-solved s σ w below =
     let u : World = record w { solutions = w.solutions + 1 } in
-    ((record { steps = omega arith; events = refl; goes_on = goes-same w }, silent-same u), below)
+    ((record { steps = omega arith; events = refl; goes_on = goes-kept w u refl refl }, silent-same u), below)
 
 walks-with : (visit : Visitor) (s : Setup) → ActsGoOn s → VisitsWalk s.budget visit → VisitsWalk s.budget (visit_with visit s)
 unfolding visit_with
