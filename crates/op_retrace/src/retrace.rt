@@ -99,8 +99,7 @@ impl Retrace {
 }
 
 // Whether a feed stands at the end.
-fn is_at_end(place: u64, furthest: u64, ending: &Option<Ending>) -> bool
-{
+fn is_at_end(place: u64, furthest: u64, ending: &Option<Ending>) -> bool {
     place == furthest && ending.is_some()
 }
 
@@ -110,8 +109,7 @@ fn step_on(
     furthest: &mut u64,
     kept: &mut Option<Ending>,
     ending: Option<Ending>,
-) -> FeedStep
-{
+) -> FeedStep {
     *place += 1;
     if *place > *furthest {
         *furthest = *place;
@@ -132,7 +130,13 @@ impl Feed for Retrace {
         if let Some(cause) = self.fault {
             return Err(FeedFault::Ended(cause));
         }
-        match start_again(self.alloc, &self.store, &self.goal, self.budget, self.wanted) {
+        match start_again(
+            self.alloc,
+            &self.store,
+            &self.goal,
+            self.budget,
+            self.wanted,
+        ) {
             Ok(machine) => {
                 self.machine = machine;
                 self.place = 0;
@@ -158,7 +162,12 @@ impl Feed for Retrace {
             return Ok(FeedStep::End);
         }
         match come_to_next(&mut self.machine, steps) {
-            Ok(ending) => Ok(step_on(&mut self.place, &mut self.furthest, &mut self.ending, ending)),
+            Ok(ending) => Ok(step_on(
+                &mut self.place,
+                &mut self.furthest,
+                &mut self.ending,
+                ending,
+            )),
             Err(Memory) => {
                 self.fault = Some(Cause::Memory);
                 Err(FeedFault::Memory)

@@ -24,7 +24,12 @@ pub record Passed (old new : Kept) (ts : List Turn) : Type 0 where
   pub count : answered new ≡ answered old + length ts
   pub steps : new.steps ≡ last_steps old.steps ts
 
--- and then this event
+-- it has answered no more than some solutions
+pub record Passing (old new : Kept) : Type 0 where
+  pub skipped : List Turn
+  pub passed : Passed old new skipped
+
+-- solutions, and then this event
 pub record Came (old new : Kept) (ts : List Turn) : Type 0 where
   pub turns : (to_show old).turns ≡ ts ++ Shown (event_now new) (world_now new) ∷ (to_show new).turns
   pub ending : (to_show old).ending ≡ (to_show new).ending
