@@ -1,2 +1,4 @@
 pub mod ComingLaws
 pub mod StandingPlaces
+pub mod TakenSources
+pub mod WaysOn

@@ -2,4 +2,5 @@ pub mod Fed
 pub mod Holding
 pub mod Sight
 pub mod Takes
+pub mod Went
 pub mod inner
