@@ -1,5 +1,5 @@
 -- A machine passes over solutions, up to the next event or the end.
-use Rattle.std.proofs.Common.{◌≡◌, ℕ, ◌+◌, ◌<◌, ◌≤◌, ◌^◌, List, [], ◌∷◌, ◌++◌, length, All, refl, sym, ap, ◌∙◌, subst, arith, append_assoc, append-nil}
+use Rattle.std.proofs.Common.{◌≡◌, ℕ, ◌+◌, ◌<◌, ◌≤◌, ◌^◌, List, [], ◌∷◌, ◌++◌, length, refl, sym, ap, ◌∙◌, subst, arith, append_assoc, append-nil}
 use Rattle.std.proofs.Common.{length-append, Option, Some, None}
 use Rattle.op_trace.specs.World.{World, Turn, Shown, Solved}
 use Rattle.op_trace.specs.Run.{Run}
@@ -9,7 +9,7 @@ use Rattle.op_machine.specs.declared.turn.Turn.TheVariants as turn
 use Rattle.op_machine.specs.Meaning.{bindings_in}
 use Rattle.op_machine.specs.Machine.{Kept, answered, world_now, level_now, Answers, HasBallNames}
 use Rattle.op_retrace.specs.Holding.{to_show}
-use Rattle.op_retrace.specs.inner.Coming.{IsSolution, last_steps, Passed, Came, Ended, Stops}
+use Rattle.op_retrace.specs.inner.Coming.{IsSolution, AreSolutions, last_steps, Passed, Came, Ended, Stops}
 
 pub passed-none : (k : Kept) → Passed k k []
 passed-none k = record { turns = refl; ending = refl; world = refl; solutions = tt; count = omega arith; steps = refl }
@@ -20,7 +20,7 @@ last-behind n [] (Solved σ w) = refl
 last-behind n (Shown e w ∷ ts) t = last-behind w.steps ts t
 last-behind n (Solved σ w ∷ ts) t = last-behind w.steps ts t
 
-solutions-more : (ts : List Turn) (t : Turn) → All IsSolution ts → IsSolution t → All IsSolution (ts ++ t ∷ [])
+solutions-more : (ts : List Turn) (t : Turn) → AreSolutions ts → IsSolution t → AreSolutions (ts ++ t ∷ [])
 solutions-more [] t a b = (b, tt)
 solutions-more (x ∷ ts) t a b = (a.0, solutions-more ts t a.1 b)
 

@@ -1,8 +1,8 @@
 -- Where a feed stands, and where it goes.
 use Rattle.std.proofs.Common.{◌≡◌, ℕ, zero, suc, ◌+◌, ◌-◌, ◌<◌, ◌≤◌, ◌^◌, min, max, Bool, true, false, not, ◌&&◌, List, [], ◌∷◌, ◌++◌, length}
-use Rattle.std.proofs.Common.{take, All, Option, Some, None, is_some, refl, sym, ap, ◌∙◌, subst, arith, append_assoc, append-nil, length-append}
+use Rattle.std.proofs.Common.{take, Option, Some, None, is_some, refl, sym, ap, ◌∙◌, subst, arith, append_assoc, append-nil, length-append}
 use Rattle.std.proofs.Common.{get_or, add-one}
-use Rattle.std.proofs.lemmas.List.{get_or-append_right}
+use Rattle.std.proofs.lemmas.List.{get_or-append_right, take-take, length-take}
 use Rattle.std.proofs.Math.Seq.{take-length}
 use Rattle.op_logic.specs.Names.{named}
 use Rattle.op_logic.proofs.BoolCases.{by_order}
@@ -12,7 +12,6 @@ use Rattle.op_trace.specs.Builtins.{setup_for}
 use Rattle.op_trace.specs.Run.{Run, run, started, events_of, worlds_of, steps_at, looked_at, output_at}
 use Rattle.op_store.specs.declared.goals.goal.Goal.{Goal}
 use Rattle.op_store.specs.Stored.{Stored, database_of}
-use Rattle.op_store.proofs.DirectiveLaws.{front-joins}
 use Rattle.op_machine.specs.declared.turn.Ending.{Ending}
 use Rattle.op_machine.specs.Machine.{Kept, answered, has_event, event_now, world_now, ending_for, HasBallNames}
 use Rattle.op_moves.specs.Moves.{event_at}
@@ -25,7 +24,7 @@ use Rattle.op_retrace.specs.declared.feed.FeedStep.TheVariants as step
 use Rattle.op_retrace.specs.Fed.{Fed, event_by, event_shown, shows_event, AtEnd, Looked, Stands, AtNext, AtLast, ComesTo, Pays, Over}
 use Rattle.op_retrace.specs.Fed.{furthest_behind, BrokenOver}
 use Rattle.op_retrace.specs.Holding.{Held, run_by, run_of, fed_of, first_held, to_show, IsStarted, IsHere, IsHolding}
-use Rattle.op_retrace.specs.inner.Coming.{IsSolution, last_steps, Came, Ended, Stops}
+use Rattle.op_retrace.specs.inner.Coming.{IsSolution, AreSolutions, last_steps, Came, Ended, Stops}
 
 shown-by : (k : Kept) (b : Bool) → has_event k ≡ b → event_shown k ≡ event_by b k
 shown-by k b h = ap (λ t. event_by t k) h
@@ -99,7 +98,7 @@ again-here h k i s =
         drawn = old.drawn;
         limit = old.limit;
       };
-      past = [];
+      past = f.past;
       turns = f.turns;
       ending = f.ending;
       world = f.world;
@@ -120,7 +119,7 @@ again-here h k i s =
     }
 
 -- solutions have no events and no worlds
-solved-events : (ts : List Turn) → All IsSolution ts → events_of ts ≡ []
+solved-events : (ts : List Turn) → AreSolutions ts → events_of ts ≡ []
 solved-events [] a = refl
 solved-events (Shown e w ∷ ts) a = absurd a.0
 solved-events (Solved σ w ∷ ts) a = solved-events ts a.1
@@ -159,7 +158,7 @@ parts-at r p k h =
 past-turns : (r : Run) (past ts rest shown : List Turn) → r.turns ≡ past ++ shown → shown ≡ ts ++ rest → r.turns ≡ (past ++ ts) ++ rest
 past-turns r past ts rest shown p q = p ∙ ap (λ (us : List Turn). past ++ us) q ∙ sym (append_assoc past ts rest)
 
-past-events : (past ts : List Turn) (n : ℕ) → All IsSolution ts → length (events_of past) ≡ n → length (events_of (past ++ ts)) ≡ n
+past-events : (past ts : List Turn) (n : ℕ) → AreSolutions ts → length (events_of past) ≡ n → length (events_of (past ++ ts)) ≡ n
 past-events past ts n a h =
     ap length (events-append past ts) ∙ ap (λ (es : List Event). length (events_of past ++ es)) (solved-events ts a)
     ∙ ap length (append-nil (events_of past)) ∙ h
@@ -197,8 +196,10 @@ looked-next h r k (Some e) n l = record {
   known = λ z. (let f = l.furthest in absurd (omega arith));
 }
 
-names-on : (loaded old new : List Text) → take (length loaded) old ≡ loaded → take (length old) new ≡ old → take (length loaded) new ≡ loaded
-names-on loaded old new p q = front-joins loaded old new p q
+pub names-on : (loaded old new : List Text) → take (length loaded) old ≡ loaded → take (length old) new ≡ old → take (length loaded) new ≡ loaded
+names-on loaded old new p q =
+    let l : length loaded ≤ length old = omega (arith, length-take (length loaded) old, ap length p) in
+    sym (take-take (length loaded) (length old) new l) ∙ ap (take (length loaded)) q ∙ p
 
 pub next-here : (h : Held) (r : Run) (k : Kept) (ts : List Turn) → IsHere h r → h.place ≤ event_count r → Came h.machine k ts
     → answered k < 2 ^ 63 → take (length h.machine.tables.names) k.tables.names ≡ h.machine.tables.names
@@ -210,12 +211,12 @@ next-here h r k ts i before c few names =
     let shown : List Turn = Shown (event_now k) (world_now k) ∷ [] in
     let past : List Turn = i.past ++ ts in
     let count : length past + 1 ≡ answered k =
-        (let n = i.count in let m = c.count in let l = length-append i.past ts in omega arith) in
+    (let n = i.count in let m = c.count in let l = length-append i.past ts in omega arith) in
     let longer : length (past ++ shown) ≡ answered k = (let l = length-append past shown in omega arith) in
     let events : length (events_of (past ++ shown)) ≡ h.place + 1 =
-        (let e = past-events i.past ts h.place c.solutions (seen-all h r k ts i before) in
-        let l = ap length (events-append past shown) in
-        let m = length-append (events_of past) (event_now k ∷ []) in omega arith) in
+    (let e = past-events i.past ts h.place c.solutions (seen-all h r k ts i before) in
+    let l = ap length (events-append past shown) in
+    let m = length-append (events_of past) (event_now k ∷ []) in omega arith) in
     let within = a.within in
     record {
       stands = record {
@@ -254,7 +255,7 @@ end-here h r k ts e i before c few names =
     let past : List Turn = i.past ++ ts in
     let turns : r.turns ≡ past = i.turns ∙ ap (λ (us : List Turn). i.past ++ us) c.turns in
     let count : length past ≡ answered k =
-        (let m = i.count in let l = c.count in let j = length-append i.past ts in omega arith) in
+    (let m = i.count in let l = c.count in let j = length-append i.past ts in omega arith) in
     let events : length (events_of past) ≡ h.place = past-events i.past ts h.place c.solutions (seen-all h r k ts i before) in
     let furthest : max h.furthest (h.place + 1) ≡ event_count r + 1 = (let l = end-furthest h r old in omega arith) in
     record {
@@ -306,7 +307,7 @@ pays-end : (r : Run) (p before m k : ℕ) → event_count r ≡ p → m ≤ k �
     → Pays 0 r p (p + 1) before (before + (k - m))
 pays-end r p before m k n later from to =
     let same : least_steps r (p + 1) ≡ least_steps r p =
-        (let e : min (p + 1) (event_count r) ≡ min p (event_count r) = omega arith in ap (steps_at r) e) in
+    (let e : min (p + 1) (event_count r) ≡ min p (event_count r) = omega arith in ap (steps_at r) e) in
     record { most = omega arith; least = λ z. omega arith }
 
 shows-by : (k : Kept) {A : Type 0} (o : Option A) → has_event k ≡ true → o ≡ None → has_event k && not (is_some o) ≡ true
@@ -378,7 +379,7 @@ course-behind w (Shown e u ∷ ts) us v c = course-behind u ts us v c.1
 course-behind w (Solved σ u ∷ ts) us v c = course-behind u ts us v c.1
 
 -- solutions come with no more steps than the next place
-last-below : (u : World) (ss rest : List Turn) (v : World) (n : ℕ) → All IsSolution ss → IsCourse u (ss ++ rest) v
+last-below : (u : World) (ss rest : List Turn) (v : World) (n : ℕ) → AreSolutions ss → IsCourse u (ss ++ rest) v
     → n ≤ (get_or (worlds_of (ss ++ rest)) 0 v).steps → last_steps n ss ≤ (get_or (worlds_of (ss ++ rest)) 0 v).steps
 last-below u [] rest v n a c h = h
 last-below u (Shown e w ∷ ss) rest v n a c h = absurd a.0
@@ -407,16 +408,16 @@ broken-over h k before after i there s later paid =
     let seen : length (events_of i.past) ≡ h.place = (let e = i.seen in omega arith) in
     let w : World = started h.goal.vars (loaded (database_of h.store)) in
     let b : Behind us r.world =
-        course-behind w i.past us r.world
-        (subst (λ (x : List Turn). IsCourse w x r.world) turns (course-by h.store h.goal h.budget h.wanted)) in
+    course-behind w i.past us r.world
+    (subst (λ (x : List Turn). IsCourse w x r.world) turns (course-by h.store h.goal h.budget h.wanted)) in
     let here : get_or (worlds_of r.turns) h.place r.world ≡ get_or (worlds_of us) 0 r.world =
-        world-behind r i.past us h.place turns seen in
+    world-behind r i.past us h.place turns seen in
     let steps : steps_at r (h.place + 1) ≡ (get_or (worlds_of us) 0 r.world).steps =
-        behind 0 (λ w. w.steps) r h.place (get_or (worlds_of us) 0 r.world) here in
+    behind 0 (λ w. w.steps) r h.place (get_or (worlds_of us) 0 r.world) here in
     let rising = i.stands.rising in
     let from = i.stands.steps in
     let below : h.machine.steps ≤ (get_or (worlds_of us) 0 r.world).steps =
-        (let u = rising.steps h.place (h.place + 1) (omega arith) in omega arith) in
+    (let u = rising.steps h.place (h.place + 1) (omega arith) in omega arith) in
     let last = last-below b.from s.skipped s.rest r.world h.machine.steps s.solutions b.course below in
     let reached = s.steps in
     let place : place_behind r h.place ≡ h.place + 1 = omega arith in

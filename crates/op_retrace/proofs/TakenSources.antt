@@ -44,9 +44,11 @@ ends-then t u a b c p q = go t.over refl u.over refl
     go true e x f =
         let m : EndsBy true a b = subst (λ (y : Bool). EndsBy y a b) e p.end in
         let none : u.bytes ≡ [] = over-takes-nothing t u a b c p q e in
-        subst (λ (y : Bool). EndsBy y a c) (sym e)
-        ((q.ended m.0).1, λ s. end-stays b.left c.left (subst (Consumes b.left c.left) none q.consumes) (m.1 s)
-        (told-after a.left b.left t.bytes p.consumes s))
+        subst (λ (y : Bool). EndsBy y a c) (sym e) (
+          (q.ended m.0).1,
+          λ s. end-stays b.left c.left (subst (Consumes b.left c.left) none q.consumes) (m.1 s)
+              (told-after a.left b.left t.bytes p.consumes s),
+        )
     go false e true f =
         let n : EndsBy true b c = subst (λ (y : Bool). EndsBy y b c) f q.end in
         subst (λ (y : Bool). EndsBy y a c) (sym f) (n.0, λ s. n.1 (told-after a.left b.left t.bytes p.consumes s))

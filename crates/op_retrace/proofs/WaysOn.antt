@@ -98,9 +98,9 @@ went-on from s old mid new left left_mid left_now written written_mid written_no
     let t : Taking = w.taking in
     let u : Taking = a.taking in
     let bytes : (and_then t u).bytes ≡ t.bytes ++ u.bytes =
-        bytes-then t u (λ o. over-takes-nothing t u (source_of left old) (source_of left_mid mid) (source_of left_now new) w.takes a.takes o) in
+    bytes-then t u (λ o. over-takes-nothing t u (source_of left old) (source_of left_mid mid) (source_of left_now new) w.takes a.takes o) in
     let place : mid.place ≤ new.place =
-        comes-later s (mid.run (follow u [])) mid new (sound w.still_none (follow u [])) (a.over []).comes in
+    comes-later s (mid.run (follow u [])) mid new (sound w.still_none (follow u [])) (a.over []).comes in
     record {
       none = w.none;
       still_none = none;
@@ -123,15 +123,15 @@ went-on from s old mid new left left_mid left_now written written_mid written_no
         let x = w.over (follow a.taking rest) in
         let y = a.over rest in
         let joined : follow (and_then w.taking a.taking) rest ≡ follow w.taking (follow a.taking rest) =
-            follow-then w.taking a.taking rest in
+        follow-then w.taking a.taking rest in
         let same : old.run (follow (and_then w.taking a.taking) rest) ≡ q = ap old.run joined ∙ sym x.run in
         let at_first : WentOver from q q old mid w.taking.bytes w.put before between =
-            subst (λ (r : Run). WentOver from r q old mid w.taking.bytes w.put before between) (sym x.run) x in
+        subst (λ (r : Run). WentOver from r q old mid w.taking.bytes w.put before between) (sym x.run) x in
         let stands : Stands mid q = sound w.still_none (follow a.taking rest) in
         let k : Pays old.keeps q mid.place new.place between after =
-            subst (λ (n : ℕ). Pays n q mid.place new.place between after) w.keeps y.pays in
+        subst (λ (n : ℕ). Pays n q mid.place new.place between after) w.keeps y.pays in
         let long : length (and_then w.taking a.taking).bytes ≡ length w.taking.bytes + length a.taking.bytes =
-            ap length bytes ∙ length-append w.taking.bytes a.taking.bytes in
+        ap length bytes ∙ length-append w.taking.bytes a.taking.bytes in
         subst (λ (r : Run). WentOver from r (new.run rest) old new (and_then w.taking a.taking).bytes (w.put ++ a.put) before after)
         (sym same) (record {
           run = y.run;

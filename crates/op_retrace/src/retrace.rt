@@ -1,6 +1,7 @@
-ghost use Rattle.std.specs.Prelude.{◌≡◌, ◌+◌, ◌≤◌, length, max, IfOk, Option, Some, None, is_some};
+ghost use Rattle.std.specs.Prelude.{◌≡◌, ◌+◌, ◌^◌, ◌≤◌, ◌==◌, ◌&&◌, length, max, IfOk, Some, is_some};
 ghost use Rattle.op_store.specs.Queries.{IsSoundGoal};
 ghost use Rattle.op_retrace.specs.Holding.{fed_of};
+ghost use Rattle.op_retrace.specs.inner.Coming.{kept_by, step_by};
 
 use crate::coming::{come_to_next, start_again};
 use crate::fault::{Cause, FeedFault};
@@ -40,29 +41,11 @@ impl Model for Retrace {
 
     ghost coded = { Prim.hlevel (codes, term_code) };
 
-    ghost view = { λ r. record {
-      store = r.store;
-      goal = r.goal;
-      budget = r.budget;
-      wanted = r.wanted;
-      machine = r.machine;
-      place = r.place;
-      furthest = r.furthest;
-      ending = r.ending;
-      fault = r.fault;
-    } };
+    ghost use Rattle.op_retrace.specs.Retraced.{held_by};
 
-    ghost invariant = { λ r. IsHolding (record {
-      store = r.store;
-      goal = r.goal;
-      budget = r.budget;
-      wanted = r.wanted;
-      machine = r.machine;
-      place = r.place;
-      furthest = r.furthest;
-      ending = r.ending;
-      fault = r.fault;
-    }) };
+    ghost view = { held_by };
+
+    ghost invariant = { λ r. IsHolding (held_by r) };
 }
 
 impl Retrace {
@@ -99,21 +82,27 @@ impl Retrace {
 }
 
 // Whether a feed stands at the end.
-fn is_at_end(place: u64, furthest: u64, ending: &Option<Ending>) -> bool {
+fn is_at_end(place: u64, furthest: u64, ending: &Option<Ending>) -> bool
+    ensures { result ≡ (place == furthest && is_some ending.now) }
+{
     place == furthest && ending.is_some()
 }
 
-// One place more: the next event, or the end, whose ending is kept.
+// One place on: the next event, or the end, of which the ending is kept.
 fn step_on(
     place: &mut u64,
     furthest: &mut u64,
     kept: &mut Option<Ending>,
     ending: Option<Ending>,
-) -> FeedStep {
+) -> FeedStep
+    requires { place.old ≤ 2 ^ 63 }
+    ensures place { place.new ≡ place.old + 1 }
+    ensures furthest { furthest.new ≡ max furthest.old (place.old + 1) }
+    ensures kept { kept.new ≡ kept_by kept.old ending }
+    ensures step { result ≡ step_by ending }
+{
     *place += 1;
-    if *place > *furthest {
-        *furthest = *place;
-    }
+    *furthest = (*furthest).max(*place);
     match ending {
         None => FeedStep::Event,
         Some(ending) => {
@@ -121,6 +110,15 @@ fn step_on(
             FeedStep::End
         }
     }
+}
+
+// Ends a feed by want of memory.
+fn end_by_memory(fault: &mut Option<Cause>) -> FeedFault
+    ensures fault { fault.new ≡ Some Cause.Memory }
+    ensures answer { result ≡ FeedFault.Memory }
+{
+    *fault = Some(Cause::Memory);
+    FeedFault::Memory
 }
 
 impl Feed for Retrace {
@@ -142,10 +140,7 @@ impl Feed for Retrace {
                 self.place = 0;
                 Ok(())
             }
-            Err(Memory) => {
-                self.fault = Some(Cause::Memory);
-                Err(FeedFault::Memory)
-            }
+            Err(Memory) => Err(end_by_memory(&mut self.fault)),
         }
     }
 
@@ -168,10 +163,7 @@ impl Feed for Retrace {
                 &mut self.ending,
                 ending,
             )),
-            Err(Memory) => {
-                self.fault = Some(Cause::Memory);
-                Err(FeedFault::Memory)
-            }
+            Err(Memory) => Err(end_by_memory(&mut self.fault)),
         }
     }
 
