@@ -1,18 +1,14 @@
--- A machine passes over solutions, up to the next event or the end.
+-- A machine passes over solutions.
 use Rattle.std.proofs.Common.{◌≡◌, ℕ, ◌+◌, ◌<◌, ◌≤◌, ◌^◌, List, [], ◌∷◌, ◌++◌, length, refl, sym, ap, ◌∙◌, subst, arith, append_assoc, append-nil}
 use Rattle.std.proofs.Common.{length-append, Option, Some, None}
 use Rattle.op_trace.specs.World.{World, Turn, Shown, Solved}
 use Rattle.op_trace.specs.Run.{Run}
-use Rattle.op_machine.specs.declared.turn.Ending.{Ending}
 use Rattle.op_machine.specs.declared.turn.Turn as declared
 use Rattle.op_machine.specs.declared.turn.Turn.TheVariants as turn
 use Rattle.op_machine.specs.Meaning.{bindings_in}
-use Rattle.op_machine.specs.Machine.{Kept, answered, world_now, level_now, Answers, HasBallNames}
+use Rattle.op_machine.specs.Machine.{Kept, answered, world_now, level_now, Answers}
 use Rattle.op_retrace.specs.Holding.{to_show}
-use Rattle.op_retrace.specs.inner.Coming.{IsSolution, AreSolutions, last_steps, Passed, Came, Ended, Stops}
-
-pub passed-none : (k : Kept) → Passed k k []
-passed-none k = record { turns = refl; ending = refl; world = refl; solutions = tt; count = omega arith; steps = refl }
+use Rattle.op_retrace.specs.inner.Coming.{IsSolution, AreSolutions, last_steps, Passed}
 
 last-behind : (n : ℕ) (ts : List Turn) (t : Turn) → last_steps n (ts ++ t ∷ []) ≡ last_steps 0 (t ∷ [])
 last-behind n [] (Shown e w) = refl
@@ -40,39 +36,3 @@ passed-more old mid new ts p a =
       count = let c = p.count in let d = a.2 in let e = length-append ts (solution_now new ∷ []) in omega arith;
       steps = sym (last-behind old.steps ts (solution_now new));
     }
-
-pub came-next : (old mid new : Kept) (ts : List Turn) → Passed old mid ts
-    → Answers turn.Event mid new (to_show mid) (to_show new) (world_now new) → Came old new ts
-came-next old mid new ts p a =
-    let here = a.0 in
-    record {
-      turns = p.turns ∙ ap (λ (r : Run). ts ++ r.turns) here;
-      ending = p.ending ∙ ap (λ (r : Run). r.ending) here;
-      world = p.world ∙ ap (λ (r : Run). r.world) here;
-      solutions = p.solutions;
-      count = let c = p.count in let d = a.2 in omega arith;
-      shown = a.1;
-    }
-
-pub ended-next : (old mid new : Kept) (ts : List Turn) (e : Ending) → Passed old mid ts
-    → Answers (turn.Ended e) mid new (to_show mid) (to_show new) (world_now new) → HasBallNames (length new.tables.names) e
-    → Ended old new e ts
-ended-next old mid new ts e p a b =
-    let here = a.0 in
-    let same = a.1 in
-    record {
-      turns = p.turns ∙ ap (λ (r : Run). ts ++ r.turns) here ∙ append-nil ts;
-      none = ap (λ (r : Run). r.turns) (same ∙ here);
-      ending = p.ending ∙ ap (λ (r : Run). r.ending) (sym same);
-      world = p.world ∙ ap (λ (r : Run). r.world) (sym same);
-      is = ap (λ (r : Run). r.ending) (same ∙ here);
-      last = ap (λ (r : Run). r.world) (same ∙ here);
-      solutions = p.solutions;
-      count = let c = p.count in let d = a.4 in omega arith;
-      shown = a.2;
-      known = b;
-    }
-
-pub stops-behind : (old mid new : Kept) (ts : List Turn) → Passed old mid ts → new.steps ≡ mid.steps → Stops old new
-stops-behind old mid new ts p s =
-    record { skipped = ts; rest = (to_show mid).turns; turns = p.turns; solutions = p.solutions; steps = s ∙ p.steps }

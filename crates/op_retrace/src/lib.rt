@@ -4,6 +4,7 @@
 mod coming;
 mod fault;
 mod feed;
+pub mod laws;
 mod retrace;
 
 pub use fault::{Cause, FeedFault};

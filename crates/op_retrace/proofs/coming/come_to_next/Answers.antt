@@ -17,7 +17,7 @@ loop-ending-preserved g c =
     let paid = c.loop-ending.invariant.cost in
     let cost = c.next_turn.ensures.cost in
     let answers = subst (λ (t : declared.Turn). Answers t mid new (to_show mid) (to_show new) (world_now new)) c.in-Solution.is
-        c.in_ok-next_turn.ensures.answers in
+    c.in_ok-next_turn.ensures.answers in
     record {
       passing = record { skipped = _; passed = passed-more old mid new p.skipped p.passed answers };
       cost = omega arith;
