@@ -1,10 +1,13 @@
 -- Procedures that take a clause.
 use Rattle.std.proofs.Common.{◌≡◌, ℕ, zero, suc, ◌+◌, take, arith, append_assoc, cond, Bool, true, false, List, [], ◌∷◌, ◌++◌, Option, Some}
-use Rattle.std.proofs.Common.{None, Result, Ok, Err, IfOk, OnOk, OnErr, Bor, refl, sym, ap, ◌∙◌}
-use Rattle.std.specs.List.{slice_get}
+use Rattle.std.proofs.Common.{None, Result, Ok, Err, IfOk, OnOk, OnErr, Bor, refl, sym, ap, ◌∙◌, subst}
+use Rattle.op_logic.proofs.BoolCases.{if_false}
+use Rattle.std.specs.List.{slice_get, AllByRecursion, IsDistinct}
 use Rattle.std.proofs.lemmas.List.{append-nil}
 use Rattle.std.specs.Prelude.{is_some, option_copied}
-use Rattle.std.specs.Map.{lookup, set_value}
+use Rattle.std.specs.Map.{lookup, set_value, keys_of}
+use Rattle.std.proofs.lemmas.Map.Keys.{IsDistinct-head, IsDistinct-tail}
+use Rattle.std.proofs.lemmas.Bool.Decides.{nat_tests}
 use Rattle.indexmap.specs.IndexMap.{insert_entry}
 use Rattle.op_bind.specs.declared.places.Clause.{Clause as NumberedClause}
 use Rattle.op_store.specs.declared.procedures.pi.Pi.{Pi}
@@ -67,3 +70,31 @@ if-ok (Err e) f p = tt
 pub is-copied : {A : Type 0} (o : Option (Bor A)) → is_some o ≡ is_some (option_copied o)
 is-copied None = refl
 is-copied (Some b) = refl
+
+-- a procedure that comes behind those before it joins them at the end
+pi-apart : (a b : Pi) → pi_eq a b ≡ false → pi_eq b a ≡ false
+pi-apart a b h = grind (arith, nat_tests)
+
+key-apart : (x : Pi) (es : NumberedProcedures) (i : ℕ) (e : Pi × NumberedProcedure) → AllByRecursion (λ y. pi_eq x y ≡ false) (keys_of es)
+    → slice_get es i ≡ Some e → pi_eq x e.0 ≡ false
+key-apart x [] i e a h = absurd cc
+key-apart x (d ∷ ds) zero e a h = let same : d ≡ e = cc in subst (λ (y : Pi × NumberedProcedure). pi_eq x y.0 ≡ false) same a.0
+key-apart x (d ∷ ds) (suc i) e a h = key-apart x ds i e a.1 h
+
+insert-next : (es : NumberedProcedures) (i : ℕ) (e : Pi × NumberedProcedure) → IsDistinct pi_eq (keys_of es) → slice_get es i ≡ Some e
+    → insert_entry pi_eq (take i es) e.0 e.1 ≡ take (suc i) es
+insert-next [] i e u h = absurd cc
+insert-next (d ∷ ds) zero e u h = let same : d ≡ e = cc in ap (λ (y : Pi × NumberedProcedure). y ∷ []) (sym same)
+insert-next (d ∷ ds) (suc i) e u h =
+    let other : pi_eq e.0 d.0 ≡ false =
+        pi-apart d.0 e.0 (key-apart d.0 ds i e (IsDistinct-head pi_eq d.0 (keys_of ds) u) h) in
+    let rest = insert-next ds i e (IsDistinct-tail pi_eq d.0 (keys_of ds) u) h in
+    if_false (pi_eq e.0 d.0) ((d.0, e.1) ∷ take i ds) (d ∷ insert_entry pi_eq (take i ds) e.0 e.1) other
+    ∙ ap (λ (xs : NumberedProcedures). d ∷ xs) rest
+
+pub insert-more : (es old new : NumberedProcedures) (i : ℕ) (k : Pi) (p q : NumberedProcedure) → IsDistinct pi_eq (keys_of es)
+    → Some (k, p) ≡ slice_get es i → q ≡ p → old ≡ take i es → new ≡ insert_entry pi_eq old k q → new ≡ take (i + 1) es
+insert-more es old new i k p q u h same o n =
+    let one : suc i ≡ i + 1 = omega arith in
+    n ∙ ap (λ (x : NumberedProcedure). insert_entry pi_eq old k x) same ∙ ap (λ (xs : NumberedProcedures). insert_entry pi_eq xs k p) o
+    ∙ insert-next es i (k, p) u (sym h) ∙ ap (λ (j : ℕ). take j es) one

@@ -91,6 +91,21 @@ impl Store {
         })
     }
 
+    /// An equal store. It takes time linear in the numbers of names, operators and procedures; clauses are shared.
+    pub fn copy(&self) -> Result<Store, Memory>
+        ensures { IfOk result (λ s. s ≡ self.now) }
+    {
+        Ok(Store {
+            alloc: self.alloc,
+            locked: self.locked,
+            symbols: self.symbols.copy()?,
+            ops: self.ops.copy()?,
+            flags: self.flags,
+            procedures: self.procedures.copy()?,
+            next: self.next,
+        })
+    }
+
     /// The names.
     pub fn symbols(&self) -> &Symbols
         ensures names { result.now ≡ self.now.names }

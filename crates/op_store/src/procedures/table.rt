@@ -98,6 +98,21 @@ impl Procedures {
         Ok(())
     }
 
+    /// Equal procedures, whose clauses are shared. It takes time linear in the number of procedures.
+    pub fn copy(&self) -> Result<Procedures, Memory>
+        ensures { IfOk result (λ p. p ≡ self.now) }
+    {
+        let mut by_indicator = IndexMap::new(self.alloc);
+        'procedures: for i in 0..self.by_indicator.len() {
+            let (pi, procedure) = self.by_indicator.get_index(i).unwrap();
+            by_indicator.insert(*pi, procedure.copy()?)?;
+        }
+        Ok(Procedures {
+            alloc: self.alloc,
+            by_indicator,
+        })
+    }
+
     /// How many procedures there are. None of them stands there twice.
     pub fn len(&self) -> u64
         ensures count { result ≡ length self.now }
