@@ -10,14 +10,6 @@ use op_store::{Goal, Store};
 use std::alloc::Global;
 use std::sync::ledger::Ledger;
 
-// TODO: Store::copy
-fn copy_of(store: &Store) -> Result<Store, Memory>
-    ensures { IfOk result (λ s. s ≡ store.now) }
-{
-    let _ = store;
-    Err(Memory)
-}
-
 /// A machine at the start of a goal's run over a copy of a program.
 pub(crate) fn start_again(
     alloc: Global,
@@ -31,7 +23,7 @@ pub(crate) fn start_again(
     requires limit { budget ≤ 1000000000 }
     ensures { IfOk result (IsStarted store.now goal.now budget wanted) }
 {
-    Machine::start(alloc, copy_of(store)?, goal, budget, wanted)
+    Machine::start(alloc, store.copy()?, goal, budget, wanted)
 }
 
 // The next turn of a program outside of which nothing lies.
