@@ -1,5 +1,5 @@
 -- Calls of a feed, one after the other.
-use Rattle.std.proofs.Common.{◌≡◌, ℕ, ◌+◌, ◌-◌, ◌≤◌, min, max, Bool, true, List, [], ◌∷◌, ◌++◌, length, Option, Some, None, refl, sym, ap, ◌∙◌}
+use Rattle.std.proofs.Common.{◌≡◌, ℕ, ◌+◌, ◌-◌, ◌≤◌, min, max, Bool, true, List, [], ◌∷◌, ◌++◌, length, Option, Some, None, IfSome, refl, sym, ap, ◌∙◌}
 use Rattle.std.proofs.Common.{subst, arith, append-nil, append_assoc, length-append}
 use Rattle.std.specs.Io.KnownBytes.{Appends}
 use Rattle.std.proofs.KnownBytes.{Appends-nil, Appends-trans}
@@ -8,6 +8,7 @@ use Rattle.op_trace.specs.Outside.{Taking, nothing, follow, and_then}
 use Rattle.op_trace.specs.Run.{Run, steps_at, looked_at, output_at}
 use Rattle.op_machine.proofs.TakingLaws.{follow-then}
 use Rattle.op_machine.specs.declared.turn.Ending.{Ending}
+use Rattle.op_machine.specs.Machine.{HasBallNames}
 use Rattle.op_moves.specs.Places.{event_count, least_steps, Rising}
 use Rattle.op_retrace.specs.declared.feed.FeedStep.{FeedStep}
 use Rattle.op_retrace.specs.declared.feed.FeedStep.TheVariants as step
@@ -140,3 +141,20 @@ went-on from s old mid new left left_mid left_now written written_mid written_no
           looked = let l = y.looked in let m = at_first.looked in omega arith;
           pays = pays-then old.keeps q from mid.place new.place before between after stands.rising w.later place at_first.pays k;
         })
+
+-- at the end the names of a ball are those of the machine that stands there
+pub end-known : (v : Fed) (r : Run) → Stands v r → v.place ≡ event_count r + 1
+    → IfSome v.ending (HasBallNames (length v.machine.tables.names))
+end-known v r s there = go v.ending s.looked
+  where
+    go : (o : Option Ending) → Looked v r o → IfSome o (HasBallNames (length v.machine.tables.names))
+    go None l = tt
+    go (Some e) l = let f = l.furthest in l.known (omega arith)
+
+pub advanced-known : (old new : Fed) (left left_now written written_now : Known) (before after : ℕ)
+    → Advances step.End old new left left_now written written_now before after → IsSound new → new.fault ≡ None
+    → IfSome new.ending (HasBallNames (length new.machine.tables.names))
+advanced-known old new left left_now written written_now before after a sound none =
+    let x = a.over [] in
+    let r : Run = old.run (follow a.taking []) in
+    end-known new r (subst (λ (q : Run). Stands new q) x.run (sound none [])) x.comes.place
