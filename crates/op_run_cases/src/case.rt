@@ -19,6 +19,7 @@ impl Cases for RunCases {
             "run" => of_run(rt.alloc(), line, text, Shown::Turns),
             "count" => of_run(rt.alloc(), line, text, Shown::Count),
             "choice-points" => of_run(rt.alloc(), line, text, Shown::ChoicePoints),
+            "solve" => of_run(rt.alloc(), line, text, Shown::Solutions),
             _ => Ok(line.push_str("no case")?),
         }
     }

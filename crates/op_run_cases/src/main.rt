@@ -1,8 +1,11 @@
-//! The cases of runs: the turns of a goal over a program, how many there are, and the choice points that are kept.
+//! The cases of runs: the turns of a goal over a program, how many there are, the choice points that are kept, and solutions.
 #![tactic(auto)]
 
 mod case;
 mod runs;
+mod solutions;
+mod texts;
+mod turns;
 
 use case::RunCases;
 use op_case_lines::run_cases;

@@ -2,17 +2,16 @@ ghost use Rattle.std.specs.Prelude.{◌≡◌, ◌<◌, ◌≤◌, length, IfOk}
 ghost use Rattle.op_logic.specs.Names.{HasNames};
 ghost use Rattle.op_bind.specs.State.{value_of};
 ghost use Rattle.op_store.specs.Queries.{IsSoundGoal};
-ghost use Rattle.op_machine.specs.Machine.{HasBallNames, TurnHasNames};
+ghost use Rattle.op_machine.specs.Machine.{TurnHasNames};
 
+use crate::solutions::add_solutions;
+use crate::turns::{add_ending, next};
 use op_base::{Memory, Steps};
 use op_bind::{Bindings, Ref};
-use op_case_lines::escaped;
-use op_desk::Bytes;
 use op_event::{EventView, Port};
-use op_machine::{Ending, Machine, MachineFault, Nothing, SolutionView, Turn};
+use op_machine::{Machine, SolutionView, Turn};
 use op_store::{Goal, Locked, Store};
-use op_term::{Node, Symbols, Term, Whole};
-use op_writer::{Style, write_text};
+use op_term::{Node, Symbols};
 use std::alloc::Global;
 use std::marker::Brand;
 use std::sync::ledger::{Blank, Ledger};
@@ -25,57 +24,6 @@ fn word(port: Port) -> &'static str {
         Port::Fail => "fail",
         Port::Exception => "exception",
     }
-}
-
-// A ball, quoted, with the operators of the program.
-fn add_ball(alloc: Global, line: &mut String, store: &Store, ball: &Term) -> Result<(), Memory>
-    requires { HasNames (length store.now.names) ball.now }
-{
-    let whole = Whole::new(ball);
-    let root = whole.root();
-    let ops = store.ops();
-    let symbols = store.symbols();
-    let mut text = Bytes::new(alloc);
-    let written = write_text(
-        alloc,
-        ops,
-        Style::Quoted,
-        symbols,
-        &whole,
-        &root,
-        1200,
-        u64::MAX,
-        &mut text,
-    );
-    if written.is_err() {
-        return Err(Memory);
-    }
-    line.push_str(&escaped(alloc, text.as_slice())?)?;
-    Ok(())
-}
-
-// The ending, and the steps.
-fn add_ending(
-    alloc: Global,
-    line: &mut String,
-    machine: &Machine,
-    ending: &Ending,
-) -> Result<(), Memory>
-    requires { HasBallNames (length machine.now.tables.names) ending.now }
-{
-    match ending {
-        Ending::Stopped => line.push_str("stopped")?,
-        Ending::Failed => line.push_str("failed")?,
-        Ending::Thrown(ball) => {
-            line.push_str("thrown ")?;
-            add_ball(alloc, line, machine.store(), ball)?;
-        }
-        Ending::Halted(status) => write!(line, "halted {status}")?,
-        Ending::Spent => line.push_str("spent")?,
-    }
-    let used = machine.used_steps();
-    write!(line, " {used}")?;
-    Ok(())
 }
 
 // A value's outermost part.
@@ -158,15 +106,6 @@ fn add_turn(alloc: Global, line: &mut String, machine: &Machine, turn: &Turn) ->
     Ok(())
 }
 
-fn next<L: Ledger>(machine: &mut Machine, steps: &mut Steps<L>) -> Result<Turn, Memory>
-    ensures { IfOk result (TurnHasNames (length machine.new.tables.names)) }
-{
-    match machine.next(&mut Nothing, steps) {
-        Ok(turn) => Ok(turn),
-        Err(MachineFault::Memory) | Err(MachineFault::Ended(_)) => Err(Memory),
-    }
-}
-
 // Adds all turns, up to a thousand.
 fn add_turns<L: Ledger>(
     alloc: Global,
@@ -232,6 +171,8 @@ pub enum Shown {
     Count,
     /// How many choice points are kept at the first solution.
     ChoicePoints,
+    /// All solutions with their values whole, and the ending.
+    Solutions,
 }
 
 fn add_shown<L: Ledger>(
@@ -245,6 +186,7 @@ fn add_shown<L: Ledger>(
         Shown::Turns => add_turns(alloc, line, machine, steps),
         Shown::Count => add_count(alloc, line, machine, steps),
         Shown::ChoicePoints => add_choice_points(line, machine, steps),
+        Shown::Solutions => add_solutions(alloc, line, machine, steps),
     }
 }
 
