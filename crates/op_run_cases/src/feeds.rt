@@ -101,6 +101,15 @@ fn feed_by<L: Ledger>(
     add_moves(alloc, line, feed, &mut desk, &mut steps, moves)
 }
 
+fn add_feed(
+    alloc: Global,
+    line: &mut String,
+    feed: &mut Retrace,
+    moves: &[u8],
+) -> Result<(), Memory> {
+    feed_by::<Brand>(alloc, line, feed, Blank::new(1), moves)
+}
+
 // A feed of a goal that was read.
 fn goal_feed(
     alloc: Global,
@@ -116,7 +125,7 @@ fn goal_feed(
     requires bounded { budget ≤ 1000000000 }
 {
     let mut feed = Retrace::new(alloc, store, goal, budget, wanted)?;
-    feed_by::<Brand>(alloc, line, &mut feed, Blank::new(1), moves)
+    add_feed(alloc, line, &mut feed, moves)
 }
 
 fn store_feed(
