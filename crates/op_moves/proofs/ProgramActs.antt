@@ -8,7 +8,7 @@ use Rattle.op_trace.specs.Act.{Act, Yield, Fails, Runs, Throws, Halts, done, pay
 use Rattle.op_trace.specs.Body.{Body, Division, divided, term_of}
 use Rattle.op_trace.specs.Copy.{variables_of, copied}
 use Rattle.op_trace.specs.Builtins.{throw, unknown, no_procedure, run_division, run_goal, added, alone, first_solution, no_solution}
-use Rattle.op_trace.specs.Builtins.{throw_argument, halt_with, act_of_goal, act_of_recovery, act_of_program, setup_for}
+use Rattle.op_trace.specs.Builtins.{throw_argument, halt_with, act_of_goal, act_of_program, setup_for}
 use Rattle.op_trace.specs.Builtins.{instantiation_error, type_error}
 use Rattle.op_moves.specs.Places.{TakesNothingBack, ActsGoOn}
 use Rattle.op_moves.proofs.WalkCourses.{goes-same, goes-kept}

@@ -1,19 +1,17 @@
 -- What the course of a run says of its places.
-use Rattle.std.proofs.Common.{◌≡◌, ℕ, zero, suc, ◌+◌, ◌-◌, ◌≤◌, nat_le, Bool, true, false, cond, List, [], ◌∷◌, ◌++◌, length, get_or}
-use Rattle.std.proofs.Common.{Option, Some, None, refl, sym, ap, ◌∙◌, subst, arith}
+use Rattle.std.proofs.Common.{◌≡◌, ℕ, zero, suc, ◌+◌, ◌-◌, ◌≤◌, nat_le, List, [], ◌∷◌, get_or}
+use Rattle.std.proofs.Common.{Some, refl, ap, ◌∙◌, subst, arith}
 use Rattle.std.proofs.lemmas.Bool.{lt-leb}
 use Rattle.op_logic.specs.Term.{Term}
-use Rattle.op_logic.specs.Bind.{Bindings}
 use Rattle.op_logic.proofs.BoolCases.{if_false}
 use Rattle.op_trace.specs.Database.{Text}
 use Rattle.op_trace.specs.declared.barrier.Barrier.TheVariants.{Call}
 use Rattle.op_trace.specs.World.{World, Event, Turn, Shown, Solved, Goal}
 use Rattle.op_trace.specs.Act.{Setup}
-use Rattle.op_trace.specs.Visit.{visit}
 use Rattle.op_trace.specs.Run.{Run, run, started, events_of, worlds_of, at_place, steps_at, looked_at, output_at}
 use Rattle.op_moves.specs.Moves.{event_at, nth_event}
 use Rattle.op_moves.specs.Places.{IsWrittenBehind, GoesOn, ActsGoOn, IsSilent, IsShown, IsCourse, Rising, IsNumbered}
-use Rattle.op_moves.proofs.WalkCourses.{written-same, goes-same, goes-then, visit-course}
+use Rattle.op_moves.proofs.WalkCourses.{goes-same, goes-then, visit-course}
 
 -- a part of the world at an event or at the end
 pub behind_first : {A : Type 0} (nothing : A) (part : World → A) (r : Run) (i : ℕ)

@@ -1,9 +1,7 @@
 -- Places of a run, by the turns that are past at them.
-use Rattle.std.proofs.Common.{◌≡◌, ℕ, zero, suc, ◌+◌, ◌-◌, ◌<◌, ◌≤◌, List, [], ◌∷◌, ◌++◌, length, get_or, Option, Some, None, refl}
-use Rattle.std.proofs.Common.{sym, ap, ◌∙◌, subst, arith, add-one, append_assoc, append-nil, length-append}
+use Rattle.std.proofs.Common.{◌≡◌, ℕ, zero, suc, ◌+◌, ◌-◌, ◌≤◌, List, [], ◌∷◌, ◌++◌, length, get_or, Some, None, refl}
+use Rattle.std.proofs.Common.{ap, ◌∙◌, arith, add-one, length-append}
 use Rattle.std.proofs.lemmas.List.{get_or-append_right, get_or_past}
-use Rattle.op_logic.specs.Bind.{Bindings}
-use Rattle.op_trace.specs.Database.{Text}
 use Rattle.op_trace.specs.World.{World, Event, Turn, Shown, Solved}
 use Rattle.op_trace.specs.Run.{Run, events_of, worlds_of, at_place}
 use Rattle.op_moves.specs.Moves.{event_at, nth_event}

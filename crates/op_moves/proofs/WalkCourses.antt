@@ -21,7 +21,7 @@ use Rattle.op_trace.specs.Visit.{cut, with_event, pays, spends, Control, TrueGoa
 use Rattle.op_trace.specs.Visit.{BoxedGoal, control, Visitor, Choice, Redo, Branch, More, Fail, Condition, entered, matched, try_clause}
 use Rattle.op_trace.specs.Visit.{alternatives, branches, after, boxed, if_then_else, selected, visit_with, visit_by, visit}
 use Rattle.op_trace.proofs.WalkSteps.{IsLess, within-less}
-use Rattle.op_moves.specs.Places.{IsWrittenBehind, GoesOn, TakesNothingBack, ActsGoOn, IsSilent, IsShown, IsCourse}
+use Rattle.op_moves.specs.Places.{IsWrittenBehind, GoesOn, TakesNothingBack, ActsGoOn, IsSilent, IsCourse}
 
 pub written-same : (xs : List ℕ) → IsWrittenBehind xs xs
 written-same xs = ([], sym (append-nil xs))

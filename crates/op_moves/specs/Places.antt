@@ -1,5 +1,5 @@
 -- What is known of a run at its places: place 0 is before the first event, place i is at event i, and n + 1 stands for the end.
-use Rattle.std.specs.Prelude.{◌≡◌, ℕ, zero, suc, ◌+◌, ◌≤◌, List, [], ◌∷◌, ◌++◌, length, min, max, Option, Some}
+use Rattle.std.specs.Prelude.{◌≡◌, ℕ, zero, suc, ◌+◌, ◌≤◌, List, [], ◌∷◌, ◌++◌, length, min, Some}
 use Rattle.op_trace.specs.World.{World, Event, Turn, Shown, Solved}
 use Rattle.op_trace.specs.Act.{Setup, Act}
 use Rattle.op_trace.specs.World as world

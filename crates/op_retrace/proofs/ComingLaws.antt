@@ -1,12 +1,11 @@
 -- A machine passes over solutions.
-use Rattle.std.proofs.Common.{◌≡◌, ℕ, ◌+◌, ◌<◌, ◌≤◌, ◌^◌, List, [], ◌∷◌, ◌++◌, length, refl, sym, ap, ◌∙◌, subst, arith, append_assoc, append-nil}
-use Rattle.std.proofs.Common.{length-append, Option, Some, None}
-use Rattle.op_trace.specs.World.{World, Turn, Shown, Solved}
+use Rattle.std.proofs.Common.{◌≡◌, ℕ, List, [], ◌∷◌, ◌++◌, refl, sym, ap, ◌∙◌, arith, append_assoc}
+use Rattle.std.proofs.Common.{length-append}
+use Rattle.op_trace.specs.World.{Turn, Shown, Solved}
 use Rattle.op_trace.specs.Run.{Run}
-use Rattle.op_machine.specs.declared.turn.Turn as declared
 use Rattle.op_machine.specs.declared.turn.Turn.TheVariants as turn
 use Rattle.op_machine.specs.Meaning.{bindings_in}
-use Rattle.op_machine.specs.Machine.{Kept, answered, world_now, level_now, Answers}
+use Rattle.op_machine.specs.Machine.{Kept, world_now, level_now, Answers}
 use Rattle.op_retrace.specs.Holding.{to_show}
 use Rattle.op_retrace.specs.inner.Coming.{IsSolution, AreSolutions, last_steps, Passed}
 

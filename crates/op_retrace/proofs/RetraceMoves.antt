@@ -1,6 +1,6 @@
 -- What a feed that makes the run again does at each call.
-use Rattle.std.proofs.Common.{◌≡◌, ℕ, ◌+◌, ◌-◌, ◌<◌, ◌≤◌, ◌^◌, max, Bool, true, false, ◌&&◌, ◌==◌, List, [], length, take, Option, Some, None}
-use Rattle.std.proofs.Common.{is_some, refl, sym, ap, ◌∙◌, subst, arith}
+use Rattle.std.proofs.Common.{◌≡◌, ℕ, ◌+◌, ◌-◌, ◌≤◌, max, Bool, true, false, ◌&&◌, ◌==◌, [], length, take, Option, Some, None}
+use Rattle.std.proofs.Common.{is_some, refl, sym, ap, subst, arith}
 use Rattle.std.proofs.lemmas.Bool.Decides.{nat_tests}
 use Rattle.std.proofs.KnownBytes.{Appends-nil}
 use Rattle.op_desk.specs.Contents.{Known}
@@ -12,9 +12,9 @@ use Rattle.op_moves.specs.Places.{event_count}
 use Rattle.op_retrace.specs.declared.fault.Cause.{Cause}
 use Rattle.op_retrace.specs.declared.feed.FeedStep.{FeedStep}
 use Rattle.op_retrace.specs.declared.feed.FeedStep.TheVariants as step
-use Rattle.op_retrace.specs.Fed.{Fed, Advances, Breaks, Over, source_of}
+use Rattle.op_retrace.specs.Fed.{Advances, Breaks, Over, source_of}
 use Rattle.op_retrace.specs.Holding.{Held, run_of, fed_of, IsHere, IsHolding}
-use Rattle.op_retrace.specs.inner.Coming.{Passing, Came, Ended, Comes, ComesBy, Stops, kept_by, step_by}
+use Rattle.op_retrace.specs.inner.Coming.{Comes, Stops, kept_by, step_by}
 use Rattle.op_retrace.proofs.StandingPlaces.{before-none, before-some, gone_on, next-here, end-here, over-next, over-end, over-again, broken-over}
 use Rattle.op_retrace.proofs.TakenSources.{takes-nothing}
 

@@ -1,7 +1,7 @@
 -- Where a feed stands, and where it goes.
-use Rattle.std.proofs.Common.{◌≡◌, ℕ, zero, suc, ◌+◌, ◌-◌, ◌<◌, ◌≤◌, ◌^◌, min, max, Bool, true, false, not, ◌&&◌, List, [], ◌∷◌, ◌++◌, length}
+use Rattle.std.proofs.Common.{◌≡◌, ℕ, ◌+◌, ◌-◌, ◌<◌, ◌≤◌, ◌^◌, min, max, Bool, true, false, not, ◌&&◌, List, [], ◌∷◌, ◌++◌, length}
 use Rattle.std.proofs.Common.{take, Option, Some, None, is_some, refl, sym, ap, ◌∙◌, subst, arith, append_assoc, append-nil, length-append}
-use Rattle.std.proofs.Common.{get_or, add-one}
+use Rattle.std.proofs.Common.{get_or}
 use Rattle.std.proofs.lemmas.List.{get_or-append_right, take-take, length-take}
 use Rattle.std.proofs.Math.Seq.{take-length}
 use Rattle.op_logic.specs.Names.{named}
@@ -9,22 +9,20 @@ use Rattle.op_logic.proofs.BoolCases.{by_order}
 use Rattle.op_trace.specs.Database.{Text}
 use Rattle.op_trace.specs.World.{World, Event, Turn, Shown, Solved, loaded}
 use Rattle.op_trace.specs.Builtins.{setup_for}
-use Rattle.op_trace.specs.Run.{Run, run, started, events_of, worlds_of, steps_at, looked_at, output_at}
+use Rattle.op_trace.specs.Run.{Run, started, events_of, worlds_of, steps_at, looked_at, output_at}
 use Rattle.op_store.specs.declared.goals.goal.Goal.{Goal}
 use Rattle.op_store.specs.Stored.{Stored, database_of}
 use Rattle.op_machine.specs.declared.turn.Ending.{Ending}
-use Rattle.op_machine.specs.Machine.{Kept, answered, has_event, event_now, world_now, ending_for, HasBallNames}
-use Rattle.op_moves.specs.Moves.{event_at}
+use Rattle.op_machine.specs.Machine.{Kept, answered, has_event, event_now, world_now}
 use Rattle.op_moves.specs.Places.{event_count, place_behind, turns_to, least_steps, IsWrittenBehind, IsCourse, Rising, IsNumbered}
 use Rattle.op_moves.proofs.RisingPlaces.{run-course, run-rises, run-numbers, first-later, IsLater}
 use Rattle.op_moves.proofs.ProgramActs.{program-acts-go-on}
-use Rattle.op_moves.proofs.TurnPlaces.{events-append, worlds-append, worlds-count, events-few, behind, IsAt, is-at, IsPast, is-past}
-use Rattle.op_retrace.specs.declared.feed.FeedStep.{FeedStep}
+use Rattle.op_moves.proofs.TurnPlaces.{events-append, worlds-append, worlds-count, events-few, behind, IsAt, is-at, is-past}
 use Rattle.op_retrace.specs.declared.feed.FeedStep.TheVariants as step
-use Rattle.op_retrace.specs.Fed.{Fed, event_by, event_shown, shows_event, AtEnd, Looked, Stands, AtNext, AtLast, ComesTo, Pays, Over}
+use Rattle.op_retrace.specs.Fed.{event_by, event_shown, AtEnd, Looked, Stands, Pays, Over}
 use Rattle.op_retrace.specs.Fed.{furthest_behind, BrokenOver}
-use Rattle.op_retrace.specs.Holding.{Held, run_by, run_of, fed_of, first_held, to_show, IsStarted, IsHere, IsHolding}
-use Rattle.op_retrace.specs.inner.Coming.{IsSolution, AreSolutions, last_steps, Came, Ended, Stops}
+use Rattle.op_retrace.specs.Holding.{Held, run_by, run_of, fed_of, first_held, to_show, IsStarted, IsHere}
+use Rattle.op_retrace.specs.inner.Coming.{AreSolutions, last_steps, Came, Ended, Stops}
 
 shown-by : (k : Kept) (b : Bool) → has_event k ≡ b → event_shown k ≡ event_by b k
 shown-by k b h = ap (λ t. event_by t k) h
@@ -124,10 +122,7 @@ solved-events [] a = refl
 solved-events (Shown e w ∷ ts) a = absurd a.0
 solved-events (Solved σ w ∷ ts) a = solved-events ts a.1
 
--- the end was not reached, or the feed stands before it
-pub record IsBefore (h : Held) (r : Run) : Type 0 where
-  pub place : h.place ≤ event_count r
-
+-- where the end was not reached, or the feed doesn't stand there, it stands before it
 pub before-none : (h : Held) (r : Run) → Stands (fed_of h) r → h.ending ≡ None → h.place ≤ event_count r
 before-none h r s none =
     let l : h.furthest ≤ event_count r = subst (Looked (fed_of h) r) none s.looked in

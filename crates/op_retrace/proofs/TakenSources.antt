@@ -1,12 +1,12 @@
 -- Takings from a source, one after the other.
-use Rattle.std.proofs.Common.{◌≡◌, ℕ, ◌+◌, Bool, true, false, List, [], ◌∷◌, ◌++◌, length, Option, Some, None, refl, sym, ap, ◌∙◌}
+use Rattle.std.proofs.Common.{◌≡◌, ℕ, ◌+◌, Bool, true, false, List, [], ◌++◌, length, Some, None, refl, sym, ap, ◌∙◌}
 use Rattle.std.proofs.Common.{subst, arith, append-nil, length-append}
 use Rattle.std.specs.Prelude.{IsSome}
 use Rattle.std.specs.Io.KnownBytes.{Consumes, IsAtEnd}
 use Rattle.std.proofs.KnownBytes.{Consumes-nil, Consumes-trans}
 use Rattle.op_desk.specs.Contents.{Known}
 use Rattle.op_trace.specs.Outside.{Taking, nothing, and_then, then_by}
-use Rattle.op_retrace.specs.Takes.{Source, EndsBy, Takes}
+use Rattle.op_retrace.specs.Takes.{Source, MeetsEnd, Takes}
 
 pub takes-nothing : (a : Source) → Takes nothing a a
 takes-nothing a = record { consumes = Consumes-nil a.left; drawn = omega arith; end = refl; ended = λ h. (refl, h) }
@@ -31,31 +31,31 @@ bytes-then t u h = go t.over refl
     go false e = refl
 
 over-ends : (t : Taking) (a b : Source) → Takes t a b → t.over ≡ true → b.ended ≡ true
-over-ends t a b p o = let e : EndsBy true a b = subst (λ (x : Bool). EndsBy x a b) o p.end in e.0
+over-ends t a b p o = let e : MeetsEnd true a b = subst (λ (x : Bool). MeetsEnd x a b) o p.end in e.0
 
 -- nothing is taken behind the end
 pub over-takes-nothing : (t u : Taking) (a b c : Source) → Takes t a b → Takes u b c → t.over ≡ true → u.bytes ≡ []
 over-takes-nothing t u a b c p q o = (q.ended (over-ends t a b p o)).0
 
-ends-then : (t u : Taking) (a b c : Source) → Takes t a b → Takes u b c → EndsBy (and_then t u).over a c
+ends-then : (t u : Taking) (a b c : Source) → Takes t a b → Takes u b c → MeetsEnd (and_then t u).over a c
 ends-then t u a b c p q = go t.over refl u.over refl
   where
-    go : (o : Bool) → t.over ≡ o → (x : Bool) → u.over ≡ x → EndsBy (then_by o t u).over a c
+    go : (o : Bool) → t.over ≡ o → (x : Bool) → u.over ≡ x → MeetsEnd (then_by o t u).over a c
     go true e x f =
-        let m : EndsBy true a b = subst (λ (y : Bool). EndsBy y a b) e p.end in
+        let m : MeetsEnd true a b = subst (λ (y : Bool). MeetsEnd y a b) e p.end in
         let none : u.bytes ≡ [] = over-takes-nothing t u a b c p q e in
-        subst (λ (y : Bool). EndsBy y a c) (sym e) (
+        subst (λ (y : Bool). MeetsEnd y a c) (sym e) (
           (q.ended m.0).1,
           λ s. end-stays b.left c.left (subst (Consumes b.left c.left) none q.consumes) (m.1 s)
               (told-after a.left b.left t.bytes p.consumes s),
         )
     go false e true f =
-        let n : EndsBy true b c = subst (λ (y : Bool). EndsBy y b c) f q.end in
-        subst (λ (y : Bool). EndsBy y a c) (sym f) (n.0, λ s. n.1 (told-after a.left b.left t.bytes p.consumes s))
+        let n : MeetsEnd true b c = subst (λ (y : Bool). MeetsEnd y b c) f q.end in
+        subst (λ (y : Bool). MeetsEnd y a c) (sym f) (n.0, λ s. n.1 (told-after a.left b.left t.bytes p.consumes s))
     go false e false f =
-        let m : EndsBy false a b = subst (λ (y : Bool). EndsBy y a b) e p.end in
-        let n : EndsBy false b c = subst (λ (y : Bool). EndsBy y b c) f q.end in
-        subst (λ (y : Bool). EndsBy y a c) (sym f) (n ∙ m)
+        let m : MeetsEnd false a b = subst (λ (y : Bool). MeetsEnd y a b) e p.end in
+        let n : MeetsEnd false b c = subst (λ (y : Bool). MeetsEnd y b c) f q.end in
+        subst (λ (y : Bool). MeetsEnd y a c) (sym f) (n ∙ m)
 
 pub takes-then : (t u : Taking) (a b c : Source) → Takes t a b → Takes u b c → Takes (and_then t u) a c
 takes-then t u a b c p q =

@@ -1,19 +1,17 @@
 -- Calls of a feed, one after the other.
-use Rattle.std.proofs.Common.{◌≡◌, ℕ, ◌+◌, ◌-◌, ◌≤◌, min, max, Bool, true, List, [], ◌∷◌, ◌++◌, length, Option, Some, None, IfSome, refl, sym, ap, ◌∙◌}
+use Rattle.std.proofs.Common.{◌≡◌, ℕ, ◌+◌, ◌≤◌, min, List, [], ◌++◌, length, Option, Some, None, IfSome, refl, sym, ap, ◌∙◌}
 use Rattle.std.proofs.Common.{subst, arith, append-nil, append_assoc, length-append}
-use Rattle.std.specs.Io.KnownBytes.{Appends}
 use Rattle.std.proofs.KnownBytes.{Appends-nil, Appends-trans}
 use Rattle.op_desk.specs.Contents.{Known}
 use Rattle.op_trace.specs.Outside.{Taking, nothing, follow, and_then}
-use Rattle.op_trace.specs.Run.{Run, steps_at, looked_at, output_at}
+use Rattle.op_trace.specs.Run.{Run, output_at}
 use Rattle.op_machine.proofs.TakingLaws.{follow-then}
 use Rattle.op_machine.specs.declared.turn.Ending.{Ending}
 use Rattle.op_machine.specs.Machine.{HasBallNames}
-use Rattle.op_moves.specs.Places.{event_count, least_steps, Rising}
+use Rattle.op_moves.specs.Places.{event_count, Rising}
 use Rattle.op_retrace.specs.declared.feed.FeedStep.{FeedStep}
 use Rattle.op_retrace.specs.declared.feed.FeedStep.TheVariants as step
-use Rattle.op_retrace.specs.Takes.{Source, Takes}
-use Rattle.op_retrace.specs.Fed.{Fed, Stands, IsSound, Looked, Pays, ComesTo, Over, Advances, IsReset, source_of}
+use Rattle.op_retrace.specs.Fed.{Fed, Stands, IsSound, Looked, Pays, ComesTo, Advances, IsReset, source_of}
 use Rattle.op_retrace.specs.Went.{WentOver, Went}
 use Rattle.op_retrace.proofs.TakenSources.{takes-nothing, takes-then, bytes-then, over-takes-nothing}
 

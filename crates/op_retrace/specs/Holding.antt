@@ -1,5 +1,5 @@
 -- What a feed holds that makes the run again from the start.
-use Rattle.std.specs.Prelude.{◌≡◌, ℕ, ◌+◌, ◌^◌, ◌≤◌, false, List, [], ◌++◌, length, min, Option, Some, None}
+use Rattle.std.specs.Prelude.{◌≡◌, ℕ, ◌^◌, ◌≤◌, false, List, [], ◌++◌, length, min, Option, None}
 use Rattle.op_logic.specs.Names.{named}
 use Rattle.op_trace.specs.World.{Turn, loaded}
 use Rattle.op_trace.specs.Outside.{no_outside}

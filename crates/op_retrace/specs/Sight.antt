@@ -1,5 +1,5 @@
 -- What a desk shows at a moment, and what an advance leaves of it.
-use Rattle.std.specs.Prelude.{◌≡◌, ℕ, ◌≤◌, Bool, IsTrue, Option, Result, IsErrOf}
+use Rattle.std.specs.Prelude.{◌≡◌, ℕ, Bool, IsTrue, Option, Result, IsErrOf}
 use Rattle.op_base.specs.Rising.{Rose}
 use Rattle.op_desk.specs.declared.desk.Desk.{Ghosts}
 use Rattle.op_desk.specs.declared.chan.Chan.{Chan}

@@ -1,6 +1,6 @@
 -- A machine that goes on to its next event, or to its end.
-use Rattle.std.specs.Prelude.{◌≡◌, ℕ, ◌+◌, ◌-◌, ◌^◌, ◌<◌, ◌≤◌, true, false, List, [], ◌∷◌, ◌++◌, length, Option, Some, None}
-use Rattle.op_trace.specs.World.{World, Turn, Shown, Solved}
+use Rattle.std.specs.Prelude.{◌≡◌, ℕ, ◌+◌, ◌^◌, ◌<◌, true, false, List, [], ◌∷◌, ◌++◌, length, Option, Some, None}
+use Rattle.op_trace.specs.World.{Turn, Shown, Solved}
 use Rattle.op_machine.specs.declared.turn.Ending.{Ending}
 use Rattle.op_machine.specs.Machine.{Kept, answered, has_event, event_now, world_now, ending_for, HasBallNames}
 use Rattle.op_retrace.specs.declared.feed.FeedStep.{FeedStep}

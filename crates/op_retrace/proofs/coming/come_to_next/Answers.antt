@@ -1,4 +1,4 @@
-use Rattle.std.proofs.Common.{◌+◌, ◌≤◌, subst, arith}
+use Rattle.std.proofs.Common.{◌≤◌, subst, arith}
 use Rattle.op_machine.specs.declared.turn.Turn as declared
 use Rattle.op_machine.specs.Machine.{Answers, world_now}
 use Rattle.op_retrace.specs.Holding.{to_show}
