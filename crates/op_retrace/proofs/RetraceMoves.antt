@@ -15,7 +15,8 @@ use Rattle.op_retrace.specs.declared.feed.FeedStep.TheVariants as step
 use Rattle.op_retrace.specs.Fed.{Advances, Breaks, Over, source_of}
 use Rattle.op_retrace.specs.Holding.{Held, run_of, fed_of, IsHere, IsHolding}
 use Rattle.op_retrace.specs.inner.Coming.{Comes, Stops, kept_by, step_by}
-use Rattle.op_retrace.proofs.StandingPlaces.{before-none, before-some, gone_on, next-here, end-here, over-next, over-end, over-again, broken-over}
+use Rattle.op_retrace.proofs.StandingPlaces.{before-none, before-some, gone_on, next-here, end-here, over-next, over-end, over-again}
+use Rattle.op_retrace.proofs.StandingPlaces.{broken-over}
 use Rattle.op_retrace.proofs.TakenSources.{takes-nothing}
 
 pub none-or : {A : Type 0} (o : Option A) → ((x : A) → o ≡ Some x → ⊥) → o ≡ None
@@ -85,7 +86,8 @@ pub advances-again : (h : Held) (left written : Known) (before : ℕ) → IsHere
     → Advances step.End (fed_of h) (fed_of h) left left written written before before
 advances-again h left written before i there some names = go h.ending refl some
   where
-    go : (o : Option Ending) → h.ending ≡ o → is_some o ≡ true → Advances step.End (fed_of h) (fed_of h) left left written written before before
+    go : (o : Option Ending) → h.ending ≡ o → is_some o ≡ true
+        → Advances step.End (fed_of h) (fed_of h) left left written written before before
     go None e s = absurd cc
     go (Some x) e s = record {
       loaded = refl;

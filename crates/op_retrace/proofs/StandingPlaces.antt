@@ -31,11 +31,13 @@ shown-by k b h = ap (λ t. event_by t k) h
 course-by : (t : Stored) (g : Goal) (budget wanted : ℕ)
     → IsCourse (started g.vars (loaded (database_of t))) (run_by t g budget wanted).turns (run_by t g budget wanted).world
 course-by t g budget wanted =
-    run-course (setup_for budget wanted) (named t.names g.body) g.vars (loaded (database_of t)) (program-acts-go-on budget wanted) (omega arith)
+    run-course (setup_for budget wanted) (named t.names g.body) g.vars (loaded (database_of t)) (program-acts-go-on budget wanted)
+    (omega arith)
 
 rises-by : (t : Stored) (g : Goal) (budget wanted : ℕ) → Rising (run_by t g budget wanted)
 rises-by t g budget wanted =
-    run-rises (setup_for budget wanted) (named t.names g.body) g.vars (loaded (database_of t)) (program-acts-go-on budget wanted) (omega arith)
+    run-rises (setup_for budget wanted) (named t.names g.body) g.vars (loaded (database_of t)) (program-acts-go-on budget wanted)
+    (omega arith)
 
 numbered-by : (t : Stored) (g : Goal) (budget wanted : ℕ) → IsNumbered (run_by t g budget wanted)
 numbered-by t g budget wanted =
@@ -147,7 +149,8 @@ at-max f a b x p q =
 parts-at : (r : Run) (p : ℕ) (k : Kept) → get_or (worlds_of r.turns) p r.world ≡ world_now k
     → (steps_at r (p + 1) ≡ k.steps) × (looked_at r (p + 1) ≡ 0) × (output_at r (p + 1) ≡ [])
 parts-at r p k h =
-    (behind 0 (λ w. w.steps) r p (world_now k) h, behind 0 (λ w. w.looked) r p (world_now k) h, behind [] (λ w. w.output) r p (world_now k) h)
+    let w : World = world_now k in
+    (behind 0 (λ w. w.steps) r p w h, behind 0 (λ w. w.looked) r p w h, behind [] (λ w. w.output) r p w h)
 
 -- where the turns up to the machine's last one are past
 past-turns : (r : Run) (past ts rest shown : List Turn) → r.turns ≡ past ++ shown → shown ≡ ts ++ rest → r.turns ≡ (past ++ ts) ++ rest
@@ -191,7 +194,8 @@ looked-next h r k (Some e) n l = record {
   known = λ z. (let f = l.furthest in absurd (omega arith));
 }
 
-pub names-on : (loaded old new : List Text) → take (length loaded) old ≡ loaded → take (length old) new ≡ old → take (length loaded) new ≡ loaded
+pub names-on : (loaded old new : List Text) → take (length loaded) old ≡ loaded → take (length old) new ≡ old
+    → take (length loaded) new ≡ loaded
 names-on loaded old new p q =
     let l : length loaded ≤ length old = omega (arith, length-take (length loaded) old, ap length p) in
     sym (take-take (length loaded) (length old) new l) ∙ ap (take (length loaded)) q ∙ p
