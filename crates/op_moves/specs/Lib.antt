@@ -5,3 +5,4 @@ pub mod Moves
 pub mod Pairs
 pub mod Pattern
 pub mod Places
+pub mod PlacesExamples
