@@ -4,3 +4,5 @@ pub mod Laws
 pub mod Moves
 pub mod Pairs
 pub mod Pattern
+pub mod Places
+pub mod PlacesExamples

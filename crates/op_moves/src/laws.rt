@@ -11,6 +11,11 @@ ghost use Rattle.op_moves.specs.Moves.{Stand, Outcome, At, No_event, Past_budget
 ghost use Rattle.op_moves.specs.Moves.{goto, call_of, next, prev, first, last};
 ghost use Rattle.op_moves.specs.Moves.{parent, retry, search_on, search_back, seek, seek_back, finish};
 ghost use Rattle.op_moves.specs.Laws.{IsUnification, Costs, price, accepted, calls};
+ghost use Rattle.op_trace.specs.Act.{Setup};
+ghost use Rattle.op_trace.specs.Builtins.{setup_for};
+ghost use Rattle.op_trace.specs.Run.{run, started};
+ghost use Rattle.op_trace.specs.World.{World};
+ghost use Rattle.op_moves.specs.Places.{ActsGoOn, IsCourse, Rising, IsNumbered};
 
 /// A pattern accepts an event exactly where it has a unifier with the event's term, and the test costs the pairs that unification takes.
 pub fn tests_are_unification()
@@ -104,4 +109,19 @@ pub fn the_end_is_told()
 pub fn next_then_prev()
     ensures { (es : List Event) (e : Ending) (s : Stand) (fuel more : ℕ) → s.place < length es → 0 < fuel → 0 < more
         → (prev (moved s (next es e s fuel)) more).found ≡ At s.place }
+{}
+
+/// The turns of a run lead from the world that it found to the one that it leaves, where its acts take back nothing. So no place has fewer
+/// steps than an earlier one, and an event's number is its place.
+pub fn runs_rise()
+    ensures course { (s : Setup) (g : Term Text) (n : ℕ) (w : World) → ActsGoOn s → w.steps ≤ s.budget
+        → IsCourse (started n w) (run s g n w).turns (run s g n w).world }
+    ensures rises { (s : Setup) (g : Term Text) (n : ℕ) (w : World) → ActsGoOn s → w.steps ≤ s.budget → Rising (run s g n w) }
+    ensures numbered { (s : Setup) (g : Term Text) (n : ℕ) (w : World) → ActsGoOn s → w.steps ≤ s.budget → w.events ≡ 0
+        → IsNumbered (run s g n w) }
+{}
+
+/// The acts of a program take back nothing.
+pub fn program_acts_go_on()
+    ensures { (budget wanted : ℕ) → ActsGoOn (setup_for budget wanted) }
 {}

@@ -1,7 +1,8 @@
-//! The cases of runs: the turns of a goal over a program, how many there are, the choice points that are kept, and solutions.
+//! The cases of runs: the turns of a goal over a program, how many there are, the choice points that are kept, solutions, and feeds.
 #![tactic(auto)]
 
 mod case;
+mod feeds;
 mod runs;
 mod solutions;
 mod texts;

@@ -62,7 +62,8 @@ fn add_first(line: &mut String, bindings: &Bindings, goal: &Ref) -> Result<(), M
     Ok(())
 }
 
-fn add_event(line: &mut String, view: &EventView<'_>) -> Result<(), Memory> {
+/// Adds an event.
+pub fn add_event(line: &mut String, view: &EventView<'_>) -> Result<(), Memory> {
     let port = word(view.port());
     let chrono = view.chrono();
     let call = view.call();
@@ -241,8 +242,8 @@ fn goal_run(
     machine_run(alloc, line, machine, shown)
 }
 
-// The goal that a text is behind a program, or which of them is none.
-fn goal_behind(store: &mut Store, program: &[u8], goal: &[u8]) -> Result<Goal, &'static str>
+/// The goal that a text is behind a program, or which of them is none.
+pub fn goal_behind(store: &mut Store, program: &[u8], goal: &[u8]) -> Result<Goal, &'static str>
     ensures { IfOk result (λ g. IsSoundGoal (length store.new.names) g) }
 {
     if store.load(program).is_err() {

@@ -1,0 +1,5 @@
+pub mod ComingLaws
+pub mod RetraceMoves
+pub mod StandingPlaces
+pub mod TakenSources
+pub mod WaysOn
