@@ -92,3 +92,21 @@ exited_events = refl
 pub exited_ending : (run setup (name (codes "p")) 0 exited_program).ending ≡ Thrown (name (codes "x"))
 unfolding visit visit_by visit_with
 exited_ending = refl
+
+-- catch(throw(x),y,true). A ball that isn't unified with the catcher leaves the catch.
+abbrev uncaught : Term Text
+uncaught = catch throw_x (name (codes "y")) (name (codes "true"))
+
+pub uncaught_events : events_of (run setup uncaught 0 (program [])).turns
+    ≡ shown 1 1 0 1 port.Call uncaught ∷ shown 2 2 1 2 port.Call throw_x ∷ shown 3 2 1 2 port.Exception throw_x
+    ∷ shown 4 1 0 1 port.Exception uncaught ∷ []
+unfolding visit visit_by visit_with
+uncaught_events = refl
+
+pub uncaught_ending : (run setup uncaught 0 (program [])).ending ≡ Thrown (name (codes "x"))
+unfolding visit visit_by visit_with
+uncaught_ending = refl
+
+pub uncaught_steps : (run setup uncaught 0 (program [])).world.steps ≡ 5
+unfolding visit visit_by visit_with
+uncaught_steps = refl
