@@ -2,6 +2,7 @@
 #![tactic(auto)]
 
 mod bodies;
+mod borrower;
 mod goals;
 mod loading;
 pub mod names;
@@ -14,6 +15,7 @@ pub use bodies::body_fault::BodyFault;
 pub use bodies::body_in::body_in;
 pub use bodies::body_node::BodyNode;
 pub use bodies::convert::body_of;
+pub use borrower::Borrower;
 pub use goals::command_fault::CommandFault;
 pub use goals::goal::Goal;
 pub use loading::load_fault::{LoadFault, LoadFaultKind};

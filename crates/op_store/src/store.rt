@@ -16,6 +16,7 @@ ghost use Rattle.op_store.specs.Load.{goal_of, command_of, load_text, load_from}
 ghost use Rattle.op_store.specs.Locked.{is_locked as the_locked};
 ghost use Rattle.op_store.specs.NumberedProcedures.{numbered_procedure_in, indicator_named, clause_named, pi_of, IsNumberedClause};
 
+use crate::borrower::Borrower;
 use crate::goals::command::read_command;
 use crate::goals::command_fault::CommandFault;
 use crate::goals::goal::Goal;
@@ -126,6 +127,19 @@ impl Store {
         let sym = self.symbols.intern(name);
         let _count = self.symbols.count();
         sym
+    }
+
+    /// Lends the names, to which names may join.
+    pub fn lend<B: Borrower>(&mut self, borrower: B) -> B::Out
+        requires { B.wants borrower self.old.names }
+        ensures makes { B.makes borrower self.old.names self.new.names result }
+        ensures kept { self.new ≡ record self.old { names = self.new.names } }
+        ensures names { take (length self.old.names) self.new.names ≡ self.old.names }
+        ensures world { database_of self.new ≡ database_of self.old }
+    {
+        let answer = borrower.borrow(&mut self.symbols);
+        let _count = self.symbols.count();
+        answer
     }
 
     /// The operators.
