@@ -1,11 +1,18 @@
 mod Acting
+mod ArgumentTexts
+mod AtomicNames
+mod Constructing
+pub mod CopiedVariables
 mod Evaluating
+mod Inspecting
 mod IntegerValues
+mod MakingFunctors
 mod MakingTerms
 mod MetNodes
 mod NamedCopies
 mod PendingFunctions
 mod Refusals
+mod SpentSteps
 mod Tests
 mod TextsLater
 mod Unifying

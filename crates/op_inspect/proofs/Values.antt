@@ -17,6 +17,7 @@ use Rattle.op_trace.specs.Copy.{variables_of, copied}
 use Rattle.op_trace.specs.World.{World}
 use Rattle.op_trace.specs.Act.{Act, Yield, Throws, done, pay}
 use Rattle.op_trace.specs.Builtins.{throw}
+use Rattle.op_inspect.proofs.CopiedVariables.{copied-within}
 use Rattle.op_inspect.specs.Answering.{decided, by_unifier, succeeds_with, unify_terms}
 use Rattle.op_inspect.specs.Comparison.{compared}
 use Rattle.op_inspect.specs.TypeTests.{ground_act}
@@ -125,7 +126,10 @@ module _ (names : List (List ℕ)) (s : State) where
                 ap (λ (n : ℕ). record w { variables = n }) e;
             yield = ap (λ (n : ℕ). Throws (named names (copies.copied n v))) same ∙ ap (λ (x : Term ℕ). Throws (named names x)) (sym is);
           },
-          subst (HasNames (length names)) (sym is) (copied-names (length names) s.count v (value-known r setting known)),
+          (
+            subst (HasNames (length names)) (sym is) (copied-names (length names) s.count v (value-known r setting known)),
+            copied-within s.count v t u.count is count,
+          ),
         );
         kept = (stays-self names s).kept;
         grows = grows;

@@ -5,7 +5,7 @@ use Rattle.op_logic.specs.Term.{Term, node, no_args, arg}
 use Rattle.op_logic.specs.Bind.{Bindings}
 use Rattle.op_trace.specs.Database.{Text, text_eq}
 use Rattle.op_trace.specs.World.{World}
-use Rattle.op_trace.specs.Act.{Act}
+use Rattle.op_trace.specs.Act.{Act, Fails, done}
 use Rattle.op_inspect.specs.Answering.{equal_act, different_act}
 use Rattle.op_inspect.specs.TypeTests.{test_act, ground_act}
 use Rattle.op_inspect.specs.Comparison.{order_act, compare_act}
@@ -107,6 +107,14 @@ inspected left (node f (arg a no_args)) σ w = option_map (λ k. act_of_one k a 
 inspected left (node f (arg a (arg b no_args))) σ w = option_map (λ k. act_of_two k a b left σ w) (of_two f)
 inspected left (node f (arg a (arg b (arg c no_args)))) σ w = option_map (λ k. act_of_three k a b c left σ w) (of_three f)
 inspected left g σ w = None
+
+-- one that is none of them fails
+abbrev pub act_if_any : World → Option Act → Act
+act_if_any w None = done w Fails
+act_if_any w (Some a) = a
+
+abbrev pub act_on_terms : ℕ → Term Text → Bindings Text → World → Act
+act_on_terms left g σ w = act_if_any w (inspected left g σ w)
 
 -- whether a name with so many arguments is one of them
 abbrev pub is_builtin : Text → ℕ → Bool

@@ -1,6 +1,6 @@
 -- What an answer of the code tells of an act: over texts, in any world in which as many variables were given out.
 use Rattle.std.specs.Prelude.{◌≡◌, ℕ, ◌+◌, ◌<◌, ◌≤◌, Bool, true, false, List, length, take, Result, Ok, Err}
-use Rattle.op_logic.specs.Term.{Term}
+use Rattle.op_logic.specs.Term.{Term, IsWithin}
 use Rattle.op_logic.specs.Bind.{Bindings}
 use Rattle.op_logic.specs.Laws.{rename_bindings}
 use Rattle.op_logic.specs.Names.{name_at, named, HasNames, HaveNames}
@@ -47,11 +47,11 @@ pub record Comes (a : Act) (w : World) (left : ℕ) (y : Yield) (count after : �
   pub world : a.after ≡ record w { variables = count }
   pub yield : a.yield ≡ y
 
--- the names of an answer's bindings, or of its ball, are in the table
+-- the names of an answer's bindings, or of its ball, are in the table, and the ball's variables were given out
 abbrev pub IsNamed : List (List ℕ) → State → Outcome → Type 0
 IsNamed names s Yes = IsSetting names s
 IsNamed names s No = Unit {0}
-IsNamed names s (Throw t) = HasNames (length names) t
+IsNamed names s (Throw t) = HasNames (length names) t × IsWithin s.count t
 
 abbrev pub IsAnswer : (World → Act) → ℕ → ℕ → Result Outcome WalkFault → List (List ℕ) → State → ℕ → Type 0
 IsAnswer act count left (Ok o) names s after =

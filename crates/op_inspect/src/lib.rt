@@ -1,6 +1,7 @@
-//! Builtins on terms: arithmetic; unification, tests, comparison, copies and evaluation within this crate.
+//! Builtins on terms: unification, tests of types, comparison, construction, copies and arithmetic.
 #![tactic(auto)]
 
+mod argument;
 mod arithmetic;
 mod builtin;
 mod comparison;
@@ -10,15 +11,24 @@ mod division;
 mod evaluation;
 mod fault;
 mod function;
+mod functor;
+mod inspection;
 mod making;
+mod naming;
 mod outcome;
 mod pending;
 mod problem;
+mod refusing;
 mod relation;
+mod skeleton;
 mod throwing;
 mod type_test;
 mod unification;
+mod univ;
 mod value;
+mod variables;
 
 pub use arithmetic::evaluate;
 pub use fault::EvalFault;
+pub use inspection::{inspect, is_inspected};
+pub use outcome::Outcome;

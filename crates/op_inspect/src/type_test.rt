@@ -4,6 +4,7 @@ ghost use Rattle.std.specs.Prelude.{◌≡◌, ◌<◌, ℕ, List, length, Ok};
 ghost use Rattle.op_inspect.specs.TypeTests.{test_act};
 ghost use Rattle.op_inspect.specs.Outcomes.{text_at, texts_of, Answers, IsSetting};
 ghost use Rattle.op_inspect.specs.inner.Nodes.{node_passes};
+ghost use Rattle.op_inspect.specs.declared.type_test.TypeTest.TheVariants as tests;
 
 use crate::outcome::{Outcome, decided};
 use op_bind::{Bindings, Ref};
@@ -37,6 +38,13 @@ fn passes(test: TypeTest, node: Node) -> bool
         (TypeTest::Callable, Node::Atom(_) | Node::Struct(_, _)) => true,
         _ => false,
     }
+}
+
+/// Whether a node is a variable.
+pub(crate) fn is_variable(node: Node) -> bool
+    ensures { result ≡ node_passes tests.Variable node }
+{
+    matches!(node, Node::Var(_))
 }
 
 /// `var`, `nonvar`, `atom`, `integer`, `number`, `atomic`, `compound` and `callable`.
