@@ -50,8 +50,8 @@ stands-at-end h test =
 pub comes-here : (h : Held) (k : Kept) (o : Option Ending) → IsHere h (run_of h) → h.place ≤ event_count (run_of h)
     → Comes o h.machine k → take (length h.machine.tables.names) k.tables.names ≡ h.machine.tables.names
     → IsHere (gone_on h k (kept_by h.ending o)) (run_of h)
-comes-here h k None i before c names = next-here h (run_of h) k c.skipped i before c.comes c.few names
-comes-here h k (Some e) i before c names = end-here h (run_of h) k c.skipped e i before c.comes c.few names
+comes-here h k None i before c names = next-here h (run_of h) k c.skipped i before c.comes c.few c.whole names
+comes-here h k (Some e) i before c names = end-here h (run_of h) k c.skipped e i before c.comes c.few c.whole names
 
 comes-over : (h : Held) (k : Kept) (o : Option Ending) (before after : ℕ) → h.fault ≡ None → IsHere h (run_of h)
     → h.place ≤ event_count (run_of h) → Comes o h.machine k → IsHere (gone_on h k (kept_by h.ending o)) (run_of h)

@@ -1,6 +1,6 @@
 -- Where a feed stands, and where it goes.
 use Rattle.std.proofs.Common.{◌≡◌, ℕ, ◌+◌, ◌-◌, ◌<◌, ◌≤◌, ◌^◌, min, max, Bool, true, false, not, ◌&&◌, List, [], ◌∷◌, ◌++◌, length}
-use Rattle.std.proofs.Common.{take, Option, Some, None, is_some, refl, sym, ap, ◌∙◌, subst, arith, append_assoc, append-nil, length-append}
+use Rattle.std.proofs.Common.{take, drop, Option, Some, None, is_some, refl, sym, ap, ◌∙◌, subst, arith, append_assoc, append-nil, length-append}
 use Rattle.std.proofs.Common.{get_or}
 use Rattle.std.proofs.lemmas.List.{get_or-append_right, take-take, length-take}
 use Rattle.std.proofs.Math.Seq.{take-length}
@@ -8,24 +8,57 @@ use Rattle.op_logic.specs.Names.{named}
 use Rattle.op_logic.proofs.BoolCases.{by_order}
 use Rattle.op_trace.specs.Database.{Text}
 use Rattle.op_trace.specs.World.{World, Event, Turn, Shown, Solved, loaded}
+use Rattle.op_trace.specs.Outside.{no_outside}
 use Rattle.op_trace.specs.Builtins.{setup_for}
 use Rattle.op_trace.specs.Run.{Run, started, events_of, worlds_of, steps_at, looked_at, output_at}
 use Rattle.op_store.specs.declared.goals.goal.Goal.{Goal}
 use Rattle.op_store.specs.Stored.{Stored, database_of}
 use Rattle.op_machine.specs.declared.turn.Ending.{Ending}
-use Rattle.op_machine.specs.Machine.{Kept, answered, has_event, event_now, world_now}
+use Rattle.op_machine.specs.declared.turn.Last.{Last}
+use Rattle.op_machine.specs.declared.turn.Last.TheVariants as last
+use Rattle.op_machine.specs.Machine.{is_event, is_solution}
+use Rattle.op_machine.specs.Machine.{Kept, answered, has_event, has_solution, event_now, world_now, to_come}
 use Rattle.op_moves.specs.Places.{event_count, place_behind, turns_to, least_steps, IsWrittenBehind, IsCourse, Rising, IsNumbered}
 use Rattle.op_moves.proofs.RisingPlaces.{run-course, run-rises, run-numbers, first-later, IsLater}
 use Rattle.op_moves.proofs.ProgramActs.{program-acts-go-on}
 use Rattle.op_moves.proofs.TurnPlaces.{events-append, worlds-append, worlds-count, events-few, behind, IsAt, is-at, is-past}
 use Rattle.op_retrace.specs.declared.feed.FeedStep.TheVariants as step
-use Rattle.op_retrace.specs.Fed.{event_by, event_shown, AtEnd, Looked, Stands, Pays, Over}
+use Rattle.op_retrace.specs.Fed.{event_by, event_shown, IsMachineAt, AtEnd, Looked, Stands, Pays, Over}
 use Rattle.op_retrace.specs.Fed.{furthest_behind, BrokenOver}
 use Rattle.op_retrace.specs.Holding.{Held, run_by, run_of, fed_of, first_held, to_show, IsStarted, IsHere}
 use Rattle.op_retrace.specs.inner.Coming.{AreSolutions, last_steps, Came, Ended, Stops}
 
 shown-by : (k : Kept) (b : Bool) → has_event k ≡ b → event_shown k ≡ event_by b k
 shown-by k b h = ap (λ t. event_by t k) h
+
+drop-past : (ts us : List Turn) → drop (length ts) (ts ++ us) ≡ us
+drop-past [] us = refl
+drop-past (t ∷ ts) us = drop-past ts us
+
+-- a machine that shows an event shows no solution
+event-only : (k : Kept) → has_event k ≡ true → has_solution k ≡ false
+event-only k h = go k.last k.faulted h
+  where
+    go : (l : Last) (f : Bool) → (is_event l && not f) ≡ true → (is_solution l && not f) ≡ false
+    go last.Nothing f e = refl
+    go last.Event f e = refl
+    go last.Solution f e = absurd cc
+
+-- where these turns are past, a machine has the rest of the run still to show
+machine-at : (k : Kept) (r : Run) (p : ℕ) (past : List Turn) → k.faulted ≡ false → has_solution k ≡ false
+    → r.turns ≡ past ++ (to_show k).turns → r.ending ≡ (to_show k).ending → r.world ≡ (to_show k).world
+    → turns_to r.turns p ≡ length past → output_at r p ≡ [] → IsMachineAt k r p
+machine-at k r p past whole none turns ending world count quiet =
+    let same : to_come k no_outside (output_at r p) ≡ to_show k = ap (to_come k no_outside) quiet in
+    record {
+      whole = whole;
+      no_solution = none;
+      outside = no_outside;
+      turns = ap (λ (x : Run). x.turns) same ∙ sym (ap (λ n. drop n r.turns) count ∙ ap (drop (length past)) turns
+          ∙ drop-past past (to_show k).turns);
+      ending = ap (λ (x : Run). x.ending) same ∙ sym ending;
+      world = ap (λ (x : Run). x.world) same ∙ sym world;
+    }
 
 -- the run over a program is a course, whatever the program
 course-by : (t : Stored) (g : Goal) (budget wanted : ℕ)
@@ -58,10 +91,13 @@ starts-here t g budget wanted k s =
         event = sym (shown-by k false s.no_event);
         steps = s.steps;
         turns = s.answered ∙ sym (no-turns r.turns);
+        machine = machine-at k r 0 [] s.whole s.no_solution (sym (ap (λ (x : Run). x.turns) s.run))
+            (sym (ap (λ (x : Run). x.ending) s.run)) (sym (ap (λ (x : Run). x.world) s.run)) (no-turns r.turns) refl;
         first = λ z. s.tables;
         names = ap (λ (x : Stored). take (length t.names) x.names) s.tables ∙ take-length t.names;
         drawn = refl;
         limit = omega arith;
+        ended_within = λ z. absurd cc;
       };
       past = [];
       turns = sym (ap (λ (x : Run). x.turns) s.run);
@@ -93,10 +129,12 @@ again-here h k i s =
         event = f.stands.event;
         steps = f.stands.steps;
         turns = f.stands.turns;
+        machine = f.stands.machine;
         first = f.stands.first;
         names = f.stands.names;
         drawn = old.drawn;
         limit = old.limit;
+        ended_within = old.ended_within;
       };
       past = f.past;
       turns = f.turns;
@@ -201,9 +239,9 @@ names-on loaded old new p q =
     sym (take-take (length loaded) (length old) new l) ∙ ap (take (length loaded)) q ∙ p
 
 pub next-here : (h : Held) (r : Run) (k : Kept) (ts : List Turn) → IsHere h r → h.place ≤ event_count r → Came h.machine k ts
-    → answered k < 2 ^ 63 → take (length h.machine.tables.names) k.tables.names ≡ h.machine.tables.names
+    → answered k < 2 ^ 63 → k.faulted ≡ false → take (length h.machine.tables.names) k.tables.names ≡ h.machine.tables.names
     → IsHere (gone_on h k h.ending) r
-next-here h r k ts i before c few names =
+next-here h r k ts i before c few whole names =
     let a = next-at h r k ts i before c in
     let p = parts-at r h.place k a.world in
     let old = i.stands in
@@ -217,6 +255,10 @@ next-here h r k ts i before c few names =
     let l = ap length (events-append past shown) in
     let m = length-append (events_of past) (event_now k ∷ []) in omega arith) in
     let within = a.within in
+    let turns : r.turns ≡ (past ++ shown) ++ (to_show k).turns =
+    past-turns r past shown (to_show k).turns (shown ++ (to_show k).turns)
+    (past-turns r i.past ts (shown ++ (to_show k).turns) (to_show h.machine).turns i.turns c.turns) refl in
+    let to : turns_to r.turns (h.place + 1) ≡ length (past ++ shown) = (let t = a.turns_are in omega arith) in
     record {
       stands = record {
         within = omega arith;
@@ -226,14 +268,16 @@ next-here h r k ts i before c few names =
         event = a.event ∙ sym (shown-by k true c.shown);
         steps = sym p.0;
         turns = sym (a.turns_are ∙ count);
+        machine = machine-at k r (h.place + 1) (past ++ shown) whole (event-only k c.shown) turns (i.ending ∙ c.ending)
+            (i.world ∙ c.world) to p.2;
         first = λ z. absurd (omega arith);
         names = names-on h.store.names h.machine.tables.names k.tables.names old.names names;
         drawn = sym (at-max (looked_at r) h.furthest (h.place + 1) 0 (sym old.drawn) p.1);
         limit = old.limit;
+        ended_within = old.ended_within;
       };
       past = past ++ shown;
-      turns = past-turns r past shown (to_show k).turns (shown ++ (to_show k).turns)
-          (past-turns r i.past ts (shown ++ (to_show k).turns) (to_show h.machine).turns i.turns c.turns) refl;
+      turns = turns;
       ending = i.ending ∙ c.ending;
       world = i.world ∙ c.world;
       count = longer;
@@ -243,9 +287,9 @@ next-here h r k ts i before c few names =
     }
 
 pub end-here : (h : Held) (r : Run) (k : Kept) (ts : List Turn) (e : Ending) → IsHere h r → h.place ≤ event_count r → Ended h.machine k e ts
-    → answered k < 2 ^ 63 → take (length h.machine.tables.names) k.tables.names ≡ h.machine.tables.names
+    → answered k < 2 ^ 63 → k.faulted ≡ false → take (length h.machine.tables.names) k.tables.names ≡ h.machine.tables.names
     → IsHere (gone_on h k (Some e)) r
-end-here h r k ts e i before c few names =
+end-here h r k ts e i before c few whole names =
     let n = end-count h r k ts i before e c in
     let a = is-past r h.place n in
     let world : r.world ≡ world_now k = i.world ∙ c.world ∙ c.last in
@@ -257,6 +301,7 @@ end-here h r k ts e i before c few names =
     (let m = i.count in let l = c.count in let j = length-append i.past ts in omega arith) in
     let events : length (events_of past) ≡ h.place = past-events i.past ts h.place c.solutions (seen-all h r k ts i before) in
     let furthest : max h.furthest (h.place + 1) ≡ event_count r + 1 = (let l = end-furthest h r old in omega arith) in
+    let all : r.turns ≡ past ++ (to_show k).turns = turns ∙ sym (ap (λ (us : List Turn). past ++ us) c.none ∙ append-nil past) in
     record {
       stands = record {
         within = omega arith;
@@ -272,13 +317,16 @@ end-here h r k ts e i before c few names =
         event = a.event ∙ sym (shown-by k false c.shown);
         steps = sym p.0;
         turns = sym (a.turns_are ∙ ap length turns ∙ count);
+        machine = machine-at k r (h.place + 1) past whole c.no_solution all (i.ending ∙ c.ending) (i.world ∙ c.world)
+            (a.turns_are ∙ ap length turns) p.2;
         first = λ z. absurd (omega arith);
         names = names-on h.store.names h.machine.tables.names k.tables.names old.names names;
         drawn = sym (at-max (looked_at r) h.furthest (h.place + 1) 0 (sym old.drawn) p.1);
         limit = old.limit;
+        ended_within = old.ended_within;
       };
       past = past;
-      turns = turns ∙ sym (ap (λ (us : List Turn). past ++ us) c.none ∙ append-nil past);
+      turns = all;
       ending = i.ending ∙ c.ending;
       world = i.world ∙ c.world;
       count = count;

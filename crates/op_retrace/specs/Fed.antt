@@ -1,17 +1,17 @@
 -- What a feed stands for, and what its calls do.
-use Rattle.std.specs.Prelude.{◌≡◌, ℕ, ◌+◌, ◌-◌, ◌^◌, ◌<◌, ◌≤◌, Bool, true, false, ◌&&◌, not, List, ◌++◌, length, take, max}
+use Rattle.std.specs.Prelude.{◌≡◌, ℕ, ◌+◌, ◌-◌, ◌^◌, ◌<◌, ◌≤◌, Bool, true, false, ◌&&◌, not, List, ◌∷◌, ◌++◌, length, take, drop, max}
 use Rattle.std.specs.Prelude.{Option, Some, None, is_some, Result, Ok, Err}
 use Rattle.std.specs.Io.KnownBytes.{Appends}
 use Rattle.op_desk.specs.Contents.{Known}
 use Rattle.op_trace.specs.Database.{Text}
 use Rattle.op_trace.specs.World.{Event}
-use Rattle.op_trace.specs.Outside.{Taking, follow}
+use Rattle.op_trace.specs.Outside.{Outside, Taking, follow}
 use Rattle.op_trace.specs.Run.{Run, events_of, steps_at, looked_at, output_at}
 use Rattle.op_moves.specs.Moves.{event_at}
 use Rattle.op_moves.specs.Places.{event_count, place_behind, turns_to, least_steps, IsWrittenBehind, Rising, IsNumbered}
 use Rattle.op_store.specs.Stored.{Stored}
 use Rattle.op_machine.specs.declared.turn.Ending.{Ending}
-use Rattle.op_machine.specs.Machine.{Kept, event_now, has_event, answered, ending_for, HasBallNames}
+use Rattle.op_machine.specs.Machine.{Kept, event_now, has_event, has_solution, answered, to_come, ending_for, HasBallNames}
 use Rattle.op_retrace.specs.declared.feed.FeedStep.{FeedStep}
 use Rattle.op_retrace.specs.declared.feed.FeedStep.TheVariants as step
 use Rattle.op_retrace.specs.declared.fault.Cause.{Cause}
@@ -70,6 +70,16 @@ abbrev pub Looked : Fed → Run → Option Ending → Type 0
 Looked v r None = v.furthest ≤ event_count r
 Looked v r (Some e) = AtEnd v r e
 
+-- A machine stands at a place of a run: it has ended by no fault, shows no solution, and what it still has to show, over what lies outside
+-- by then, is the rest of the run.
+pub record IsMachineAt (k : Kept) (r : Run) (p : ℕ) : Type 0 where
+  pub whole : k.faulted ≡ false
+  pub no_solution : has_solution k ≡ false
+  pub outside : Outside
+  pub turns : (to_come k outside (output_at r p)).turns ≡ drop (turns_to r.turns p) r.turns
+  pub ending : (to_come k outside (output_at r p)).ending ≡ r.ending
+  pub world : (to_come k outside (output_at r p)).world ≡ r.world
+
 -- the feed stands at a place of this run
 pub record Stands (v : Fed) (r : Run) : Type 0 where
   pub within : v.place ≤ v.furthest
@@ -79,10 +89,12 @@ pub record Stands (v : Fed) (r : Run) : Type 0 where
   pub event : event_at (events_of r.turns) v.place ≡ event_shown v.machine
   pub steps : v.machine.steps ≡ steps_at r v.place
   pub turns : answered v.machine ≡ turns_to r.turns v.place
+  pub machine : IsMachineAt v.machine r v.place
   pub first : v.place ≡ 0 → v.machine.tables ≡ v.loaded
   pub names : take (length v.loaded.names) v.machine.tables.names ≡ v.loaded.names
   pub drawn : v.drawn ≡ looked_at r v.furthest
   pub limit : v.drawn ≤ input_limit
+  pub ended_within : v.ended ≡ true → v.drawn < input_limit
 
 -- what holds of a feed that has answered no fault, whatever its input still has
 abbrev pub IsSound : Fed → Type 0
@@ -160,6 +172,11 @@ pub record Breaks (old new : Fed) (left left_now written written_now : Known) (b
   pub put : List ℕ
   pub appends : Appends written written_now put
   pub over : (rest : List ℕ) → BrokenOver (old.run (follow taking rest)) (new.run rest) old taking.bytes put before after
+
+-- whatever byte the input has next, the place behind is reached only over it: more would be looked at than may be taken
+abbrev pub AsksTooMuch : Fed → Fed → Type 0
+AsksTooMuch old new =
+    (b : ℕ) (rest : List ℕ) → input_limit < looked_at (new.run (b ∷ rest)) (furthest_behind (new.run (b ∷ rest)) old)
 
 -- by which fault a feed has ended
 abbrev pub cause_of : FeedFault → Cause

@@ -9,7 +9,7 @@ use Rattle.op_store.specs.declared.goals.goal.Goal.{Goal}
 use Rattle.op_store.specs.Stored.{Stored, database_of}
 use Rattle.op_store.specs.Queries.{IsSoundGoal}
 use Rattle.op_machine.specs.declared.turn.Ending.{Ending}
-use Rattle.op_machine.specs.Machine.{Kept, to_come, answered, has_event}
+use Rattle.op_machine.specs.Machine.{Kept, to_come, answered, has_event, has_solution}
 use Rattle.op_moves.specs.Places.{event_count}
 use Rattle.op_retrace.specs.declared.fault.Cause.{Cause}
 use Rattle.op_retrace.specs.Fed.{Fed, Stands}
@@ -72,6 +72,8 @@ pub record IsStarted (t : Stored) (g : Goal) (budget wanted : ℕ) (k : Kept) : 
   pub answered : answered k ≡ 0
   pub tables : k.tables ≡ t
   pub no_event : has_event k ≡ false
+  pub no_solution : has_solution k ≡ false
+  pub whole : k.faulted ≡ false
 
 -- Where the feed stands: these turns are past, and the others the machine has still to show. Up to the furthest place nothing was written.
 pub record IsHere (h : Held) (r : Run) : Type 0 where

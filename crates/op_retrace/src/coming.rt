@@ -1,4 +1,4 @@
-ghost use Rattle.std.specs.Prelude.{◌≡◌, ◌+◌, ◌-◌, ◌<◌, ◌≤◌, ◌^◌, length, take, IfOk, OnOk, OnErr};
+ghost use Rattle.std.specs.Prelude.{◌≡◌, ◌+◌, ◌-◌, ◌<◌, ◌≤◌, ◌^◌, false, length, take, IfOk, OnOk, OnErr};
 ghost use Rattle.op_store.specs.Queries.{IsSoundGoal};
 ghost use Rattle.op_machine.specs.Machine.{Answers, answered, world_now, TurnHasNames};
 ghost use Rattle.op_retrace.specs.Holding.{to_show, IsStarted};
@@ -32,6 +32,7 @@ fn next_turn<L: Ledger>(machine: &mut Machine, steps: &mut Steps<L>) -> Result<T
         (to_show machine.old) (to_show machine.new) (world_now machine.new)) }
     ensures ball { IfOk result (TurnHasNames (length machine.new.tables.names)) }
     ensures few { OnOk result (answered machine.new < 2 ^ 63) }
+    ensures whole { OnOk result (machine.new.faulted ≡ false) }
     ensures cost { steps.new ≡ steps.old + (machine.new.steps - machine.old.steps) }
     ensures later { machine.old.steps ≤ machine.new.steps }
     ensures unmade { OnErr result (machine.new.steps ≡ machine.old.steps) }

@@ -3,7 +3,7 @@ ghost use Rattle.op_desk.specs.declared.chan.Chan.{Chan};
 ghost use Rattle.op_event.specs.View.{event_in};
 ghost use Rattle.op_machine.specs.Machine.{event_now};
 ghost use Rattle.op_retrace.specs.Fed.{Fed, IsSound, Advances, Breaks, Ends, IsReset, IsBrokenReset, IsResetFault, shows_event};
-ghost use Rattle.op_retrace.specs.Fed.{input_limit};
+ghost use Rattle.op_retrace.specs.Fed.{input_limit, AsksTooMuch};
 ghost use Rattle.op_retrace.specs.Sight.{sight, Apart, Counts};
 
 use crate::fault::FeedFault;
@@ -53,6 +53,7 @@ pub trait Feed {
         ensures unasked { is_some (fed self.old).fault ≡ true → (desk.new ≡ desk.old) × (steps.new ≡ steps.old) }
         ensures too_long { IsErrOf result FeedFault.InputTooLong
             → ((fed self.new).drawn ≡ input_limit) × ((fed self.new).ended ≡ false) }
+        ensures asked { IsErrOf result FeedFault.InputTooLong → AsksTooMuch (fed self.old) (fed self.new) }
         ensures apart { Apart (sight D.Desk desk.old) (sight D.Desk desk.new) }
         ensures counts { Counts (sight D.Desk desk.old) (sight D.Desk desk.new) result }
         ensures ends { Ends result (fed self.old) (fed self.new) };

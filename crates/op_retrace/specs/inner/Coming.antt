@@ -2,7 +2,7 @@
 use Rattle.std.specs.Prelude.{◌≡◌, ℕ, ◌+◌, ◌^◌, ◌<◌, true, false, List, [], ◌∷◌, ◌++◌, length, Option, Some, None}
 use Rattle.op_trace.specs.World.{Turn, Shown, Solved}
 use Rattle.op_machine.specs.declared.turn.Ending.{Ending}
-use Rattle.op_machine.specs.Machine.{Kept, answered, has_event, event_now, world_now, ending_for, HasBallNames}
+use Rattle.op_machine.specs.Machine.{Kept, answered, has_event, has_solution, event_now, world_now, ending_for, HasBallNames}
 use Rattle.op_retrace.specs.declared.feed.FeedStep.{FeedStep}
 use Rattle.op_retrace.specs.declared.feed.FeedStep.TheVariants as step
 use Rattle.op_retrace.specs.Holding.{to_show}
@@ -55,6 +55,7 @@ pub record Ended (old new : Kept) (e : Ending) (ts : List Turn) : Type 0 where
   pub solutions : AreSolutions ts
   pub count : answered new ≡ answered old + length ts
   pub shown : has_event new ≡ false
+  pub no_solution : has_solution new ≡ false
   pub known : HasBallNames (length new.tables.names) e
 
 abbrev pub ComesBy : Option Ending → Kept → Kept → List Turn → Type 0
@@ -66,6 +67,7 @@ pub record Comes (o : Option Ending) (old new : Kept) : Type 0 where
   pub skipped : List Turn
   pub comes : ComesBy o old new skipped
   pub few : answered new < 2 ^ 63
+  pub whole : new.faulted ≡ false
 
 -- a fault came behind some solutions
 pub record Stops (old new : Kept) : Type 0 where
