@@ -1,5 +1,14 @@
 pub mod EventParts
 pub mod FollowedSides
+pub mod FoundPlaces
+pub mod JoinedCalls
+pub mod JoinedWalks
+pub mod SearchSteps
+pub mod SearchedFeeds
+pub mod StoppedWalks
+pub mod WokenFeeds
+pub mod MovedCursors
+pub mod ShownPlaces
 pub mod MatchingLoop
 pub mod PairStacks
 pub mod OwnTables

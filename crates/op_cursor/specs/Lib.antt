@@ -1,1 +1,4 @@
+pub mod Comes
+pub mod Moving
+pub mod Seen
 pub mod inner

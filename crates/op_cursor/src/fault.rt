@@ -1,7 +1,9 @@
 ghost use Rattle.std.specs.Prelude.{◌≡◌};
 ghost use Rattle.op_cursor.specs.declared.fault.PatternFault.TheVariants.{Memory};
+ghost use Rattle.op_cursor.specs.declared.fault.CursorFault.TheVariants as cursor_fault;
 
 use op_base::Memory;
+use op_retrace::FeedFault;
 use std::alloc::{AllocError, AllocFailed};
 use std::error::Error;
 use std::fmt;
@@ -31,5 +33,19 @@ impl From<Memory> for PatternFault {
 
     fn from(_e: Memory) -> PatternFault {
         PatternFault::Memory
+    }
+}
+
+/// Why a cursor doesn't answer: by its feed, or as its feed would for want of memory.
+#[derive(Clone, Copy, Debug, PartialEq, Eq)]
+pub enum CursorFault {
+    Feed(FeedFault),
+}
+
+impl From<FeedFault> for CursorFault {
+    ghost from_gives = { λ f e. e ≡ cursor_fault.Feed f };
+
+    fn from(f: FeedFault) -> CursorFault {
+        CursorFault::Feed(f)
     }
 }
