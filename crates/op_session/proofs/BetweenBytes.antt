@@ -15,7 +15,8 @@ use Rattle.op_session.specs.declared.feed.Feed.{Feed}
 use Rattle.op_session.specs.declared.status.Status.{Status}
 use Rattle.op_session.specs.declared.status.Status.TheVariants as status
 use Rattle.op_session.specs.Call.{channel_limit}
-use Rattle.op_session.specs.Moves.{Stand, at_start, most_steps}
+use Rattle.op_moves.specs.Moves.{Stand, at_start}
+use Rattle.op_session.specs.MostSteps.{most_steps}
 use Rattle.op_trace.specs.Outside.{Taking}
 use Rattle.op_session.specs.Session.{answer_to, so_far, complete, Course, no_more, session, said_by, said_in}
 use Rattle.op_session.specs.Promise.{WhenTold, IsPrefix, CostsAtMost, all_but_last, Met, InTaking, InKeeping, InAnswering}

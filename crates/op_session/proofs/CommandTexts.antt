@@ -10,7 +10,7 @@ use Rattle.op_token.specs.declared.piece.Piece.TheVariants.{Text, NoEnd, Empty}
 use Rattle.op_token.specs.Cut.{cut_of, text_in, behind_layout, rest_in, IsText, IsOpen, IsFollowed, IsUnended}
 use Rattle.op_token.proofs.TermTexts as cutting
 use Rattle.op_session.specs.Traced.{Traced}
-use Rattle.op_session.specs.Moves.{Stand, at_start}
+use Rattle.op_moves.specs.Moves.{Stand, at_start}
 use Rattle.op_session.specs.Session.{Answer, answer_to, so_far, complete, is_due, command_text, behind_command}
 use Rattle.op_session.specs.Session.{Course, no_more, answer_first, session_from, session}
 use Rattle.op_session.specs.inner.Behind.{behind, resumed, with_answer}

@@ -14,8 +14,9 @@ use Rattle.op_machine.specs.Machine.{Kept, event_now, world_now}
 use Rattle.op_session.specs.declared.feed.Feed.{Feed}
 use Rattle.op_session.specs.declared.feed.End.{End}
 use Rattle.op_event.specs.Line.{event_line}
-use Rattle.op_session.specs.Moves.{Stand, At, next_from, moved, event_count, end_found}
-use Rattle.op_session.specs.Session.{line_at}
+use Rattle.op_moves.specs.Moves.{Stand, At, Outcome, outcome, moved, end_found}
+use Rattle.op_moves.specs.Places.{event_count}
+use Rattle.op_session.specs.Session.{line_at, next_in}
 use Rattle.op_session.specs.inner.Feeding.{to_show, found_at, AtEnd, Feeds, ShowsEvent, ShowsEnd, Shows, Arrives, ArrivesAt, Finds, IsHere}
 
 -- where a list goes on
@@ -74,22 +75,31 @@ steps_past run p h =
     (omega arith)) (subst (λ i. get_or (worlds_of run.turns) i run.world ≡ run.world) i (past_end
     (worlds_of run.turns) p run.world h))
 
-pub moved_end : (run : Run) (s : Stand) (x : ending.Ending) → moved run s (end_found x) ≡ record {
+-- where nothing is found at the end, the place stays
+pub moved_end : (s : Stand) (x : ending.Ending) (f left : ℕ) → moved s (outcome (end_found x) f left) ≡ record {
   place = s.place;
-  furthest =
-      event_count run + 1;
+  furthest = f;
 }
-moved_end run s ending.Stopped = refl
-moved_end run s ending.Failed = refl
-moved_end run s (ending.Thrown b) = refl
-moved_end run s (ending.Halted i) = refl
-moved_end run s ending.Spent = refl
+moved_end s ending.Stopped f left = refl
+moved_end s ending.Failed f left = refl
+moved_end s (ending.Thrown b) f left = refl
+moved_end s (ending.Halted i) f left = refl
+moved_end s ending.Spent f left = refl
 
-pub next_here : (run : Run) (p : ℕ) → p < event_count run → next_from run p ≡ At (p + 1)
-next_here run p h = rw (le_true (p + 1) (event_count run) (omega arith)) refl
+pub next_here : (traced : Traced) (s : Stand) → s.place < event_count traced.run
+    → next_in traced s ≡ outcome (At (s.place + 1)) (max s.furthest (s.place + 1)) 999998
+next_here traced s h = rw (le_true (s.place + 1) (event_count traced.run) (omega arith)) refl
 
-pub next_past : (run : Run) (p : ℕ) → event_count run ≤ p → next_from run p ≡ end_found run.ending
-next_past run p h = rw (le_false (p + 1) (event_count run) (omega arith)) refl
+pub next_past : (traced : Traced) (s : Stand) → event_count traced.run ≤ s.place
+    → next_in traced s ≡ outcome (end_found traced.run.ending) (max s.furthest (event_count traced.run + 1)) 999998
+next_past traced s h = rw (le_false (s.place + 1) (event_count traced.run) (omega arith)) refl
+
+-- where the user stands behind the end
+pub stands_past : (traced : Traced) (s : Stand) → event_count traced.run ≤ s.place → s.furthest ≤ event_count traced.run + 1
+    → moved s (next_in traced s) ≡ record { place = s.place; furthest = event_count traced.run + 1 }
+stands_past traced s h f =
+    let most : max s.furthest (event_count traced.run + 1) ≡ event_count traced.run + 1 = omega arith in
+    rw (next_past traced s h, most) (moved_end s traced.run.ending (event_count traced.run + 1) 999998)
 
 pub finds_event : (traced : Traced) (s : Stand) (t : Stored) (k n : Kept) → Feeds traced s (record {
   machine = k;
@@ -108,8 +118,8 @@ finds_event traced s t k n f e later same =
     let within = g.within in
     record {
       arrives = record {
-        found = next_here traced.run s.place g.within;
-        feeds = record {
+        found = ap (λ (o : Outcome). o.found) (next_here traced s g.within);
+        feeds = rw (next_here traced s g.within) (record {
           events = g.rest;
           worlds = w.rest;
           ending = f.ending ∙ e.ending;
@@ -120,7 +130,7 @@ finds_event traced s t k n f e later same =
           looked = most;
           operators = same ∙ f.operators;
           reads = f.reads;
-        };
+        });
       };
       here = e.here;
       line = line_here traced.table (events_of traced.run.turns) s.place (event_now n) (events_of (to_show n).turns) here;
@@ -140,9 +150,10 @@ finds_end traced s t k n e f h later same =
     let steps = steps_past traced.run s.place no_more in
     let world : traced.run.world.steps ≡ n.steps = ap (λ (w : World). w.steps) (f.world ∙ h.world) in
     let least = f.least in
+    let looked : s.furthest ≡ s.place = f.looked in
     record {
-      found = next_past traced.run s.place past;
-      feeds = rw (moved_end traced.run s traced.run.ending) (record {
+      found = ap (λ (o : Outcome). o.found) (next_past traced s past);
+      feeds = rw (stands_past traced s past (omega arith)) (record {
         events = none ∙ sym h.events;
         worlds = no_worlds ∙ sym h.worlds;
         ending = f.ending ∙ h.same_ending;
@@ -164,8 +175,8 @@ finds_end_again traced s t k e f =
     let looked : AtEnd traced.run s e = f.looked in
     let place = looked.place in
     record {
-      found = next_past traced.run s.place (omega arith);
-      feeds = rw (moved_end traced.run s traced.run.ending) (record {
+      found = ap (λ (o : Outcome). o.found) (next_past traced s (omega arith));
+      feeds = rw (stands_past traced s (omega arith) (omega (arith, looked.furthest))) (record {
         events = f.events;
         worlds = f.worlds;
         ending = f.ending;

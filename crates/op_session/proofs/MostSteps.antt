@@ -9,7 +9,7 @@ use Rattle.op_machine.specs.declared.turn.Turn as declared
 use Rattle.op_machine.specs.declared.turn.Turn.TheVariants as turn
 use Rattle.op_machine.specs.Meaning.{bindings_in}
 use Rattle.op_machine.specs.Machine.{Kept, with_turn, only_ending, event_now, world_now, level_now, Answers}
-use Rattle.op_session.specs.Moves.{most_steps}
+use Rattle.op_session.specs.MostSteps.{most_steps}
 use Rattle.op_session.specs.inner.Feeding.{to_show, most_of}
 
 shown_most : (e : Event) (w : World) (r : Run) → max w.steps (most_steps r) ≤ most_steps (with_turn (Shown e w) r)

@@ -14,7 +14,8 @@ use Rattle.op_session.specs.declared.feed.Feed.{Feed}
 use Rattle.op_session.specs.declared.status.Status.{Status}
 use Rattle.op_session.specs.declared.status.Status.TheVariants as status
 use Rattle.op_session.specs.Call.{Session, channel_limit}
-use Rattle.op_session.specs.Moves.{Stand, at_start, event_count}
+use Rattle.op_moves.specs.Moves.{Stand, at_start}
+use Rattle.op_moves.specs.Places.{event_count}
 use Rattle.op_trace.specs.Outside.{Taking}
 use Rattle.op_session.specs.Session.{answer_to, from_first, so_far, complete, is_due, command_text}
 use Rattle.op_session.specs.Session.{Course, session, said_by, said_in}

@@ -1,5 +1,5 @@
 pub mod Call
-pub mod Moves
+pub mod MostSteps
 pub mod Promise
 pub mod Runnable
 pub mod Session

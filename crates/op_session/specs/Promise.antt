@@ -8,7 +8,8 @@ use Rattle.op_session.specs.Traced.{Traced}
 use Rattle.op_session.specs.declared.status.Status.{Status}
 use Rattle.op_session.specs.declared.status.Status.TheVariants as status
 use Rattle.op_session.specs.Call.{Outcome, Line, Missing, Session, channel_limit, usage_line}
-use Rattle.op_session.specs.Moves.{event_count, most_steps}
+use Rattle.op_moves.specs.Places.{event_count}
+use Rattle.op_session.specs.MostSteps.{most_steps}
 use Rattle.op_trace.specs.Outside.{Taking}
 use Rattle.op_session.specs.Session.{complete, so_far, session, said_in, furthest_in}
 use Rattle.op_session.specs.Sight.{Sight}

@@ -19,7 +19,8 @@ use Rattle.op_session.specs.declared.command.Meaning.TheVariants.{Next, Other, U
 use Rattle.op_session.specs.Words.{kind_word}
 use Rattle.op_event.specs.Line.{event_line}
 use Rattle.op_session.specs.Traced.{Traced}
-use Rattle.op_session.specs.Moves.{Stand, at_start, Found, At, No_event, Past_budget, next_from, moved}
+use Rattle.op_moves.specs.Moves.{Stand, at_start, Found, At, No_event, Past_budget, Outcome, next, moved}
+use Rattle.op_moves.specs.Moves as moves
 
 -- the command `next`
 abbrev pub is_next : Term Text → Bool
@@ -54,6 +55,7 @@ abbrev pub found_text : Traced → Found → List ℕ
 found_text traced (At j) = line_at traced.table (events_of traced.run.turns) (j - 1) ++ codes "\nyes\n"
 found_text traced No_event = codes "no\n"
 found_text traced Past_budget = codes "thrown trace_budget\n"
+found_text traced moves.Spent = codes "budget\n"
 
 -- a command that isn't known is refused for its form, and a text that can't be read by its kind and place
 abbrev pub other_text : List ℕ
@@ -67,10 +69,18 @@ pub record Answer : Type 0 where
   pub text : List ℕ
   pub stand : Stand
 
+-- the steps that a command may take: a million, one of which is its goal's
+abbrev pub move_steps : ℕ
+move_steps = 999999
+
+-- what `next` comes to
+abbrev pub next_in : Traced → Stand → Outcome
+next_in traced s = next (events_of traced.run.turns) traced.run.ending s move_steps
+
 abbrev pub answer_by : Traced → Stand → Meaning → Answer
 answer_by traced s Next =
-    let found = next_from traced.run s.place in
-    record { text = found_text traced found; stand = moved traced.run s found }
+    let o : Outcome = next_in traced s in
+    record { text = found_text traced o.found; stand = moved s o }
 answer_by traced s Other = record { text = other_text; stand = s }
 answer_by traced s (Unreadable place kind) = record { text = unreadable_text place kind; stand = s }
 

@@ -1,6 +1,6 @@
 ghost use Rattle.std.specs.Prelude.{◌≡◌, ◌≤◌, OnOk, IfOk};
 ghost use Rattle.op_machine.specs.Machine.{event_now};
-ghost use Rattle.op_session.specs.Moves.{Stand};
+ghost use Rattle.op_moves.specs.Moves.{Stand};
 ghost use Rattle.op_session.specs.Traced.{Traced};
 ghost use Rattle.op_session.specs.inner.Reader.{IsReader};
 ghost use Rattle.op_session.specs.Session.{other_text, unreadable_text};

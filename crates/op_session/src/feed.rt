@@ -2,7 +2,7 @@ ghost use Rattle.std.specs.Prelude.{◌≡◌, ◌+◌, ◌-◌, ◌≤◌, List
 ghost use Rattle.op_trace.specs.Database.{Text};
 ghost use Rattle.op_event.specs.View.{event_in};
 ghost use Rattle.op_machine.specs.Machine.{Answers, ending_for, has_event, event_now, world_now};
-ghost use Rattle.op_session.specs.Moves.{Stand, at_start, end_found};
+ghost use Rattle.op_moves.specs.Moves.{Stand, at_start, end_found};
 ghost use Rattle.op_session.specs.Traced.{Traced};
 ghost use Rattle.op_session.specs.inner.Feeding.{Finds, Shows, found_at, most_of, to_show};
 

@@ -9,8 +9,10 @@ use Rattle.op_session.specs.declared.feed.End.{End}
 use Rattle.op_session.specs.declared.feed.End.TheVariants.{Over, Spent}
 use Rattle.op_session.specs.Traced.{Traced}
 use Rattle.op_event.specs.Line.{event_line}
-use Rattle.op_session.specs.Moves.{Stand, Found, At, No_event, Past_budget, end_found, next_from, moved, event_count, most_steps}
-use Rattle.op_session.specs.Session.{line_at}
+use Rattle.op_moves.specs.Moves.{Stand, Found, At, No_event, Past_budget, end_found, moved}
+use Rattle.op_moves.specs.Places.{event_count}
+use Rattle.op_session.specs.MostSteps.{most_steps}
+use Rattle.op_session.specs.Session.{line_at, next_in}
 
 -- what a move to this end finds
 abbrev pub found_at : End → Found
@@ -77,8 +79,8 @@ Shows old new (Some e) = ShowsEnd old new e
 
 -- what a move to the next place found, and where the feed stands then
 pub record Arrives (traced : Traced) (s : Stand) (feed : Feed) (f : Found) : Type 0 where
-  pub found : next_from traced.run s.place ≡ f
-  pub feeds : Feeds traced (moved traced.run s f) feed
+  pub found : (next_in traced s).found ≡ f
+  pub feeds : Feeds traced (moved s (next_in traced s)) feed
 
 pub record ArrivesAt (traced : Traced) (s : Stand) (feed : Feed) : Type 0 where
   pub arrives : Arrives traced s feed (At (s.place + 1))

@@ -9,7 +9,7 @@ use Rattle.op_session.specs.declared.feed.End.TheVariants.{Over, Spent}
 use Rattle.op_session.specs.declared.status.Status.{Status}
 use Rattle.op_session.specs.declared.status.Status.TheVariants as status
 use Rattle.op_event.specs.Line.{event_line}
-use Rattle.op_session.specs.Moves.{Stand}
+use Rattle.op_moves.specs.Moves.{Stand}
 use Rattle.op_session.specs.Session.{answer_to}
 use Rattle.op_session.specs.Sight.{Sight}
 use Rattle.op_session.specs.inner.Steps.{SaysAll, SaysFront}

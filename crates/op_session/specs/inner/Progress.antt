@@ -9,7 +9,8 @@ use Rattle.op_session.specs.declared.feed.Feed.{Feed}
 use Rattle.op_session.specs.declared.status.Status.{Status}
 use Rattle.op_session.specs.declared.status.Status.TheVariants as status
 use Rattle.op_session.specs.Call.{Outcome, Session}
-use Rattle.op_session.specs.Moves.{at_start, most_steps}
+use Rattle.op_moves.specs.Moves.{at_start}
+use Rattle.op_session.specs.MostSteps.{most_steps}
 use Rattle.op_session.specs.Session.{Course, session_from, said_by}
 use Rattle.op_session.specs.Promise.{WhenTold, DoneAs, CostsAs, LoadAs, TooLongAs, BrokenOff, BrokenAs, CountsAs}
 use Rattle.op_session.specs.Promise.{IsBroken, IsRefused, IsFaultless, HasFile}

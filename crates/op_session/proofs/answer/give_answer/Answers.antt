@@ -4,7 +4,7 @@ use Rattle.op_session.specs.Traced.{Traced}
 use Rattle.op_session.specs.declared.feed.Feed.{Feed}
 use Rattle.op_session.specs.declared.status.Status.{Status}
 use Rattle.op_session.specs.declared.status.Status.TheVariants as status
-use Rattle.op_session.specs.Moves.{Stand}
+use Rattle.op_moves.specs.Moves.{Stand}
 use Rattle.op_session.specs.Session.{answer_to}
 use Rattle.op_session.specs.Sight.{Sight}
 use Rattle.op_session.specs.inner.Steps.{SaysAll, SaysFront, Says}

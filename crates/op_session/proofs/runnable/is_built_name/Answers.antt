@@ -1,13 +1,10 @@
-use Rattle.std.proofs.Common.{◌≡◌, ℕ, ◌==◌, false, List, sym, ap, ◌∙◌}
-use Rattle.op_logic.proofs.BoolCases.{by_test, if_false}
+use Rattle.std.proofs.Common.{ℕ, ◌==◌, List, sym, ap, ◌∙◌, arith}
+use Rattle.op_logic.proofs.BoolCases.{if_false}
 use Rattle.op_trace.specs.Database.{Text}
 use Rattle.op_store.specs.Locked.{is_among}
-use Rattle.std.proofs.lemmas.Bool.Decides.{Decides-eqb}
+use Rattle.std.proofs.lemmas.Bool.Decides.{nat_tests}
 use Rattle.op_session.specs.Runnable.{built}
 use Rattle.op_session.proofs.runnable.is_built_name.Goals as goal
-
-not-eq : (m n : ℕ) → (m ≡ n → ⊥) → (m == n) ≡ false
-not-eq m n h = by_test (m == n) (λ e. absurd (h ((Decides-eqb m n).0 e))) (λ e. e)
 
 pub returns-then-arity-eq0 : goal.returns-then-arity-eq0
 unfolding built
@@ -33,7 +30,7 @@ unfolding built
 returns-else-arity-eq3 c =
     c.is_among-else-arity-eq3.ensures
     ∙ sym (ap (λ (names : List Text). is_among names c.args.name.now)
-    (if_false (c.args.arity == 0) _ _ (not-eq c.args.arity 0 c.if-arity-eq0.false)
-    ∙ (if_false (c.args.arity == 1) _ _ (not-eq c.args.arity 1 c.if-arity-eq1.false)
-    ∙ (if_false (c.args.arity == 2) _ _ (not-eq c.args.arity 2 c.if-arity-eq2.false)
-    ∙ (if_false (c.args.arity == 3) _ _ (not-eq c.args.arity 3 c.if-arity-eq3.false))))))
+    (if_false (c.args.arity == 0) _ _ (grind (arith, nat_tests))
+    ∙ (if_false (c.args.arity == 1) _ _ (grind (arith, nat_tests))
+    ∙ (if_false (c.args.arity == 2) _ _ (grind (arith, nat_tests))
+    ∙ (if_false (c.args.arity == 3) _ _ (grind (arith, nat_tests)))))))

@@ -1,6 +1,6 @@
 use Rattle.std.proofs.Common.{refl, sym, subst}
 use Rattle.op_machine.specs.Machine.{Kept}
-use Rattle.op_session.specs.Moves.{at_start}
+use Rattle.op_moves.specs.Moves.{at_start}
 use Rattle.op_session.specs.inner.Feeding.{Feeds, traced_by}
 use Rattle.op_session.proofs.BetweenBytes.{holds_start}
 use Rattle.op_session.proofs.session.answer_all.Goals as goal
