@@ -5,7 +5,8 @@ use op_term::Term;
 use std::marker::Model;
 
 /// A term inside the bindings. No later call changes it; its value is that term with the present bindings.
-#[derive(Clone, Copy)]
+/// The default one stands where a small vector keeps no term yet, and is a term of no bindings.
+#[derive(Clone, Copy, Default)]
 pub struct Ref {
     pub(crate) at: u64,
 }

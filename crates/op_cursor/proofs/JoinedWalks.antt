@@ -137,7 +137,7 @@ place-within v r s = go v.ending s.looked
     go (Some e) l = let w = s.within in let f = l.furthest in omega arith
 
 pays-nothing : (keeps : ℕ) (r : Run) (p n : ℕ) → Pays keeps r p p n n
-pays-nothing keeps r p n = record { most = omega arith; least = λ z. omega arith }
+pays-nothing keeps r p n = record { most = omega arith; later = omega arith; least = λ z. omega arith }
 
 pub walks-nothing : (v : Fed) (a : Sight) (n : ℕ) → v.fault ≡ None → IsSound v → Walks v.place v v a a n n
 walks-nothing v a n none sound = record {

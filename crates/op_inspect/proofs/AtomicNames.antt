@@ -1,6 +1,6 @@
 -- The names of terms.
 use Rattle.std.proofs.Common.{◌≡◌, ℕ, suc, List, refl, sym, subst}
-use Rattle.op_logic.specs.Term.{Term, var, int, node, Args, no_args, arg, arity}
+use Rattle.op_logic.specs.Term.{Term, var, int, node, no_args, arg, arity}
 use Rattle.op_logic.specs.Names.{named}
 use Rattle.op_term.specs.Head.{head, sym as sym_of}
 use Rattle.op_term.specs.declared.node.Node.TheVariants.{Struct}
@@ -10,7 +10,8 @@ use Rattle.op_inspect.specs.Construction.{name_of}
 use Rattle.op_inspect.specs.inner.Made.{IsBound}
 use Rattle.op_inspect.specs.inner.Settings.{IsAtomic}
 
-pub name-itself : (names : List (List ℕ)) (t : Term ℕ) → ((f : Sym) (n : ℕ) → head t ≡ Struct f n → ⊥) → named names t ≡ name_of (named names t)
+pub name-itself : (names : List (List ℕ)) (t : Term ℕ) → ((f : Sym) (n : ℕ) → head t ≡ Struct f n → ⊥)
+    → named names t ≡ name_of (named names t)
 name-itself names (var v) h = refl
 name-itself names (int i) h = refl
 name-itself names (node f no_args) h = refl

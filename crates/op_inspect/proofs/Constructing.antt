@@ -1,11 +1,12 @@
 -- Problems of construction by outermost nodes are the errors by terms.
-use Rattle.std.proofs.Common.{◌≡◌, ℕ, zero, suc, ◌-◌, ◌<◌, ◌≤◌, nat_lt, Bool, true, false, List, [], ◌∷◌, Option, Some, None, option_map, codes, refl, ap, ◌∙◌, sym}
-use Rattle.std.proofs.Common.{length, arith, if◌then◌else◌}
-use Rattle.std.specs.Prelude.{ℤ, pos, negsuc}
+use Rattle.std.proofs.Common.{◌≡◌, ℕ, zero, suc, ◌-◌, ◌<◌, ◌≤◌, nat_lt, Bool, true, false, List, [], ◌∷◌, Some, None}
+use Rattle.std.proofs.Common.{codes, refl, ap, ◌∙◌, sym}
+use Rattle.std.proofs.Common.{arith, if◌then◌else◌}
+use Rattle.std.specs.Prelude.{pos, negsuc}
 use Rattle.std.proofs.lemmas.Bool.Decides.{nat_tests}
 use Rattle.op_logic.specs.Term.{Term, var, int, node, Args, no_args, arg, args_of, nth_arg, arity}
 use Rattle.op_logic.specs.Bind.{Bindings, follow}
-use Rattle.op_logic.specs.Names.{name_at, named}
+use Rattle.op_logic.specs.Names.{named}
 use Rattle.op_term.specs.declared.node.Node.{Node}
 use Rattle.op_term.specs.declared.node.Node.TheVariants as nodes
 use Rattle.op_term.specs.Head.{head}
@@ -13,7 +14,7 @@ use Rattle.op_term.specs.Places.{term_at}
 use Rattle.op_bind.specs.State.{State}
 use Rattle.op_trace.specs.Database.{Text}
 use Rattle.op_trace.specs.World.{World}
-use Rattle.op_trace.specs.Act.{Act, Fails, done}
+use Rattle.op_trace.specs.Act.{Fails, done}
 use Rattle.op_trace.specs.Builtins.{type_error, throw}
 use Rattle.op_inspect.specs.Answering.{decided, unify_terms, unify_pairs}
 use Rattle.op_inspect.specs.Construction.{functor_error, arg_error, head_error, count_in, arg_act, arg_found, made_functor, name_of}
@@ -21,14 +22,10 @@ use Rattle.op_inspect.specs.Construction.{functor_by, functor_built, functor_tak
 use Rattle.op_inspect.specs.Errors.{domain_error}
 use Rattle.op_inspect.specs.Outcomes.{text_at, IsKnown}
 use Rattle.op_inspect.specs.inner.Nodes.{node_passes}
-use Rattle.op_inspect.specs.inner.Refused.{functor_problem, count_problem, number_problem, name_problem, natural_of}
-use Rattle.op_inspect.specs.inner.Refused.{arg_problem, whole_problem, index_problem, head_problem}
+use Rattle.op_inspect.specs.inner.Refused.{functor_problem, count_problem, name_problem, natural_of}
+use Rattle.op_inspect.specs.inner.Refused.{arg_problem, head_problem}
 use Rattle.op_inspect.specs.inner.Made.{CanName, IsBound}
-use Rattle.op_inspect.specs.inner.Problems.{problem_text, IsKnownProblem}
 use Rattle.op_inspect.specs.declared.type_test.TypeTest.TheVariants as tests
-use Rattle.op_inspect.specs.declared.problem.Problem.{Problem}
-use Rattle.op_inspect.specs.declared.problem.Problem.TheVariants.{NotInDomain}
-use Rattle.op_inspect.specs.declared.problem.Domain.TheVariants as domains
 use Rattle.op_inspect.proofs.Refusals.{ball_of, FoundIsKnown, refused-some, refused-none}
 
 module _ (names : List (List ℕ)) (s : State) (r q : ℕ) where

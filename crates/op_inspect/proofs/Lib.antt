@@ -1,19 +1,24 @@
 mod Acting
-mod ArgumentTexts
 mod AtomicNames
-mod Constructing
+mod ArgumentTexts
 pub mod CopiedVariables
+mod Constructing
 mod Evaluating
+mod FoundBindings
 mod Inspecting
 mod IntegerValues
 mod MakingFunctors
+mod MakingParts
 mod MakingTerms
+mod MeetingVariables
 mod MetNodes
 mod NamedCopies
 mod PendingFunctions
 mod Refusals
+mod SeenLists
 mod SpentSteps
+pub mod TermActs
 mod Tests
-mod TextsLater
+pub mod TextsLater
 mod Unifying
 mod Values

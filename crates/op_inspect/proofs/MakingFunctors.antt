@@ -1,8 +1,9 @@
 -- Compounds of new variables.
 use Rattle.std.specs.Prelude.{Result, Ok, Err, IfOk, OnOk}
-use Rattle.std.proofs.Common.{◌≡◌, ℕ, zero, suc, ◌+◌, ◌<◌, List, [], ◌∷◌, ◌++◌, length, All, refl, sym, ap, ◌∙◌, subst, arith, length-append}
+use Rattle.std.proofs.Common.{◌≡◌, ℕ, zero, suc, ◌+◌, ◌<◌, List, [], ◌∷◌, ◌++◌, length, All, refl, sym, ap, ◌∙◌, subst, arith}
+use Rattle.std.proofs.Common.{length-append}
 use Rattle.std.proofs.lemmas.List.Elements.{All-nil, All-cons, All-head, All-tail}
-use Rattle.op_logic.specs.Term.{Term, var, int, node, Args, no_args, arg, args_of, shift, shift_args, rename_args, IsWithin, ArgsWithin}
+use Rattle.op_logic.specs.Term.{Term, var, int, node, Args, no_args, arg, shift, shift_args, rename_args, IsWithin, ArgsWithin}
 use Rattle.op_logic.specs.Names.{name_at, named, HasNames, ArgsHaveNames}
 use Rattle.op_term.specs.Head.{head, sym as sym_of}
 use Rattle.op_term.specs.declared.node.Node.TheVariants.{Atom}
@@ -14,7 +15,6 @@ use Rattle.op_trace.specs.Database.{Text}
 use Rattle.op_inspect.specs.Construction.{variables_from, with_arguments}
 use Rattle.op_inspect.specs.Outcomes.{text_at, IsKnown}
 use Rattle.op_inspect.specs.inner.Made.{MakesNew, CanName}
-use Rattle.op_inspect.specs.inner.Settings.{Makes}
 
 variables-named : (names : List (List ℕ)) (first n : ℕ) → rename_args (name_at names) (variables_from first n) ≡ variables_from first n
 variables-named names first zero = refl
@@ -73,7 +73,8 @@ args-more : (ts : List (Term ℕ)) (ps : List ℕ) (t : Term ℕ) (us : Args ℕ
     → joined (args_at (ts ++ t ∷ []) (ps ++ length ts ∷ [])) us ≡ joined (args_at ts ps) (arg t us)
 args-more ts [] t us h = ap (λ (x : Term ℕ). arg x us) (at-last ts t)
 args-more ts (p ∷ ps) t us h =
-    ap (λ (x : Term ℕ). arg x (joined (args_at (ts ++ t ∷ []) (ps ++ length ts ∷ [])) us)) (at-front ts (t ∷ []) p (All-head (λ q. q < length ts) p ps h))
+    ap (λ (x : Term ℕ). arg x (joined (args_at (ts ++ t ∷ []) (ps ++ length ts ∷ [])) us))
+    (at-front ts (t ∷ []) p (All-head (λ q. q < length ts) p ps h))
     ∙ ap (arg (term_at ts p)) (args-more ts ps t us (All-tail (λ q. q < length ts) p ps h))
 
 pub skeleton-starts : (ts : List (Term ℕ)) (ps : List ℕ) → ts ≡ [] → ps ≡ [] → IsSkeleton 0 ts ps

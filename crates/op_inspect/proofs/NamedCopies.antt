@@ -4,7 +4,7 @@ use Rattle.std.proofs.Common.{refl, ap, ◌∙◌, if◌then◌else◌, arith}
 use Rattle.std.specs.List.{list_any, position_or_len}
 use Rattle.std.proofs.lemmas.Bool.Decides.{nat_tests}
 use Rattle.std.proofs.lemmas.List.Recursion.{is_position_or_len}
-use Rattle.op_logic.specs.Term.{Term, var, int, node, Args, no_args, arg, rename_args, size}
+use Rattle.op_logic.specs.Term.{Term, var, int, node, Args, no_args, arg, rename_args}
 use Rattle.op_logic.specs.Laws.{instance_of, instances_of}
 use Rattle.op_logic.specs.Names.{name_at, named, HasNames, ArgsHaveNames}
 use Rattle.op_term.specs.Variables.{add_variables, add_args_variables, distinct_variables, has_no_variable, have_no_variable}

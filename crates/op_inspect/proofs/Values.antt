@@ -21,14 +21,15 @@ use Rattle.op_inspect.proofs.CopiedVariables.{copied-within}
 use Rattle.op_inspect.specs.Answering.{decided, by_unifier, succeeds_with, unify_terms}
 use Rattle.op_inspect.specs.Comparison.{compared}
 use Rattle.op_inspect.specs.TypeTests.{ground_act}
-use Rattle.op_inspect.specs.Copies.{copy_act}
+use Rattle.op_inspect.specs.Copies.{copy_act, variables_as, variables_listed}
+use Rattle.op_inspect.specs.Lists.{list_of}
 use Rattle.op_inspect.specs.Outcomes.{text_at, texts_of, Answers, IsKnown, IsSetting}
 use Rattle.op_inspect.specs.declared.outcome.Outcome.{Outcome}
 use Rattle.op_inspect.specs.declared.outcome.Outcome.TheVariants.{Throw}
 use Rattle.op_inspect.specs.inner.Settings.{Stays, Makes}
 use Rattle.op_bind.specs.Grown.{Grows}
 use Rattle.op_term.specs.declared.walk.WalkFault.{WalkFault}
-use Rattle.op_inspect.proofs.Acting.{IsPart, same-part, paid-answers, paid-then}
+use Rattle.op_inspect.proofs.Acting.{IsPart, same-part, paid-answers, paid-then, made-answers}
 use Rattle.op_inspect.proofs.TextsLater.{value-text, stays-self, text-later, texts-later}
 use Rattle.op_inspect.proofs.NamedCopies.{ground-named, variables-named, copied-named, copied-names}
 
@@ -107,6 +108,18 @@ module _ (names : List (List ℕ)) (s : State) where
             + length (distinct_variables (value_of s r));
       }))) (copied-named names w.variables (value_of s r))))
 
+  pub variables-value : (r left : ℕ) (l : Term Text) (w : World) → variables_listed (text_at names s r) l left (texts_of names s) w
+      ≡ pay (size (value_of s r)) left w
+      (λ k. unify_terms l (list_of (variables_as (distinct_variables (value_of s r)))) k (texts_of names s) w w)
+  variables-value r left l w =
+      let σ : Bindings Text = texts_of names s in
+      ap (λ (x : Term Text). pay (size x) left w (λ k. unify_terms l (list_of (variables_as (variables_of x))) k σ w w))
+      (sym (value-text names s r))
+      ∙ (ap (λ (n : ℕ). pay n left w (λ k. unify_terms l (list_of (variables_as (variables_of (value r)))) k σ w w))
+      (size-rename (name_at names) (value_of s r))
+      ∙ ap (λ (vs : List ℕ). pay (size (value_of s r)) left w (λ k. unify_terms l (list_of (variables_as vs)) k σ w w))
+      (variables-named names (value_of s r)))
+
   -- a ball that was made
   pub thrown-answers : (r : ℕ) (u : State) (left after : ℕ) (t : Term ℕ) → IsSetting names s → IsKnown names s r → Grows s u
       → u.count ≡ s.count + length (distinct_variables (value_of s r)) → t ≡ copies.copied s.count (value_of s r)
@@ -181,3 +194,16 @@ made-unified A k X a b c s t u q m left middle after r made stays setting known 
     ∙ ap (λ (σ : Bindings Text). unify_terms (text_at b t q) (text_at b t m) middle σ v v)
     (sym (texts-later a b s t stays made.bound setting))))))
     x
+
+-- a term is made without a step, and it is unified with another
+pub made-free : (X : Term Text) (a b c : List (List ℕ)) (s t u : State) (q m left after : ℕ) (r : Result Outcome WalkFault)
+    → Makes a s b t m X → Stays a b s t → IsSetting a s → IsKnown a s q
+    → Answers (λ w. unify_terms (text_at b t q) (text_at b t m) left (texts_of b t) w w) b t left r c u after
+    → Answers (λ w. unify_terms (text_at a s q) X left (texts_of a s) w w) a s left r c u after
+made-free X a b c s t u q m left after r made stays setting known x =
+    made-answers (λ w. unify_terms (text_at a s q) X left (texts_of a s) w w)
+    (λ w. unify_terms (text_at b t q) (text_at b t m) left (texts_of b t) w w) a b c s t u left after r stays made.count
+    (λ w. ap (λ (y : Term Text). unify_terms y X left (texts_of a s) w w) (sym (text-later a b s t q stays known))
+    ∙ (ap (λ (y : Term Text). unify_terms (text_at b t q) y left (texts_of a s) w w) (sym made.text)
+    ∙ ap (λ (σ : Bindings Text). unify_terms (text_at b t q) (text_at b t m) left σ w w)
+    (sym (texts-later a b s t stays made.bound setting)))) x

@@ -1,7 +1,8 @@
 -- Arithmetic over integers of 64 bits (ISO/IEC 13211-1, 9.1, 9.3 and 9.4; shift counts are this project's own): the functions by their
 -- names, their values, and the value of an expression with the count of its nodes (7.9).
 use Rattle.std.specs.Prelude.{ℕ, zero, suc, ◌+◌, ◌/◌, ◌^◌, nat_lt, Bool, List, codes, bytes_eq, if◌then◌else◌}
-use Rattle.std.specs.Prelude.{ℤ, pos, negsuc, neg_ℤ, ◌+ℤ◌, ◌-ℤ◌, ◌*ℤ◌, int_div, unsigned_abs, Option, Some, None, Result, Ok, Err}
+use Rattle.std.specs.Prelude.{ℤ, pos, negsuc, neg_ℤ, ◌+ℤ◌, ◌-ℤ◌, ◌*ℤ◌, int_div, unsigned_abs, Option, Some, None}
+use Rattle.std.specs.Prelude.{Result, Ok, Err}
 use Rattle.std.specs.Int.{int_min, int_max, int_signum, int_bit_and, int_bit_or, int_bit_not, w64}
 use Rattle.op_logic.specs.Term.{Term, var, int, node, no_args, arg, arity}
 use Rattle.op_inspect.specs.declared.fault.EvaluationError.{EvaluationError}

@@ -1,6 +1,7 @@
 -- Terms that are taken apart and built (ISO/IEC 13211-1, 8.5.1 to 8.5.3): a step for each argument that is made or listed, and then a
 -- unification. Arguments are looked at once they were followed.
-use Rattle.std.specs.Prelude.{ℕ, zero, suc, ◌+◌, nat_lt, ℤ, pos, negsuc, [], ◌∷◌, Option, Some, None, codes, if◌then◌else◌}
+use Rattle.std.specs.Prelude.{ℕ, zero, suc, ◌+◌, nat_lt, ℤ, pos, negsuc, [], ◌∷◌, Option, Some, None, codes}
+use Rattle.std.specs.Prelude.{if◌then◌else◌}
 use Rattle.op_logic.specs.Term.{Term, var, int, node, Args, no_args, arg, atom, args_of, arity, nth_arg}
 use Rattle.op_logic.specs.Bind.{Bindings, follow}
 use Rattle.op_trace.specs.Database.{Text}

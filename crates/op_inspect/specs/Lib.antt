@@ -1,3 +1,4 @@
+pub mod ActRules
 pub mod Answering
 pub mod Arithmetic
 pub mod Comparison

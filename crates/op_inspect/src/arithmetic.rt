@@ -1,4 +1,5 @@
-ghost use Rattle.std.specs.Prelude.{◌≡◌, ◌+◌, ◌<◌, ◌≤◌, length, Ok, Err, Some, None, IfOk, IfErr, OnOk, IfSome, ℕ, List};
+ghost use Rattle.std.specs.Prelude.{◌≡◌, ◌+◌, ◌<◌, ◌≤◌, length, Ok, Err, Some, None, IfOk, IfErr, OnOk, IfSome, ℕ};
+ghost use Rattle.std.specs.Prelude.{List};
 ghost use Rattle.op_logic.specs.Names.{named, HasNames};
 ghost use Rattle.op_term.specs.Head.{head};
 ghost use Rattle.op_bind.specs.State.{State, value_of};

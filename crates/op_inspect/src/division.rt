@@ -1,6 +1,7 @@
 //! Division of 64 bits (ISO/IEC 13211-1, 9.1.3). No divisor is 0 here.
 
-ghost use Rattle.std.specs.Prelude.{◌≡◌, ◌<◌, ◌≤◌, ◌^◌, ◌≢◌, neg_ℤ, ◌-ℤ◌, ◌*ℤ◌, pos, negsuc, Ok, SomeIff, FitsSigned, ℤ};
+ghost use Rattle.std.specs.Prelude.{◌≡◌, ◌<◌, ◌≤◌, ◌^◌, ◌≢◌, neg_ℤ, ◌-ℤ◌, ◌*ℤ◌, pos, negsuc, Ok};
+ghost use Rattle.std.specs.Prelude.{SomeIff, FitsSigned, ℤ};
 ghost use Rattle.std.specs.Int.{w64};
 ghost use Rattle.op_inspect.specs.Arithmetic.{rounded_down, floor as the_floor, within as the_within};
 

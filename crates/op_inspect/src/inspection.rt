@@ -108,8 +108,8 @@ fn inspect_three(
 }
 
 /// A goal of one of the builtins on terms, with this name and these arguments, is executed by its act. What it answers is how it ends:
-/// `Spent` where the act takes more steps than are left, and then no number of a variable was given out that the act doesn't give out.
-/// Names keep their numbers, and the names of errors may join them.
+/// `Spent` where the act takes more steps than are left; variables may have been given out, and bound, by then. Names keep their numbers,
+/// and the names of errors may join them.
 pub fn inspect(
     name: Sym,
     args: &[Ref],

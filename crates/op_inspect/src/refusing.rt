@@ -4,7 +4,7 @@ ghost use Rattle.std.specs.Prelude.{◌≡◌};
 ghost use Rattle.op_inspect.specs.inner.Refused.{name_problem as the_name_problem, count_problem as the_count_problem};
 ghost use Rattle.op_inspect.specs.inner.Refused.{functor_problem as the_functor_problem, arg_problem as the_arg_problem};
 ghost use Rattle.op_inspect.specs.inner.Refused.{natural_of as the_natural};
-ghost use Rattle.op_inspect.specs.inner.Refused.{whole_problem as the_whole_problem};
+ghost use Rattle.op_inspect.specs.inner.Refused.{whole_problem as the_whole_problem, head_problem as the_head_problem};
 
 use crate::problem::{Domain, Expected, Problem};
 use op_bind::Ref;
@@ -88,6 +88,30 @@ pub(crate) fn arg_problem(
     match index {
         Node::Var(_) => Some(Problem::Instantiation),
         _ => whole_problem(index, whole, index_at, whole_at),
+    }
+}
+
+/// The error of `=..` for a list that begins with this, where so many arguments are behind it.
+pub(crate) fn head_problem(head: Node, count: u64, head_at: &Ref) -> Option<Problem>
+    ensures { result ≡ the_head_problem head count head_at.now }
+{
+    match head {
+        Node::Var(_) => Some(Problem::Instantiation),
+        Node::Atom(_) => None,
+        Node::Int(_) => {
+            if count == 0 {
+                None
+            } else {
+                Some(Problem::NotOfType(Expected::Atom, *head_at))
+            }
+        }
+        Node::Struct(_, _) => {
+            if count == 0 {
+                Some(Problem::NotOfType(Expected::Atomic, *head_at))
+            } else {
+                Some(Problem::NotOfType(Expected::Atom, *head_at))
+            }
+        }
     }
 }
 

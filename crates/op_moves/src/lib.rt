@@ -5,5 +5,6 @@ mod laws;
 
 pub use laws::{
     calls_are_found, furthest_never_falls, moves_cost, next_then_prev, place_stays,
-    search_back_finds_the_last, search_finds_the_next, tests_are_unification, the_end_is_told,
+    program_acts_go_on, runs_rise, search_back_finds_the_last, search_finds_the_next,
+    tests_are_unification, the_end_is_told,
 };

@@ -44,6 +44,14 @@ event-only k h = go k.last k.faulted h
     go last.Event f e = refl
     go last.Solution f e = absurd cc
 
+-- without an event none can be looked at
+shows-none : (k : Kept) (b : Bool) → has_event k ≡ false → (has_event k && b) ≡ true → ⊥
+shows-none k b h = go (has_event k) h
+  where
+    go : (x : Bool) → x ≡ false → (x && b) ≡ true → ⊥
+    go false e f = cc
+    go true e f = cc
+
 -- where these turns are past, a machine has the rest of the run still to show
 machine-at : (k : Kept) (r : Run) (p : ℕ) (past : List Turn) → k.faulted ≡ false → has_solution k ≡ false
     → r.turns ≡ past ++ (to_show k).turns → r.ending ≡ (to_show k).ending → r.world ≡ (to_show k).world
@@ -98,6 +106,7 @@ starts-here t g budget wanted k s =
         drawn = refl;
         limit = omega arith;
         ended_within = λ z. absurd cc;
+        few = λ z. omega arith;
       };
       past = [];
       turns = sym (ap (λ (x : Run). x.turns) s.run);
@@ -135,6 +144,7 @@ again-here h k i s =
         drawn = old.drawn;
         limit = old.limit;
         ended_within = old.ended_within;
+        few = λ z. omega arith;
       };
       past = f.past;
       turns = f.turns;
@@ -258,6 +268,7 @@ next-here h r k ts i before c few whole names =
     let turns : r.turns ≡ (past ++ shown) ++ (to_show k).turns =
     past-turns r past shown (to_show k).turns (shown ++ (to_show k).turns)
     (past-turns r i.past ts (shown ++ (to_show k).turns) (to_show h.machine).turns i.turns c.turns) refl in
+    let below : h.place + 1 < 2 ^ 63 = (let f = events-few (past ++ shown) in omega arith) in
     let to : turns_to r.turns (h.place + 1) ≡ length (past ++ shown) = (let t = a.turns_are in omega arith) in
     record {
       stands = record {
@@ -275,6 +286,7 @@ next-here h r k ts i before c few whole names =
         drawn = sym (at-max (looked_at r) h.furthest (h.place + 1) 0 (sym old.drawn) p.1);
         limit = old.limit;
         ended_within = old.ended_within;
+        few = λ z. below;
       };
       past = past ++ shown;
       turns = turns;
@@ -324,6 +336,7 @@ end-here h r k ts e i before c few whole names =
         drawn = sym (at-max (looked_at r) h.furthest (h.place + 1) 0 (sym old.drawn) p.1);
         limit = old.limit;
         ended_within = old.ended_within;
+        few = λ z. absurd (shows-none k (not (is_some h.fault)) c.shown z);
       };
       past = past;
       turns = all;
@@ -348,14 +361,14 @@ pays-next : (r : Run) (p before m k : ℕ) → p + 1 ≤ event_count r → m ≤
 pays-next r p before m k within later from to =
     let low : least_steps r p ≡ m = (let e : min p (event_count r) ≡ p = omega arith in ap (steps_at r) e ∙ sym from) in
     let high : least_steps r (p + 1) ≡ k = (let e : min (p + 1) (event_count r) ≡ p + 1 = omega arith in ap (steps_at r) e ∙ sym to) in
-    record { most = omega arith; least = λ z. omega arith }
+    record { later = omega arith; most = omega arith; least = λ z. omega arith }
 
 pays-end : (r : Run) (p before m k : ℕ) → event_count r ≡ p → m ≤ k → m ≡ steps_at r p → k ≡ steps_at r (p + 1)
     → Pays 0 r p (p + 1) before (before + (k - m))
 pays-end r p before m k n later from to =
     let same : least_steps r (p + 1) ≡ least_steps r p =
     (let e : min (p + 1) (event_count r) ≡ min p (event_count r) = omega arith in ap (steps_at r) e) in
-    record { most = omega arith; least = λ z. omega arith }
+    record { later = omega arith; most = omega arith; least = λ z. omega arith }
 
 shows-by : (k : Kept) {A : Type 0} (o : Option A) → has_event k ≡ true → o ≡ None → has_event k && not (is_some o) ≡ true
 shows-by k o h n = rw (h, n) refl
@@ -412,7 +425,7 @@ over-again h r e before i some there =
       comes = record { past = omega arith; place = omega arith; ending = ap is_some some };
       output = sym (append-nil (output_at r h.furthest));
       looked = omega arith;
-      pays = record { most = omega arith; least = λ z. omega arith };
+      pays = record { later = omega arith; most = omega arith; least = λ z. omega arith };
     }
 
 -- the course of a run behind some of its turns

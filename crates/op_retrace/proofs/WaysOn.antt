@@ -17,7 +17,7 @@ use Rattle.op_retrace.proofs.TakenSources.{takes-nothing, takes-then, bytes-then
 
 -- a place costs nothing beyond itself
 pays-nothing : (keeps : ℕ) (r : Run) (p n : ℕ) → Pays keeps r p p n n
-pays-nothing keeps r p n = record { most = omega arith; least = λ z. omega arith }
+pays-nothing keeps r p n = record { later = omega arith; most = omega arith; least = λ z. omega arith }
 
 pub pays-then : (keeps : ℕ) (r : Run) (a b c n m k : ℕ) → Rising r → a ≤ b → b ≤ c → Pays keeps r a b n m → Pays keeps r b c m k
     → Pays keeps r a c n k
@@ -28,7 +28,10 @@ pays-then keeps r a b c n m k rising h l p q =
     let high = rising.steps (min b (event_count r)) (min c (event_count r)) (omega arith) in
     let x = p.most in
     let y = q.most in
+    let first = p.later in
+    let second = q.later in
     record {
+      later = omega arith;
       most = omega arith;
       least = λ z. (let u = p.least z in let v = q.least z in omega arith);
     }

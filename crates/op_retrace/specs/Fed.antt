@@ -1,6 +1,6 @@
 -- What a feed stands for, and what its calls do.
-use Rattle.std.specs.Prelude.{◌≡◌, ℕ, ◌+◌, ◌-◌, ◌^◌, ◌<◌, ◌≤◌, Bool, true, false, ◌&&◌, not, List, ◌∷◌, ◌++◌, length, take, drop, max}
-use Rattle.std.specs.Prelude.{Option, Some, None, is_some, Result, Ok, Err}
+use Rattle.std.specs.Prelude.{◌≡◌, ℕ, ◌+◌, ◌-◌, ◌^◌, ◌<◌, ◌≤◌, Bool, true, false, ◌&&◌, not}
+use Rattle.std.specs.Prelude.{List, ◌∷◌, ◌++◌, length, take, drop, max, Option, Some, None, is_some, Result, Ok, Err}
 use Rattle.std.specs.Io.KnownBytes.{Appends}
 use Rattle.op_desk.specs.Contents.{Known}
 use Rattle.op_trace.specs.Database.{Text}
@@ -95,6 +95,7 @@ pub record Stands (v : Fed) (r : Run) : Type 0 where
   pub drawn : v.drawn ≡ looked_at r v.furthest
   pub limit : v.drawn ≤ input_limit
   pub ended_within : v.ended ≡ true → v.drawn < input_limit
+  pub few : shows_event v ≡ true → v.place < 2 ^ 63
 
 -- what holds of a feed that has answered no fault, whatever its input still has
 abbrev pub IsSound : Fed → Type 0
@@ -121,9 +122,10 @@ abbrev pub ComesTo : FeedStep → Run → Fed → Fed → Type 0
 ComesTo step.Event r old new = AtNext r old new
 ComesTo step.End r old new = AtLast r old new
 
--- The steps that the machines of a feed have made: no more than lie between two places, and, where it keeps no further machine, no fewer
--- than lie between the events.
+-- The steps that the machines of a feed have made: none are taken back, no more are made than lie between two places, and, where it keeps
+-- no further machine, no fewer than lie between the events.
 pub record Pays (keeps : ℕ) (r : Run) (from to before after : ℕ) : Type 0 where
+  pub later : before ≤ after
   pub most : after ≤ before + (steps_at r to - steps_at r from)
   pub least : keeps ≡ 0 → before + (least_steps r to - least_steps r from) ≤ after
 

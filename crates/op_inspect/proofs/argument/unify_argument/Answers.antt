@@ -1,4 +1,4 @@
-use Rattle.std.proofs.Common.{◌≡◌, ℕ, ◌-◌, ◌<◌, ◌≤◌, ap, sym, ◌∙◌, subst, refl, arith, length, Ok, false}
+use Rattle.std.proofs.Common.{◌≡◌, ℕ, ◌-◌, ◌<◌, ◌≤◌, ap, sym, ◌∙◌, subst, arith, length, Ok, false}
 use Rattle.op_logic.specs.Names.{HasNames, named}
 use Rattle.op_logic.specs.Term.{Term, args_of, nth_arg, arity}
 use Rattle.op_logic.proofs.ShiftedTerms.{nth-names}

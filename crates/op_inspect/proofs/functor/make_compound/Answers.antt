@@ -1,5 +1,5 @@
-use Rattle.std.proofs.Common.{◌≡◌, ℕ, ◌+◌, ap, sym, ◌∙◌, subst, arith, Ok, IfOk}
-use Rattle.op_logic.specs.Term.{node, shift, IsWithin}
+use Rattle.std.proofs.Common.{◌≡◌, ℕ, ◌+◌, ap, ◌∙◌, arith}
+use Rattle.op_logic.specs.Term.{node, shift}
 use Rattle.op_term.specs.Places.{term_at}
 use Rattle.op_bind.specs.State.{State}
 use Rattle.op_bind.proofs.StateGrowth.{grows-grows}

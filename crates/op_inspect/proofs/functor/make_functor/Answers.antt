@@ -1,10 +1,9 @@
-use Rattle.std.proofs.Common.{◌≡◌, ap, sym, ◌∙◌, subst, arith, refl, Ok}
-use Rattle.op_logic.specs.Term.{Term, node, no_args}
+use Rattle.std.proofs.Common.{sym, ◌∙◌, arith}
 use Rattle.op_term.proofs.Heads.{head-atom}
 use Rattle.op_term.specs.Places.{term_at}
 use Rattle.op_inspect.specs.Construction.{variables_from, with_arguments}
 use Rattle.op_inspect.specs.Outcomes.{text_at}
-use Rattle.op_inspect.specs.inner.Made.{MakesNew, CanName}
+use Rattle.op_inspect.specs.inner.Made.{MakesNew}
 use Rattle.op_inspect.proofs.MakingFunctors.{makes-compound, makes-itself, no-count, ok-three}
 use Rattle.op_inspect.proofs.TextsLater.{stays-self}
 use Rattle.op_inspect.proofs.functor.make_functor.Goals as goal
