@@ -1,3 +1,4 @@
+use crate::line::Line;
 use op_base::Memory;
 use std::io;
 
@@ -7,34 +8,33 @@ pub trait Cases {
     fn add_result(
         &mut self,
         rt: HostRuntime,
-        line: &mut String,
+        line: &mut Line,
         word: &str,
         text: &str,
     ) -> Result<(), Memory>;
 }
 
 // Adds the result of a line.
-fn add_line<C: Cases>(
-    rt: HostRuntime,
-    line: &mut String,
-    cases: &mut C,
-    case: &str,
-) -> Result<(), Memory> {
+fn add_line<C: Cases>(rt: HostRuntime, line: &mut Line, cases: &mut C, case: &str) {
     if case.is_empty() || case.starts_with('%') {
-        return Ok(line.push_str(case)?);
+        line.add(case);
+    } else {
+        let (word, text) = case.split_once(' ').unwrap_or((case, ""));
+        let done = cases.add_result(rt, line, word, text);
+        line.note(done);
     }
-    let (word, text) = case.split_once(' ').unwrap_or((case, ""));
-    cases.add_result(rt, line, word, text)
 }
 
 /// Writes the result of each line of standard input.
 pub fn run_cases<C: Cases>(rt: HostRuntime, cases: &mut C) -> io::Result<()> {
     for line in rt.lines(rt.alloc()) {
         let line = line?;
-        let mut shown = String::new(rt.alloc());
-        let Ok(()) = add_line(rt, &mut shown, cases, line.as_str()) else {
+        let mut shown = Line::new(rt.alloc());
+        add_line(rt, &mut shown, cases, line.as_str());
+        if shown.done().is_err() {
             return Err(io::Error::from(io::ErrorKind::OutOfMemory));
-        };
+        }
+        let shown = shown.text();
         println!(rt; "{shown}")?;
     }
     Ok(())

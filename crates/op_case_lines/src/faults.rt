@@ -1,4 +1,4 @@
-use op_base::Memory;
+use crate::line::Line;
 use op_reader::ReadFaultKind;
 use op_token::TokenFaultKind;
 
@@ -15,16 +15,16 @@ pub fn token_word(kind: TokenFaultKind) -> &'static str {
 }
 
 /// Adds the words for what is wrong with a text.
-pub fn add_read_kind(line: &mut String, kind: ReadFaultKind) -> Result<(), Memory> {
-    match kind {
+pub fn add_read_kind(line: &mut Line, kind: ReadFaultKind) {
+    let word = match kind {
         ReadFaultKind::Token(fault) => {
-            line.push_str("token ")?;
-            line.push_str(token_word(fault))?;
+            line.add("token ");
+            token_word(fault)
         }
-        ReadFaultKind::NoEnd => line.push_str("no_end")?,
-        ReadFaultKind::Unbalanced => line.push_str("unbalanced")?,
-        ReadFaultKind::NoOperand => line.push_str("no_operand")?,
-        ReadFaultKind::Priority => line.push_str("priority")?,
-    }
-    Ok(())
+        ReadFaultKind::NoEnd => "no_end",
+        ReadFaultKind::Unbalanced => "unbalanced",
+        ReadFaultKind::NoOperand => "no_operand",
+        ReadFaultKind::Priority => "priority",
+    };
+    line.add(word);
 }

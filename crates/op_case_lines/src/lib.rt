@@ -6,17 +6,17 @@
 mod cases;
 mod decode;
 mod desks;
-mod escape;
 mod faults;
 mod fields;
+mod line;
 mod names;
 mod operators;
 
 pub use cases::{Cases, run_cases};
 pub use decode::decoded;
 pub use desks::{bytes_of, failing};
-pub use escape::escaped;
 pub use faults::{add_read_kind, token_word};
 pub use fields::{field, numbered};
+pub use line::Line;
 pub use names::{add_names, name_of};
 pub use operators::{kind_of, kind_word, set_word};

@@ -1,4 +1,4 @@
-use op_base::Memory;
+use crate::line::Line;
 use op_term::{Sym, Symbols};
 
 /// The text of a name; `?` where the table doesn't have its number.
@@ -11,10 +11,9 @@ pub fn name_of(symbols: &Symbols, sym: Sym) -> &str {
 }
 
 /// Adds the names of a table from a number on, each behind a `|`.
-pub fn add_names(line: &mut String, symbols: &Symbols, first: u64) -> Result<(), Memory> {
+pub fn add_names(line: &mut Line, symbols: &Symbols, first: u64) {
     for number in first..symbols.count() {
-        let name = name_of(symbols, Sym(number));
-        write!(line, "|{name}")?;
+        line.add("|");
+        line.add(name_of(symbols, Sym(number)));
     }
-    Ok(())
 }

@@ -1,6 +1,6 @@
 -- The acts of a program keep the rules of acts.
 use Rattle.std.proofs.Common.{◌≡◌, ℕ, suc, ◌+◌, ◌-◌, ◌<◌, ◌≤◌, ◌==◌, ◌&&◌, nat_le, pos, Bool, true, false}
-use Rattle.std.proofs.Common.{Option, Some, None, codes, length, refl, ap}
+use Rattle.std.proofs.Common.{Option, Some, None, codes, length, refl, sym, ap, subst}
 use Rattle.std.proofs.Common.{arith, if◌then◌else◌}
 use Rattle.std.proofs.lemmas.Bool.Decides.{nat_tests}
 use Rattle.op_logic.specs.Term.{Term, var, int, node, Args, no_args, arg, args_of, nth_arg, size, arity}
@@ -11,8 +11,12 @@ use Rattle.op_trace.specs.Act.{Yield, Fails, Runs, Throws, Halts, Act, done, pai
 use Rattle.op_trace.specs.Body.{Body, Division, divided, term_of}
 use Rattle.op_trace.specs.Copy.{variables_of, copied}
 use Rattle.op_trace.specs.Builtins.{instantiation_error, type_error, no_procedure, throw, unknown, run_division, added, run_goal, alone}
-use Rattle.op_trace.specs.Builtins.{first_solution, no_solution, throw_argument, halt_with, act_of_goal, act_of_program}
-use Rattle.op_machine.specs.ActRules.{OnlyBinds, IsSameAct, KeepsActRules}
+use Rattle.op_trace.specs.Builtins.{first_solution, no_solution, throw_argument, halt_with, act_of_goal}
+use Rattle.op_inspect.specs.Inspected.{act_on_terms}
+use Rattle.op_machine.specs.Acts as acts
+use Rattle.op_machine.specs.Acts.{act_or}
+use Rattle.op_inspect.specs.ActRules.{OnlyBinds, IsSameAct, KeepsActRules}
+use Rattle.op_inspect.proofs.TermActs.{Inspects, nothing, something, inspects}
 
 -- what is done with so many steps left
 pub record IsActRule (σ : Bindings Text) (a : ℕ → Act) : Type 0 where
@@ -111,13 +115,34 @@ goal-rule (node f (arg a (arg b us))) σ w =
     (if-rule σ (text_eq f (codes "catch") && (arity (arg b us) == 2)) (λ l. run_goal alone (follow σ a) no_args l σ w) last
     (run_goal-rule alone (follow σ a) no_args σ w) (unknown-rule f (suc (arity (arg b us))) σ w))
 
+-- what is the same for each number of steps keeps the rules
+rule-along : (σ : Bindings Text) (a b : ℕ → Act) → ((left : ℕ) → b left ≡ a left) → IsActRule σ a → IsActRule σ b
+rule-along σ a b e h = record {
+  binds = λ left. subst (λ (x : Act). OnlyBinds σ x.yield) (sym (e left)) (h.binds left);
+  same = λ m n before after.
+      subst (λ (x : Act). IsSameAct x (b n)) (sym (e m))
+      (subst (λ (x : Act). IsSameAct (a m) x) (sym (e n))
+      (h.same m n (subst (λ (x : Act). x.cost ≤ m) (e m) before) (subst (λ (x : Act). x.cost ≤ n) (e m) after)));
+}
+
+-- a goal is one of the builtins on terms, or of control
+table-rule : (g : Term Text) (σ : Bindings Text) (w : World) → Inspects σ g → IsActRule σ (λ left. acts.act_of_goal left g σ w)
+table-rule g σ w (nothing e) =
+    rule-along σ (λ left. act_of_goal left g σ w) (λ left. acts.act_of_goal left g σ w)
+    (λ left. ap (λ (o : Option Act). act_or o (act_of_goal left g σ w)) (e left w)) (goal-rule g σ w)
+table-rule g σ w (something e h) =
+    rule-along σ (λ left. act_on_terms left g σ w) (λ left. acts.act_of_goal left g σ w)
+    (λ left. ap (λ (o : Option Act). act_or o (act_of_goal left g σ w)) (e left w))
+    (record { binds = λ left. h.binds left w; same = λ m n before after. h.same m n w before after })
+
 -- each execution
-pub execution-rule : (t : Execution) (g : Term Text) (σ : Bindings Text) (w : World) → IsActRule σ (λ left. act_of_program left t g σ w)
-execution-rule First g σ w = goal-rule g σ w
-execution-rule Repeated g σ w = goal-rule g σ w
+pub execution-rule : (t : Execution) (g : Term Text) (σ : Bindings Text) (w : World)
+    → IsActRule σ (λ left. acts.act_of_program left t g σ w)
+execution-rule First g σ w = table-rule g σ w (inspects σ g)
+execution-rule Repeated g σ w = table-rule g σ w (inspects σ g)
 execution-rule Recovery g σ w = run_goal-rule alone (follow σ (nth_arg (args_of g) 2)) no_args σ w
 
-pub program-acts : KeepsActRules act_of_program
+pub program-acts : KeepsActRules acts.act_of_program
 program-acts = record {
   binds = λ left t g σ w. (execution-rule t g σ w).binds left;
   same = λ m n t g σ w before after. (execution-rule t g σ w).same m n before after;

@@ -5,7 +5,7 @@ use Rattle.op_trace.specs.Database.{Text}
 use Rattle.op_trace.specs.World.{World, Turn, Goal, loaded}
 use Rattle.op_trace.specs.Outside.{Outside, no_outside, Beyond, Taking, nothing, at}
 use Rattle.op_trace.specs.Act.{Setup}
-use Rattle.op_trace.specs.Builtins.{setup_for}
+use Rattle.op_machine.specs.Acts.{setup_for}
 use Rattle.op_trace.specs.Visit.{Verdict, Failed, CutTo, Thrown, Stopped, Halted, Spent, Visited, gives, with_turns, and_then, visit}
 use Rattle.op_trace.specs.Ending as ending
 use Rattle.op_trace.specs.Run.{ran, run, started, ending_of}
@@ -17,7 +17,7 @@ use Rattle.op_machine.specs.declared.turn.Turn as declared
 use Rattle.op_machine.specs.declared.turn.Turn.TheVariants as turn
 use Rattle.op_store.specs.Stored.{Stored, database_of}
 use Rattle.op_machine.specs.Program.{goal_named}
-use Rattle.op_machine.specs.Meaning.{state_of, world_in}
+use Rattle.op_machine.specs.Meaning.{state_of, world_left}
 use Rattle.op_machine.specs.Resume.{State, at_top, owed, resume}
 use Rattle.op_machine.specs.Outer.{state_at}
 use Rattle.op_machine.specs.Host.{IsNothing}
@@ -62,7 +62,7 @@ unfolding to_come
 turned-answers old new l f turn.Event h g o = (ap ran (h.0.owed g o), refl, h.0.count)
 turned-answers old new l f turn.Solution h g o = (ap ran (h.owed g o), refl, h.count)
 turned-answers old new l f (turn.Ended e) h g o = (
-  ap ran (h.owed g o) ∙ only-ending new.store.names h.verdict e (at g o (world_in new)) h.is,
+  ap ran (h.owed g o) ∙ only-ending new.store.names h.verdict e (at g o (world_left new)) h.is,
   sym (ap ran
       (h.walked.owed g o)),
   refl,

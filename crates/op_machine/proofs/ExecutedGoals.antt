@@ -9,7 +9,8 @@ use Rattle.op_term.specs.declared.node.Node.TheVariants as nodes
 use Rattle.op_trace.specs.Database.{Text}
 use Rattle.op_trace.specs.World.{World}
 use Rattle.op_trace.specs.Act.{Act, Fails, Halts, done}
-use Rattle.op_trace.specs.Builtins.{instantiation_error, type_error, no_procedure, throw, unknown, throw_argument, halt_with, act_of_goal}
+use Rattle.op_trace.specs.Builtins.{instantiation_error, type_error, no_procedure, throw, unknown, throw_argument, halt_with}
+use Rattle.op_machine.specs.Acts.{act_of_goal}
 use Rattle.op_machine.specs.declared.builtin_kind.Builtin.{Builtin}
 use Rattle.op_machine.specs.declared.core_state.Core.{Core}
 use Rattle.op_machine.specs.declared.core_state.Mode.TheVariants as mode
@@ -19,9 +20,10 @@ use Rattle.op_machine.specs.Meaning.{setup_of, world_in, items_now, goal_now, bi
 use Rattle.op_machine.specs.Resume.{Moved, yielded}
 use Rattle.op_machine.specs.inner.BuiltinKinds.{act_of_kind}
 use Rattle.op_machine.specs.inner.Invariant.{IsGood}
-use Rattle.op_machine.specs.inner.Moves.{Advances, act_moved, steps_left}
+use Rattle.op_machine.specs.inner.Moves.{Advances, Proceeds, act_moved, steps_left}
 use Rattle.op_machine.proofs.ActMoves.{performed-done}
 use Rattle.op_machine.proofs.AdvanceLaws.{silent-advances}
+use Rattle.op_machine.proofs.ProgramLaws.{proceeds, answer_proceeds}
 
 -- a move in another form, in what a call answers
 pub answer-as : {E : Type 0} (c new : Core) (m n : Moved) (o : Result Step E) → m ≡ n → IfOk o (Advances c new m)
@@ -37,6 +39,21 @@ act-as c new a b k g n o e h = answer-as c new (act_moved c a k g n) (act_moved 
 pub act-same : (c new : Core) (a b : Act) (k g n : ℕ) (s : Step) → a ≡ b → Advances c new (act_moved c a k g n) s
     → Advances c new (act_moved c b k g n) s
 act-same c new a b k g n s e h = subst (λ (x : Act). Advances c new (act_moved c x k g n) s) e h
+
+pub act-proceeds : {E : Type 0} (c new : Core) (a b : Act) (k g n : ℕ) (o : Result Step E) → a ≡ b
+    → IfOk o (Advances c new (act_moved c a k g n)) → IfOk o (Proceeds c new (act_moved c b k g n))
+act-proceeds c new a b k g n o e h = answer_proceeds c new (act_moved c b k g n) o (act-as c new a b k g n o e h)
+
+pub same-proceeds : (c new : Core) (a b : Act) (k g n : ℕ) (s : Step) → a ≡ b → Advances c new (act_moved c a k g n) s
+    → Proceeds c new (act_moved c b k g n) s
+same-proceeds c new a b k g n s e h = proceeds c new (act_moved c b k g n) s (act-same c new a b k g n s e h)
+
+-- the same of a call in which names may have joined
+pub goal-proceeds : {E : Type 0} (c new : Core) (a b : Act) (k g n : ℕ) (o : Result Step E) → a ≡ b
+    → IfOk o (Proceeds c new (act_moved c a k g n)) → IfOk o (Proceeds c new (act_moved c b k g n))
+goal-proceeds c new a b k g n o e h =
+    IfOk-weaker o (λ s. Proceeds c new (act_moved c a k g n) s) (λ s. Proceeds c new (act_moved c b k g n) s)
+    (λ s p. subst (λ (x : Act). Proceeds c new (act_moved c x k g n) s) e p) h
 
 -- what the goal of a kind of builtin does
 pub executed-kind : (c : Core) (q b : Builtin) (g : ℕ)

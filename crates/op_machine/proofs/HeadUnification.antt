@@ -27,7 +27,7 @@ use Rattle.op_bind.specs.declared.places.Clause.{Clause as NumberedClause}
 use Rattle.op_machine.specs.Program.{clause_in, goal_named, IsKnown}
 use Rattle.op_machine.specs.Meaning.{setup_of, world_in, level_in, level_of, items_now, goal_now, bindings_now, choice_points_in}
 use Rattle.op_machine.specs.inner.Invariant.{IsGood, IsBall, HasGoal, HasItems}
-use Rattle.op_machine.proofs.CopiedVariables.{within-more}
+use Rattle.op_inspect.proofs.CopiedVariables.{within-more}
 use Rattle.op_machine.specs.inner.Moves.{Advances, clause_unified, head_unifier, body_entered, body_before}
 use Rattle.op_machine.specs.Resume.{Forward, Backward, Over, Moved, silent, head_unified}
 use Rattle.op_machine.proofs.LevelLaws.{Rises, rises-bindings, choice_points-rise, frames-rise, term-rises, items_in-rise, values-rise}

@@ -15,7 +15,7 @@ use Rattle.op_machine.specs.Meaning.{goal_now}
 use Rattle.op_machine.specs.inner.Invariant.{IsGoal, HasGoal}
 use Rattle.op_machine.specs.inner.Moves.{Makes}
 
-names-more : (old new : List Text) → take (length old) new ≡ old → length old ≤ length new
+pub names-more : (old new : List Text) → take (length old) new ≡ old → length old ≤ length new
 names-more old new e = omega (arith, length-take (length old) new, ap length e)
 
 -- each of the first names is there

@@ -1,7 +1,7 @@
 -- What lies outside a program that asks nothing of it goes through each move unchanged.
 use Rattle.std.proofs.Common.{◌≡◌, ℕ, suc, ◌+◌, ◌-◌, ◌==◌, ◌&&◌, nat_le, pos, Bool, true, false, List}
 use Rattle.std.proofs.Common.{[], ◌∷◌, Option, Some, None, codes, refl}
-use Rattle.std.proofs.Common.{ap, ◌≤◌, ◌∙◌, arith, if◌then◌else◌}
+use Rattle.std.proofs.Common.{sym, ap, ◌≤◌, ◌∙◌, arith, if◌then◌else◌}
 use Rattle.op_logic.specs.Term.{Term, var, int, node, Args, no_args, arg, args_of, nth_arg, size, arity, shift}
 use Rattle.op_logic.specs.Bind.{Bindings, apply, follow, unify, Solved as Result}
 use Rattle.op_trace.specs.declared.barrier.Barrier.{Barrier}
@@ -12,7 +12,9 @@ use Rattle.op_trace.specs.Act.{Yield, Fails, Succeeds, Succeeds_again, Runs, Thr
 use Rattle.op_trace.specs.Act as act
 use Rattle.op_trace.specs.Body.{Body, Division, divided}
 use Rattle.op_trace.specs.Builtins.{instantiation_error, type_error, no_procedure, throw, unknown, run_division, added, run_goal, alone}
-use Rattle.op_trace.specs.Builtins.{first_solution, no_solution, throw_argument, halt_with, act_of_goal, act_of_program, setup_for}
+use Rattle.op_trace.specs.Builtins.{first_solution, no_solution, throw_argument, halt_with, act_of_goal}
+use Rattle.op_machine.specs.Acts as acts
+use Rattle.op_machine.specs.Acts.{act_or, act_of_program, setup_for}
 use Rattle.op_trace.specs.Visit.{Inside, Clauses, WithoutProcedure, Protected, inside, last_choice, catcher_of, counted_as, is_open}
 use Rattle.op_trace.specs.Visit.{around, Stopped, Control}
 use Rattle.op_trace.specs.Visit.{TrueGoal, FailGoal, CutGoal, Conjunction, Disjunction}
@@ -26,6 +28,7 @@ use Rattle.op_machine.specs.Resume.{head_unified, tried, branched, executed_agai
 use Rattle.op_machine.specs.inner.Barriers.{InStep}
 use Rattle.op_machine.specs.Outer.{state_at, turns_at, moved_at}
 use Rattle.op_machine.proofs.MoveLaws.{move-equation}
+use Rattle.op_inspect.proofs.TermActs.{Inspects, nothing, something, inspects}
 
 module _ (h : Outside) (o : List ℕ) where
   -- the steps of a state, and its barriers, are those of the state alone
@@ -165,10 +168,22 @@ module _ (h : Outside) (o : List ℕ) where
       (if-outer (text_eq f (codes "catch") && (arity (arg b us) == 2)) _ _ _ _ (run_goal-outer alone (follow σ a) no_args left σ w)
       (unknown-outer f (suc (arity (arg b us))) left σ w))
 
+  -- nor do the builtins on terms
+  table-outer : (left : ℕ) (g : Term Text) (σ : Bindings Text) (w : World) → Inspects σ g
+      → acts.act_of_goal left g σ (at h o w) ≡ act_at (acts.act_of_goal left g σ w)
+  table-outer left g σ w (nothing e) =
+      ap (λ (q : Option Act). act_or q (act_of_goal left g σ (at h o w))) (e left (at h o w))
+      ∙ (goal-outer left g σ w ∙ ap (λ (q : Option Act). act_at (act_or q (act_of_goal left g σ w))) (sym (e left w)))
+  table-outer left g σ w (something e t) =
+      ap (λ (q : Option Act). act_or q (act_of_goal left g σ (at h o w))) (e left (at h o w))
+      ∙ (t.world left (at h o w) w refl
+      ∙ (ap act_at (sym (t.world left w w refl))
+      ∙ ap (λ (q : Option Act). act_at (act_or q (act_of_goal left g σ w))) (sym (e left w))))
+
   pub program-outer : (left : ℕ) (t : Execution) (g : Term Text) (σ : Bindings Text) (w : World)
       → act_of_program left t g σ (at h o w) ≡ act_at (act_of_program left t g σ w)
-  program-outer left First g σ w = goal-outer left g σ w
-  program-outer left Repeated g σ w = goal-outer left g σ w
+  program-outer left First g σ w = table-outer left g σ w (inspects σ g)
+  program-outer left Repeated g σ w = table-outer left g σ w (inspects σ g)
   program-outer left Recovery g σ w = run_goal-outer alone (follow σ (nth_arg (args_of g) 2)) no_args left σ w
 
   yielded-outer : (k : ℕ) (g : Term Text) (J : List Item) (K : List Choice) (σ : Bindings Text) (y : Yield) (w : World)

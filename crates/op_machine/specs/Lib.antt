@@ -1,4 +1,4 @@
-pub mod ActRules
+pub mod Acts
 pub mod Host
 pub mod Machine
 pub mod Meaning

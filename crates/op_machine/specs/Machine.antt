@@ -6,7 +6,7 @@ use Rattle.op_trace.specs.Database.{Text}
 use Rattle.op_trace.specs.World.{World, Event, Turn, Shown, Solved, loaded}
 use Rattle.op_trace.specs.Outside.{Outside, Beyond, Taking, follow, at}
 use Rattle.op_trace.specs.Act.{Setup}
-use Rattle.op_trace.specs.Builtins.{setup_for}
+use Rattle.op_machine.specs.Acts.{setup_for}
 use Rattle.op_trace.specs.Run.{Run, ran}
 use Rattle.op_trace.specs.Ending as ending
 use Rattle.op_machine.specs.declared.continuations.Item.{Item}
@@ -23,7 +23,7 @@ use Rattle.op_machine.specs.declared.turn.Turn as declared
 use Rattle.op_machine.specs.declared.turn.Turn.TheVariants as turn
 use Rattle.op_store.specs.Stored.{Stored, database_of}
 use Rattle.op_bind.specs.State as bind
-use Rattle.op_machine.specs.Meaning.{Level, level_of, bindings_in, state_with, event_seen}
+use Rattle.op_machine.specs.Meaning.{Level, level_of, bindings_in, left_by, state_with, event_seen}
 use Rattle.op_machine.specs.inner.Invariant.{IsSeen}
 use Rattle.op_machine.specs.Resume.{State, owed}
 use Rattle.op_machine.specs.Outer.{state_at}
@@ -75,8 +75,8 @@ abbrev pub setup : Kept → Setup
 setup k = setup_for k.budget k.wanted
 
 -- the run's world at this moment, without what lies outside
-abbrev pub world_now : Kept → World
-world_now k = record (loaded (database_of k.tables)) {
+abbrev pub moment : Kept → World
+moment k = record (loaded (database_of k.tables)) {
   variables = k.bindings.count;
   calls = k.calls;
   conditions = k.conditions;
@@ -85,11 +85,15 @@ world_now k = record (loaded (database_of k.tables)) {
   solutions = k.solutions;
 }
 
+-- the same, as a run that has ended left it
+abbrev pub world_now : Kept → World
+world_now k = left_by k.mode (moment k)
+
 abbrev pub level_now : Kept → Level
 level_now k = level_of k.bindings k.continuations
 
 abbrev pub state_now : Kept → State
-state_now k = state_with k.tables (level_now k) k.frames (world_now k) k.ball k.mode
+state_now k = state_with k.tables (level_now k) k.frames (moment k) k.ball k.mode
 
 -- the turns that are still to come, the ending, and the world at it, over what lies outside, where these bytes were written before
 unfoldable pub to_come : Kept → Outside → List ℕ → Run

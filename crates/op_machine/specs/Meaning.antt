@@ -11,7 +11,7 @@ use Rattle.op_trace.specs.World as world
 use Rattle.op_trace.specs.Database.{Text}
 use Rattle.op_trace.specs.World.{World, Event, loaded}
 use Rattle.op_trace.specs.Act.{Setup}
-use Rattle.op_trace.specs.Builtins.{setup_for}
+use Rattle.op_machine.specs.Acts.{setup_for}
 use Rattle.op_trace.specs.Visit as visit
 use Rattle.op_trace.specs.Visit.{Verdict}
 use Rattle.op_machine.specs.declared.continuations.Item.{Item}
@@ -132,12 +132,33 @@ verdict_of t x b outcome.Failed = visit.Failed
 verdict_of t x b (outcome.Thrown n) = visit.Thrown (ball_text t b) (open_in x n)
 verdict_of t x b (outcome.Halted i) = visit.Halted i
 verdict_of t x b outcome.Spent = visit.Spent
+verdict_of t x b (outcome.Interrupted n) = visit.Spent
+
+-- how many variables were given out: at the end of a run those of a builtin that was interrupted don't count
+abbrev pub variables_left : Mode → ℕ → ℕ
+variables_left (mode.Over outcome.Stopped) v = v
+variables_left (mode.Over outcome.Failed) v = v
+variables_left (mode.Over (outcome.Thrown n)) v = v
+variables_left (mode.Over (outcome.Halted i)) v = v
+variables_left (mode.Over outcome.Spent) v = v
+variables_left (mode.Over (outcome.Interrupted n)) v = n
+variables_left (mode.Forward n) v = v
+variables_left mode.Backward v = v
+variables_left (mode.Throwing n) v = v
+
+-- the world that a machine leaves
+abbrev pub left_by : Mode → World → World
+left_by q w = record w { variables = variables_left q w.variables }
 
 abbrev pub state_with : Stored → Level → Framed Alternative → World → Option (Term ℕ) → Mode → State
 state_with t v x w b (mode.Forward n) = Forward (items_in t v n) (choice_points_of t v (reverse x.choices)) (bindings_in t v) w
 state_with t v x w b mode.Backward = Backward (choice_points_of t v (reverse x.choices)) w
 state_with t v x w b (mode.Throwing n) = Throwing (ball_text t b) (open_in x n) (choice_points_of t v (reverse x.choices)) w
-state_with t v x w b (mode.Over e) = Over (verdict_of t x b e) w
+state_with t v x w b (mode.Over e) = Over (verdict_of t x b e) (left_by (mode.Over e) w)
+
+-- the world of a machine, as a run that has ended left it
+abbrev pub world_left : Core → World
+world_left c = left_by c.mode (world_in c)
 
 abbrev pub state_of : Core → State
 state_of c = state_with c.store (level_in c) c.frames (world_in c) c.ball c.mode

@@ -6,6 +6,7 @@ pub mod BuiltinKinds
 pub mod Continuations
 pub mod Cuts
 pub mod GoalKinds
+pub mod Inspection
 pub mod Invariant
 pub mod Leaving
 pub mod Moves

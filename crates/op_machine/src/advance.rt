@@ -4,7 +4,7 @@ ghost use Rattle.op_machine.specs.Meaning.{choice_point_of, item_term, verdict_o
 ghost use Rattle.op_machine.specs.Machine.{ending_for, HasBallNames};
 ghost use Rattle.op_trace.specs.Run.{ending_of};
 ghost use Rattle.op_machine.specs.inner.Invariant.{IsGood, IsItem, IsFrame, IsBall, IsSound, Fits, HasItems, CanGrow};
-ghost use Rattle.op_machine.specs.inner.Moves.{Keeps, Advances};
+ghost use Rattle.op_machine.specs.inner.Moves.{Keeps, Advances, KeepsProgram, Proceeds};
 ghost use Rattle.op_machine.specs.inner.Boxes.{IsTried, IsEntered};
 ghost use Rattle.op_machine.specs.Resume.{Forward, move, Backward, at_solution};
 ghost use Rattle.op_machine.specs.inner.Turns.{Turned};
@@ -34,7 +34,7 @@ impl Core {
     pub(crate) fn turn(&mut self) -> Result<Turn, Memory>
         requires { IsSound self.old }
         ensures turned { IfOk result (Turned self.old self.new) }
-        ensures keeps { Keeps self.old self.new }
+        ensures keeps { KeepsProgram self.old self.new }
     {
         loop {
             if let Mode::Over { outcome } = self.mode {
@@ -61,15 +61,17 @@ impl Core {
             Outcome::Thrown { .. } => Ok(Ending::Thrown(ball_copy(&self.ball)?)),
             Outcome::Halted { status } => Ok(Ending::Halted(status)),
             Outcome::Spent => Ok(Ending::Spent),
+            Outcome::Interrupted { .. } => Ok(Ending::Spent),
         }
     }
 
     // One small move.
+    #[tactic(auto, using(crate::proofs::ProgramLaws::keeps_program, crate::proofs::ProgramLaws::proceeds, crate::proofs::ProgramLaws::answer_proceeds))]
     pub(crate) fn advance(&mut self) -> Result<Step, Memory>
         requires good { IsGood self.old }
         requires fits { Fits self.old }
-        ensures advances { IfOk result (Advances self.old self.new (move (setup_of self.old) (state_of self.old))) }
-        ensures keeps { Keeps self.old self.new }
+        ensures advances { IfOk result (Proceeds self.old self.new (move (setup_of self.old) (state_of self.old))) }
+        ensures keeps { KeepsProgram self.old self.new }
     {
         match self.mode {
             Mode::Forward { items } => self.forward(items),
@@ -80,13 +82,14 @@ impl Core {
     }
 
     // The first item of a continuation is done, or there is none.
+    #[tactic(auto, using(crate::proofs::ProgramLaws::keeps_program, crate::proofs::ProgramLaws::proceeds, crate::proofs::ProgramLaws::answer_proceeds))]
     fn forward(&mut self, items: u64) -> Result<Step, Memory>
         requires good { IsGood self.old }
         requires fits { Fits self.old }
         requires there { HasItems self.old items }
-        ensures advances { IfOk result (Advances self.old self.new (move (setup_of self.old)
+        ensures advances { IfOk result (Proceeds self.old self.new (move (setup_of self.old)
             (Forward (items_now self.old items) (choice_points_in self.old) (bindings_now self.old) (world_in self.old)))) }
-        ensures keeps { Keeps self.old self.new }
+        ensures keeps { KeepsProgram self.old self.new }
     {
         match self.continuations.first(items) {
             Some((item, rest)) => self.perform(item, rest),
@@ -95,16 +98,17 @@ impl Core {
     }
 
     // An item is done.
+    #[tactic(auto, using(crate::proofs::ProgramLaws::keeps_program, crate::proofs::ProgramLaws::proceeds, crate::proofs::ProgramLaws::answer_proceeds))]
     fn perform(&mut self, item: Item, rest: u64) -> Result<Step, Memory>
         requires good { IsGood self.old }
         requires fits { Fits self.old }
         requires item { IsItem (length self.old.store.names) self.old.bindings.terms item }
         requires there { HasItems self.old rest }
         requires entered { IsEntered self.old.frames.boxes self.old.calls self.old.continuations item rest }
-        ensures advances { IfOk result (Advances self.old self.new (move (setup_of self.old)
+        ensures advances { IfOk result (Proceeds self.old self.new (move (setup_of self.old)
             (Forward (item_term self.old.store (level_in self.old) item ∷ items_now self.old rest) (choice_points_in self.old)
             (bindings_now self.old) (world_in self.old)))) }
-        ensures keeps { Keeps self.old self.new }
+        ensures keeps { KeepsProgram self.old self.new }
     {
         match item {
             Item::Goal { goal, barrier } => self.select(goal, barrier, rest),

@@ -1,19 +1,22 @@
-ghost use Rattle.std.specs.Prelude.{◌≡◌, ◌≢◌, ◌<◌, ◌≤◌, ℕ, length};
+ghost use Rattle.std.specs.Prelude.{◌≡◌, ◌≢◌, ◌<◌, ◌≤◌, ℕ, true, false, length};
 ghost use Rattle.op_logic.specs.Term.{Term, args_of, arity};
 ghost use Rattle.op_logic.specs.Bind.{Bindings};
-ghost use Rattle.op_logic.specs.Names.{HasNames};
+ghost use Rattle.op_logic.specs.Names.{HasNames, name_at};
 ghost use Rattle.op_term.specs.Head.{head};
 ghost use Rattle.std.specs.Bool.{OnTrue, OnFalse};
-ghost use Rattle.op_trace.specs.Builtins.{act_of_goal};
+ghost use Rattle.op_trace.specs.Builtins as control;
+ghost use Rattle.op_inspect.specs.Inspected.{is_builtin};
+ghost use Rattle.op_machine.specs.Acts.{act_of_goal};
 ghost use Rattle.op_trace.specs.Visit.{is_catch};
 ghost use Rattle.op_trace.specs.Database.{Text};
 ghost use Rattle.op_trace.specs.World.{World};
 ghost use Rattle.op_machine.specs.Program.{goal_named};
-ghost use Rattle.op_machine.specs.inner.BuiltinKinds.{act_of_kind, HasArgument};
+ghost use Rattle.op_machine.specs.inner.BuiltinKinds.{act_of_kind, HasArgument, IsOfControl, IsOnTerms};
 ghost use Rattle.op_machine.specs.declared.builtin_kind.Builtin.TheVariants as builtin;
 ghost use Rattle.op_machine.specs.declared.builtin_kind.Around.TheVariants.{Alone, FirstSolution, NoSolution};
 
 use crate::goal_kind::names_law;
+use op_inspect::is_inspected;
 use op_store::Store;
 use op_store::names::control::{CALL, CATCH, HALT, NOT, ONCE, THROW};
 use op_term::{Node, Sym};
@@ -29,7 +32,7 @@ pub enum Around {
     NoSolution,
 }
 
-/// Which builtin of control a goal without a procedure is of.
+/// Which builtin a goal without a procedure is of.
 #[derive(Clone, Copy, Debug, PartialEq, Eq)]
 pub enum Builtin {
     /// The first argument runs in the box.
@@ -42,16 +45,49 @@ pub enum Builtin {
     Halt,
     /// halt/1.
     HaltWith,
+    /// One of the builtins on terms: a name with so many arguments.
+    OnTerms(Sym, u64),
     /// Of none: a name with so many arguments.
     Unknown(Sym, u64),
     /// The term is no goal.
     NoGoal,
 }
 
-/// Which builtin of control a term with this outermost node is a goal of, over the names of a store.
+/// Which builtin a term with this outermost node is a goal of, over the names of a store.
 pub(crate) fn builtin_of(store: &Store, node: Node) -> Builtin
+    requires { (g : Term ℕ) × (head g ≡ node) × HasNames (length store.now.names) g }
     ensures act { (g : Term _) → head g ≡ node → (left : ℕ) (σ : Bindings Text) (w : World)
         → act_of_goal left (goal_named store.now g) σ w ≡ act_of_kind store.now result (goal_named store.now g) left σ w }
+    ensures argument { (g : Term _) → head g ≡ node → HasArgument result → 0 < arity (args_of g) }
+    ensures known { (g : Term _) (f : Sym) (n : ℕ) → head g ≡ node → HasNames (length store.now.names) g
+        → result ≡ builtin.Unknown f n → f.0 < length store.now.names }
+    ensures terms { (g : Term _) (f : Sym) (n : ℕ) → head g ≡ node → result ≡ builtin.OnTerms f n → IsOnTerms store.now f n g }
+{
+    match control_of(store, node) {
+        Builtin::Unknown(name, arity) => other_builtin(store, name, arity),
+        own => own,
+    }
+}
+
+// One of the builtins on terms, or none.
+fn other_builtin(store: &Store, name: Sym, arity: u64) -> Builtin
+    requires { name.0 < length store.now.names }
+    ensures yes { is_builtin (name_at store.now.names name.0) arity ≡ true → result ≡ builtin.OnTerms name arity }
+    ensures no { is_builtin (name_at store.now.names name.0) arity ≡ false → result ≡ builtin.Unknown name arity }
+{
+    if is_inspected(store.symbols().name_of(name), arity) {
+        Builtin::OnTerms(name, arity)
+    } else {
+        Builtin::Unknown(name, arity)
+    }
+}
+
+// Which builtin of control a term with this outermost node is a goal of.
+fn control_of(store: &Store, node: Node) -> Builtin
+    ensures act { (g : Term _) → head g ≡ node → (left : ℕ) (σ : Bindings Text) (w : World)
+        → control.act_of_goal left (goal_named store.now g) σ w
+        ≡ act_of_kind store.now result (goal_named store.now g) left σ w }
+    ensures own { (g : Term _) → head g ≡ node → IsOfControl store.now result g }
     ensures argument { (g : Term _) → head g ≡ node → HasArgument result → 0 < arity (args_of g) }
     ensures known { (g : Term _) (f : Sym) (n : ℕ) → head g ≡ node → HasNames (length store.now.names) g
         → result ≡ builtin.Unknown f n → f.0 < length store.now.names }

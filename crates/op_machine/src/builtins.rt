@@ -11,7 +11,8 @@ ghost use Rattle.op_trace.specs.Builtins as builtins;
 ghost use Rattle.op_machine.specs.Meaning.{world_in, goal_now, bindings_now};
 ghost use Rattle.op_machine.specs.inner.Invariant.{IsGood, HasItems, HasGoal, HasCalled};
 ghost use Rattle.op_machine.specs.inner.BuiltinKinds.{first_argument as the_first_argument, more_arguments, with_more_arguments};
-ghost use Rattle.op_machine.specs.inner.Moves.{Keeps, Advances, Makes, act_moved, steps_left, goal_executed, ball_thrown, body_run};
+ghost use Rattle.op_machine.specs.inner.Moves.{Keeps, Advances, KeepsProgram, Proceeds, Makes, act_moved, steps_left, goal_executed};
+ghost use Rattle.op_machine.specs.inner.Moves.{ball_thrown, body_run};
 ghost use Rattle.op_machine.specs.inner.Moves.{ball_raised, argument_run, part_run, goal_run};
 ghost use Rattle.op_machine.specs.declared.core_state.Step.TheVariants as step;
 
@@ -28,14 +29,15 @@ use op_trace::Barrier;
 
 impl Core {
     // The first execution of a goal without a procedure.
+    #[tactic(auto, using(crate::proofs::ProgramLaws::keeps_program))]
     pub(crate) fn execute_goal(&mut self, call: u64, goal: Ref, rest: u64) -> Result<Step, Memory>
         requires good { IsGood self.old }
         requires steps { self.old.steps ≤ self.old.budget }
         requires there { HasItems self.old rest }
         requires goal { HasGoal self.old goal }
         requires called { HasCalled self.old call goal rest }
-        ensures advances { IfOk result (Advances self.old self.new (goal_executed self.old call goal rest)) }
-        ensures keeps { Keeps self.old self.new }
+        ensures advances { IfOk result (Proceeds self.old self.new (goal_executed self.old call goal rest)) }
+        ensures keeps { KeepsProgram self.old self.new }
     {
         match builtin_of(&self.store, self.bindings.outline(&goal)) {
             Builtin::Run(around) => self.run_argument(around, call, goal, rest),
@@ -43,6 +45,7 @@ impl Core {
             Builtin::Throw => self.throw_argument(call, goal, rest),
             Builtin::Halt => Ok(self.halt(0)),
             Builtin::HaltWith => self.halt_with(call, goal, rest),
+            Builtin::OnTerms(name, count) => self.inspect_goal(name, count, call, goal, rest),
             Builtin::Unknown(name, arity) => self.meet_unknown(name, arity, call, goal, rest),
             Builtin::NoGoal => {
                 self.mode = Mode::Backward;

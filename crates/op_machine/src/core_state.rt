@@ -20,6 +20,8 @@ pub enum Outcome {
     Halted { status: i64 },
     /// One more step would have passed the budget.
     Spent,
+    /// So it was with a step of a builtin, and so many variables had been given out before it.
+    Interrupted { variables: u64 },
 }
 
 /// What is done next.

@@ -4,10 +4,10 @@ ghost use Rattle.std.specs.Prelude.{◌≡◌, ℕ, List};
 ghost use Rattle.op_trace.specs.declared.barrier.Barrier.{Barrier};
 ghost use Rattle.op_trace.specs.World.{World};
 ghost use Rattle.op_trace.specs.Act.{Setup};
-ghost use Rattle.op_trace.specs.Builtins.{act_of_program};
+ghost use Rattle.op_machine.specs.Acts.{act_of_program};
 ghost use Rattle.op_trace.specs.Visit.{CutTo, Failed, Choice};
 ghost use Rattle.op_trace.specs.Outside.{Taking, follow, and_then};
-ghost use Rattle.op_machine.specs.ActRules.{KeepsActRules};
+ghost use Rattle.op_inspect.specs.ActRules.{KeepsActRules};
 ghost use Rattle.op_machine.specs.Resume.{keep, resume};
 
 pub use op_readback::laws::read_back;

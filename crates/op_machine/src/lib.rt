@@ -14,6 +14,7 @@ mod control;
 mod core_state;
 mod goal_kind;
 mod host;
+mod inspection;
 pub mod laws;
 mod machine;
 mod made_terms;

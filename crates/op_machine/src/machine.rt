@@ -3,7 +3,7 @@ ghost use Rattle.std.specs.Prelude.{IfOk, OnOk, OnErr, IsErrOf, IfSome, is_some}
 ghost use Rattle.op_store.specs.Queries.{IsSoundGoal};
 ghost use Rattle.op_store.specs.Stored.{database_of};
 ghost use Rattle.op_logic.specs.Names.{named};
-ghost use Rattle.op_trace.specs.Builtins.{setup_for};
+ghost use Rattle.op_machine.specs.Acts.{setup_for};
 ghost use Rattle.op_trace.specs.Run.{run};
 ghost use Rattle.op_trace.specs.World.{loaded};
 ghost use Rattle.op_trace.specs.Outside.{Outside, nothing, at};

@@ -9,7 +9,7 @@ use Rattle.op_logic.proofs.BoolCases.{by_order}
 use Rattle.op_trace.specs.Database.{Text}
 use Rattle.op_trace.specs.World.{World, Event, Turn, Shown, Solved, loaded}
 use Rattle.op_trace.specs.Outside.{no_outside}
-use Rattle.op_trace.specs.Builtins.{setup_for}
+use Rattle.op_machine.specs.Acts.{setup_for}
 use Rattle.op_trace.specs.Run.{Run, started, events_of, worlds_of, steps_at, looked_at, output_at}
 use Rattle.op_store.specs.declared.goals.goal.Goal.{Goal}
 use Rattle.op_store.specs.Stored.{Stored, database_of}
@@ -20,7 +20,7 @@ use Rattle.op_machine.specs.Machine.{is_event, is_solution}
 use Rattle.op_machine.specs.Machine.{Kept, answered, has_event, has_solution, event_now, world_now, to_come}
 use Rattle.op_moves.specs.Places.{event_count, place_behind, turns_to, least_steps, IsWrittenBehind, IsCourse, Rising, IsNumbered}
 use Rattle.op_moves.proofs.RisingPlaces.{run-course, run-rises, run-numbers, first-later, IsLater}
-use Rattle.op_moves.proofs.ProgramActs.{program-acts-go-on}
+use Rattle.op_retrace.proofs.TableActs.{table-goes-on}
 use Rattle.op_moves.proofs.TurnPlaces.{events-append, worlds-append, worlds-count, events-few, behind, IsAt, is-at, is-past}
 use Rattle.op_retrace.specs.declared.feed.FeedStep.TheVariants as step
 use Rattle.op_retrace.specs.Fed.{event_by, event_shown, IsMachineAt, AtEnd, Looked, Stands, Pays, Over}
@@ -72,17 +72,17 @@ machine-at k r p past whole none turns ending world count quiet =
 course-by : (t : Stored) (g : Goal) (budget wanted : ℕ)
     → IsCourse (started g.vars (loaded (database_of t))) (run_by t g budget wanted).turns (run_by t g budget wanted).world
 course-by t g budget wanted =
-    run-course (setup_for budget wanted) (named t.names g.body) g.vars (loaded (database_of t)) (program-acts-go-on budget wanted)
+    run-course (setup_for budget wanted) (named t.names g.body) g.vars (loaded (database_of t)) (table-goes-on budget wanted)
     (omega arith)
 
 rises-by : (t : Stored) (g : Goal) (budget wanted : ℕ) → Rising (run_by t g budget wanted)
 rises-by t g budget wanted =
-    run-rises (setup_for budget wanted) (named t.names g.body) g.vars (loaded (database_of t)) (program-acts-go-on budget wanted)
+    run-rises (setup_for budget wanted) (named t.names g.body) g.vars (loaded (database_of t)) (table-goes-on budget wanted)
     (omega arith)
 
 numbered-by : (t : Stored) (g : Goal) (budget wanted : ℕ) → IsNumbered (run_by t g budget wanted)
 numbered-by t g budget wanted =
-    run-numbers (setup_for budget wanted) (named t.names g.body) g.vars (loaded (database_of t)) (program-acts-go-on budget wanted)
+    run-numbers (setup_for budget wanted) (named t.names g.body) g.vars (loaded (database_of t)) (table-goes-on budget wanted)
     (omega arith) refl
 
 -- at the start nothing is past

@@ -3,7 +3,7 @@ use Rattle.std.specs.Prelude.{◌≡◌, ℕ, ◌^◌, ◌≤◌, false, List, [
 use Rattle.op_logic.specs.Names.{named}
 use Rattle.op_trace.specs.World.{Turn, loaded}
 use Rattle.op_trace.specs.Outside.{no_outside}
-use Rattle.op_trace.specs.Builtins.{setup_for}
+use Rattle.op_machine.specs.Acts.{setup_for}
 use Rattle.op_trace.specs.Run.{Run, run, events_of, output_at}
 use Rattle.op_store.specs.declared.goals.goal.Goal.{Goal}
 use Rattle.op_store.specs.Stored.{Stored, database_of}

@@ -1,7 +1,7 @@
 use crate::feeds::feed;
 use crate::runs::{Shown, run};
 use op_base::Memory;
-use op_case_lines::{Cases, decoded, field, numbered};
+use op_case_lines::{Cases, Line, decoded, field, numbered};
 use std::alloc::Global;
 
 /// Cases none of which leaves anything for the next.
@@ -12,7 +12,7 @@ impl Cases for RunCases {
     fn add_result(
         &mut self,
         rt: HostRuntime,
-        line: &mut String,
+        line: &mut Line,
         word: &str,
         text: &str,
     ) -> Result<(), Memory> {
@@ -22,13 +22,13 @@ impl Cases for RunCases {
             "choice-points" => of_run(rt.alloc(), line, text, Shown::ChoicePoints),
             "solve" => of_run(rt.alloc(), line, text, Shown::Solutions),
             "feed" => of_feed(rt.alloc(), line, text),
-            _ => Ok(line.push_str("no case")?),
+            _ => Ok(line.add("no case")),
         }
     }
 }
 
 // A case's text is the budget, the wanted number of solutions, the program and the goal.
-fn of_run(alloc: Global, line: &mut String, text: &str, shown: Shown) -> Result<(), Memory> {
+fn of_run(alloc: Global, line: &mut Line, text: &str, shown: Shown) -> Result<(), Memory> {
     let (budget, behind) = numbered(text).unwrap_or((0, text));
     let (wanted, fields) = numbered(behind).unwrap_or((1, behind));
     let program = decoded(alloc, field(fields, 0))?;
@@ -37,7 +37,7 @@ fn of_run(alloc: Global, line: &mut String, text: &str, shown: Shown) -> Result<
 }
 
 // A case's text is the budget, the wanted number of solutions, the program, the goal and the moves.
-fn of_feed(alloc: Global, line: &mut String, text: &str) -> Result<(), Memory> {
+fn of_feed(alloc: Global, line: &mut Line, text: &str) -> Result<(), Memory> {
     let (budget, behind) = numbered(text).unwrap_or((0, text));
     let (wanted, fields) = numbered(behind).unwrap_or((1, behind));
     let program = decoded(alloc, field(fields, 0))?;

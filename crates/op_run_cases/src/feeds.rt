@@ -5,6 +5,7 @@ ghost use Rattle.op_machine.specs.Machine.{HasBallNames};
 use crate::runs::{add_event, goal_behind};
 use crate::turns::add_ending;
 use op_base::{Memory, Steps};
+use op_case_lines::Line;
 use op_desk::{Bytes, Desk, MemoryDesk, Shelf};
 use op_retrace::{Feed, FeedStep, Retrace};
 use op_store::{Goal, Locked, Store};
@@ -13,33 +14,32 @@ use std::marker::Brand;
 use std::sync::ledger::{Blank, Ledger};
 
 // Adds the event at which a feed stands.
-fn add_shown<F: Feed>(line: &mut String, feed: &F) -> Result<(), Memory> {
-    match feed.event() {
-        Some(view) => add_event(line, &view),
-        None => Ok(()),
+fn add_shown<F: Feed>(line: &mut Line, feed: &F) {
+    if let Some(view) = feed.event() {
+        add_event(line, &view);
     }
 }
 
 // Adds how the run of a feed ended.
-fn add_end<F: Feed>(alloc: Global, line: &mut String, feed: &F) -> Result<(), Memory>
+fn add_end<F: Feed>(alloc: Global, line: &mut Line, feed: &F) -> Result<(), Memory>
     requires { IfSome (F.fed feed.now).ending (HasBallNames (length (F.fed feed.now).machine.tables.names)) }
 {
     if let Some(ending) = feed.ending() {
         add_ending(alloc, line, feed.machine(), ending)?;
     }
-    Ok(line.push_str("|")?)
+    Ok(line.add("|"))
 }
 
 // Goes on, and adds what comes.
 fn go_on<F: Feed, D: Desk, L: Ledger>(
     alloc: Global,
-    line: &mut String,
+    line: &mut Line,
     feed: &mut F,
     desk: &mut D,
     steps: &mut Steps<L>,
 ) -> Result<(), Memory> {
     match feed.advance(desk, steps) {
-        Ok(FeedStep::Event) => add_shown(line, feed),
+        Ok(FeedStep::Event) => Ok(add_shown(line, feed)),
         Ok(FeedStep::End) => {
             let _place = feed.place();
             add_end(alloc, line, feed)
@@ -49,20 +49,20 @@ fn go_on<F: Feed, D: Desk, L: Ledger>(
 }
 
 // Goes back to the start, and adds the furthest place.
-fn go_back<F: Feed>(line: &mut String, feed: &mut F) -> Result<(), Memory> {
+fn go_back<F: Feed>(line: &mut Line, feed: &mut F) -> Result<(), Memory> {
     if feed.reset().is_err() {
         return Err(Memory);
     }
-    let place = feed.place();
-    let furthest = feed.furthest();
-    write!(line, "{place} of {furthest}|")?;
+    line.add_number("", feed.place());
+    line.add_number(" of ", feed.furthest());
+    line.add("|");
     Ok(())
 }
 
 // An `r` goes back, and each other letter on.
 fn add_moves<F: Feed, D: Desk, L: Ledger>(
     alloc: Global,
-    line: &mut String,
+    line: &mut Line,
     feed: &mut F,
     desk: &mut D,
     steps: &mut Steps<L>,
@@ -80,7 +80,7 @@ fn add_moves<F: Feed, D: Desk, L: Ledger>(
 
 fn feed_by<L: Ledger>(
     alloc: Global,
-    line: &mut String,
+    line: &mut Line,
     feed: &mut Retrace,
     blank: Blank,
     moves: &[u8],
@@ -103,7 +103,7 @@ fn feed_by<L: Ledger>(
 
 fn add_feed(
     alloc: Global,
-    line: &mut String,
+    line: &mut Line,
     feed: &mut Retrace,
     moves: &[u8],
 ) -> Result<(), Memory> {
@@ -113,7 +113,7 @@ fn add_feed(
 // A feed of a goal that was read.
 fn goal_feed(
     alloc: Global,
-    line: &mut String,
+    line: &mut Line,
     store: Store,
     goal: Goal,
     budget: u64,
@@ -130,7 +130,7 @@ fn goal_feed(
 
 fn store_feed(
     alloc: Global,
-    line: &mut String,
+    line: &mut Line,
     program: &[u8],
     goal: &[u8],
     budget: u64,
@@ -143,14 +143,14 @@ fn store_feed(
     let mut store = Store::new(alloc, Locked::Program)?;
     match goal_behind(&mut store, program, goal) {
         Ok(goal) => goal_feed(alloc, line, store, goal, budget, wanted, moves),
-        Err(word) => Ok(line.push_str(word)?),
+        Err(word) => Ok(line.add(word)),
     }
 }
 
 /// What the moves of a feed over a run come to.
 pub fn feed(
     alloc: Global,
-    line: &mut String,
+    line: &mut Line,
     program: &[u8],
     goal: &[u8],
     budget: u64,
@@ -158,7 +158,7 @@ pub fn feed(
     moves: &[u8],
 ) -> Result<(), Memory> {
     if budget < 1 || budget > 1_000_000_000 {
-        return Ok(line.push_str("no budget")?);
+        return Ok(line.add("no budget"));
     }
     store_feed(alloc, line, program, goal, budget, wanted, moves)
 }

@@ -8,6 +8,7 @@ use crate::solutions::add_solutions;
 use crate::turns::{add_ending, next};
 use op_base::{Memory, Steps};
 use op_bind::{Bindings, Ref};
+use op_case_lines::Line;
 use op_event::{EventView, Port};
 use op_machine::{Machine, SolutionView, Turn};
 use op_store::{Goal, Locked, Store};
@@ -27,79 +28,72 @@ fn word(port: Port) -> &'static str {
 }
 
 // A value's outermost part.
-fn add_value(
-    line: &mut String,
-    bindings: &Bindings,
-    symbols: &Symbols,
-    value: &Ref,
-) -> Result<(), Memory>
+fn add_value(line: &mut Line, bindings: &Bindings, symbols: &Symbols, value: &Ref)
     requires there { value.now < length bindings.now.terms }
     requires names { HasNames (length symbols.now) (value_of bindings.now value.now) }
 {
     match bindings.head_of(value) {
-        Node::Var(n) => write!(line, "_{n}")?,
-        Node::Int(i) => write!(line, "{i}")?,
-        Node::Atom(name) => line.push_str(symbols.name_of(name))?,
+        Node::Var(n) => line.add_number("_", n),
+        Node::Int(i) => line.add_integer("", i),
+        Node::Atom(name) => line.add(symbols.name_of(name)),
         Node::Struct(name, _) => {
-            line.push_str(symbols.name_of(name))?;
-            line.push_str("(..)")?;
+            line.add(symbols.name_of(name));
+            line.add("(..)");
         }
     }
-    Ok(())
 }
 
 // A goal's first argument, where it is a variable or a number.
-fn add_first(line: &mut String, bindings: &Bindings, goal: &Ref) -> Result<(), Memory>
+fn add_first(line: &mut Line, bindings: &Bindings, goal: &Ref)
     requires { goal.now < length bindings.now.terms }
 {
     if let Node::Struct(_, _) = bindings.outline(goal) {
         match bindings.head_of(&bindings.argument(goal, 0)) {
-            Node::Var(n) => write!(line, " _{n}")?,
-            Node::Int(i) => write!(line, " {i}")?,
-            _ => line.push_str(" -")?,
+            Node::Var(n) => line.add_number(" _", n),
+            Node::Int(i) => line.add_integer(" ", i),
+            _ => line.add(" -"),
         }
     }
-    Ok(())
 }
 
 /// Adds an event.
-pub fn add_event(line: &mut String, view: &EventView<'_>) -> Result<(), Memory> {
-    let port = word(view.port());
-    let chrono = view.chrono();
-    let call = view.call();
-    let parent = view.parent();
-    let depth = view.depth();
-    write!(line, "{chrono} {call} {parent} {depth} {port}")?;
-    add_first(line, view.bindings(), view.goal())?;
-    Ok(line.push_str("|")?)
+pub fn add_event(line: &mut Line, view: &EventView<'_>) {
+    line.add_number("", view.chrono());
+    line.add_number(" ", view.call());
+    line.add_number(" ", view.parent());
+    line.add_number(" ", view.depth());
+    line.add(" ");
+    line.add(word(view.port()));
+    add_first(line, view.bindings(), view.goal());
+    line.add("|");
 }
 
 // The named variables and their values.
-fn add_solution(line: &mut String, view: &SolutionView<'_>) -> Result<(), Memory> {
+fn add_solution(line: &mut Line, view: &SolutionView<'_>) {
     let names = view.names();
-    line.push_str("solution")?;
+    line.add("solution");
     for i in 0..names.len() {
-        line.push_str(" ")?;
-        line.push_str(names.name(i))?;
-        line.push_str("=")?;
-        add_value(line, view.bindings(), view.symbols(), &view.value(i))?;
+        line.add(" ");
+        line.add(names.name(i));
+        line.add("=");
+        add_value(line, view.bindings(), view.symbols(), &view.value(i));
     }
-    Ok(line.push_str("|")?)
+    line.add("|");
 }
 
 // Adds the turn that a machine came to.
-fn add_turn(alloc: Global, line: &mut String, machine: &Machine, turn: &Turn) -> Result<(), Memory>
+fn add_turn(alloc: Global, line: &mut Line, machine: &Machine, turn: &Turn) -> Result<(), Memory>
     requires { TurnHasNames (length machine.now.tables.names) turn.now }
 {
     match turn {
         Turn::Event => {
             if let Some(view) = machine.event() {
-                add_event(line, &view)?;
+                add_event(line, &view);
             }
         }
         Turn::Solution => {
             if let Some(view) = machine.solution() {
-                add_solution(line, &view)?;
+                add_solution(line, &view);
             }
         }
         Turn::Ended(ending) => add_ending(alloc, line, machine, ending)?,
@@ -110,7 +104,7 @@ fn add_turn(alloc: Global, line: &mut String, machine: &Machine, turn: &Turn) ->
 // Adds all turns, up to a thousand.
 fn add_turns<L: Ledger>(
     alloc: Global,
-    line: &mut String,
+    line: &mut Line,
     machine: &mut Machine,
     steps: &mut Steps<L>,
 ) -> Result<(), Memory> {
@@ -127,7 +121,7 @@ fn add_turns<L: Ledger>(
 // Adds how many events there are, and the ending.
 fn add_count<L: Ledger>(
     alloc: Global,
-    line: &mut String,
+    line: &mut Line,
     machine: &mut Machine,
     steps: &mut Steps<L>,
 ) -> Result<(), Memory> {
@@ -137,7 +131,8 @@ fn add_count<L: Ledger>(
             Turn::Event => events = events.saturating_add(1),
             Turn::Solution => {}
             Turn::Ended(ending) => {
-                write!(line, "{events} ")?;
+                line.add_number("", events);
+                line.add(" ");
                 add_ending(alloc, line, machine, &ending)?;
                 break;
             }
@@ -148,7 +143,7 @@ fn add_count<L: Ledger>(
 
 // Adds how many choice points are kept at the first solution or the end.
 fn add_choice_points<L: Ledger>(
-    line: &mut String,
+    line: &mut Line,
     machine: &mut Machine,
     steps: &mut Steps<L>,
 ) -> Result<(), Memory> {
@@ -158,8 +153,7 @@ fn add_choice_points<L: Ledger>(
             _ => break,
         }
     }
-    let count = machine.choice_points();
-    write!(line, "{count}")?;
+    line.add_number("", machine.choice_points());
     Ok(())
 }
 
@@ -178,7 +172,7 @@ pub enum Shown {
 
 fn add_shown<L: Ledger>(
     alloc: Global,
-    line: &mut String,
+    line: &mut Line,
     machine: &mut Machine,
     steps: &mut Steps<L>,
     shown: Shown,
@@ -193,7 +187,7 @@ fn add_shown<L: Ledger>(
 
 fn run_by<L: Ledger>(
     alloc: Global,
-    line: &mut String,
+    line: &mut Line,
     machine: &mut Machine,
     blank: Blank,
     shown: Shown,
@@ -208,7 +202,7 @@ fn run_by<L: Ledger>(
 
 fn add_run(
     alloc: Global,
-    line: &mut String,
+    line: &mut Line,
     machine: &mut Machine,
     shown: Shown,
 ) -> Result<(), Memory> {
@@ -217,7 +211,7 @@ fn add_run(
 
 fn machine_run(
     alloc: Global,
-    line: &mut String,
+    line: &mut Line,
     mut machine: Machine,
     shown: Shown,
 ) -> Result<(), Memory> {
@@ -227,7 +221,7 @@ fn machine_run(
 // A run of a goal that was read.
 fn goal_run(
     alloc: Global,
-    line: &mut String,
+    line: &mut Line,
     store: Store,
     goal: &Goal,
     budget: u64,
@@ -257,7 +251,7 @@ pub fn goal_behind(store: &mut Store, program: &[u8], goal: &[u8]) -> Result<Goa
 
 fn store_run(
     alloc: Global,
-    line: &mut String,
+    line: &mut Line,
     program: &[u8],
     goal: &[u8],
     budget: u64,
@@ -270,14 +264,14 @@ fn store_run(
     let mut store = Store::new(alloc, Locked::Program)?;
     match goal_behind(&mut store, program, goal) {
         Ok(goal) => goal_run(alloc, line, store, &goal, budget, wanted, shown),
-        Err(word) => Ok(line.push_str(word)?),
+        Err(word) => Ok(line.add(word)),
     }
 }
 
 /// What a run of so many steps, for the solution of a number or for all by 0, comes to.
 pub fn run(
     alloc: Global,
-    line: &mut String,
+    line: &mut Line,
     program: &[u8],
     goal: &[u8],
     budget: u64,
@@ -285,7 +279,7 @@ pub fn run(
     shown: Shown,
 ) -> Result<(), Memory> {
     if budget < 1 || budget > 1_000_000_000 {
-        return Ok(line.push_str("no budget")?);
+        return Ok(line.add("no budget"));
     }
     store_run(alloc, line, program, goal, budget, wanted, shown)
 }

@@ -3,6 +3,7 @@ ghost use Rattle.std.specs.Prelude.{◌<◌, length};
 use crate::texts::add_text;
 use crate::turns::{add_ending, next};
 use op_base::{Memory, Steps};
+use op_case_lines::Line;
 use op_machine::{Machine, SolutionView, Turn};
 use op_term::Ops;
 use op_writer::Style;
@@ -12,15 +13,15 @@ use std::sync::ledger::Ledger;
 // A named variable and its value in canonical text.
 fn add_value(
     alloc: Global,
-    line: &mut String,
+    line: &mut Line,
     ops: &Ops,
     view: &SolutionView<'_>,
     i: u64,
 ) -> Result<(), Memory>
     requires { i < length view.now.variables }
 {
-    line.push_str(view.names().name(i))?;
-    line.push_str("=")?;
+    line.add(view.names().name(i));
+    line.add("=");
     let value = view.value(i);
     add_text(
         alloc,
@@ -36,23 +37,23 @@ fn add_value(
 // A solution: the named variables with their values.
 fn add_solution(
     alloc: Global,
-    line: &mut String,
+    line: &mut Line,
     ops: &Ops,
     view: &SolutionView<'_>,
 ) -> Result<(), Memory> {
-    line.push_str("solution")?;
+    line.add("solution");
     let names = view.names();
     for i in 0..names.len() {
-        line.push_str(if i == 0 { " " } else { "," })?;
+        line.add(if i == 0 { " " } else { "," });
         add_value(alloc, line, ops, view, i)?;
     }
-    Ok(line.push_str("|")?)
+    Ok(line.add("|"))
 }
 
 /// Adds each solution of a run with its values whole, and the ending.
 pub fn add_solutions<L: Ledger>(
     alloc: Global,
-    line: &mut String,
+    line: &mut Line,
     machine: &mut Machine,
     steps: &mut Steps<L>,
 ) -> Result<(), Memory> {

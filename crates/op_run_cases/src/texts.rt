@@ -2,7 +2,7 @@ ghost use Rattle.std.specs.Prelude.{length};
 ghost use Rattle.op_logic.specs.Names.{HasNames};
 
 use op_base::Memory;
-use op_case_lines::escaped;
+use op_case_lines::Line;
 use op_desk::Bytes;
 use op_term::{Ops, Symbols, Tree};
 use op_writer::{Style, write_text};
@@ -11,7 +11,7 @@ use std::alloc::Global;
 /// Adds the whole text of a term, as a line shows it.
 pub fn add_text<T: Tree>(
     alloc: Global,
-    line: &mut String,
+    line: &mut Line,
     ops: &Ops,
     style: Style,
     symbols: &Symbols,
@@ -36,5 +36,6 @@ pub fn add_text<T: Tree>(
     if written.is_err() {
         return Err(Memory);
     }
-    Ok(line.push_str(&escaped(alloc, text.as_slice())?)?)
+    line.add_bytes(text.as_slice());
+    Ok(())
 }

@@ -4,6 +4,7 @@ ghost use Rattle.op_machine.specs.Machine.{HasBallNames, TurnHasNames};
 
 use crate::texts::add_text;
 use op_base::{Memory, Steps};
+use op_case_lines::Line;
 use op_machine::{Ending, Machine, MachineFault, Nothing, Turn};
 use op_store::Store;
 use op_term::{Term, Whole};
@@ -22,7 +23,7 @@ pub fn next<L: Ledger>(machine: &mut Machine, steps: &mut Steps<L>) -> Result<Tu
 }
 
 // A ball, quoted, with the operators of the program.
-fn add_ball(alloc: Global, line: &mut String, store: &Store, ball: &Term) -> Result<(), Memory>
+fn add_ball(alloc: Global, line: &mut Line, store: &Store, ball: &Term) -> Result<(), Memory>
     requires { HasNames (length store.now.names) ball.now }
 {
     let whole = Whole::new(ball);
@@ -42,23 +43,22 @@ fn add_ball(alloc: Global, line: &mut String, store: &Store, ball: &Term) -> Res
 /// Adds the ending, and the steps.
 pub fn add_ending(
     alloc: Global,
-    line: &mut String,
+    line: &mut Line,
     machine: &Machine,
     ending: &Ending,
 ) -> Result<(), Memory>
     requires { HasBallNames (length machine.now.tables.names) ending.now }
 {
     match ending {
-        Ending::Stopped => line.push_str("stopped")?,
-        Ending::Failed => line.push_str("failed")?,
+        Ending::Stopped => line.add("stopped"),
+        Ending::Failed => line.add("failed"),
         Ending::Thrown(ball) => {
-            line.push_str("thrown ")?;
+            line.add("thrown ");
             add_ball(alloc, line, machine.store(), ball)?;
         }
-        Ending::Halted(status) => write!(line, "halted {status}")?,
-        Ending::Spent => line.push_str("spent")?,
+        Ending::Halted(status) => line.add_integer("halted ", *status),
+        Ending::Spent => line.add("spent"),
     }
-    let used = machine.used_steps();
-    write!(line, " {used}")?;
+    line.add_number(" ", machine.used_steps());
     Ok(())
 }

@@ -21,6 +21,7 @@ use Rattle.op_store.specs.declared.procedures.pi.Pi.{Pi}
 use Rattle.op_store.specs.NumberedProcedures.{NumberedProcedures, all_numbered_clauses, IsNumberedClause, AreNumberedProcedures}
 use Rattle.op_trace.specs.Database.{name_arity, indicator_of_term}
 use Rattle.op_store.specs.declared.names.locked.Locked.TheVariants.{Program}
+use Rattle.op_inspect.specs.Inspected.{is_builtin}
 use Rattle.op_store.specs.Locked.{is_locked}
 use Rattle.op_session.specs.Runnable.{built, is_built, has_box, is_runnable}
 use Rattle.op_session.specs.inner.Parts.{is_control_pair_name, is_control_pair, all_runnable}
@@ -94,19 +95,19 @@ pair-boxed f a b e =
     by false false false d e = refl
 
 -- a name is asked for where it has a box, and those of the control constructs without parts are built
-atom-met : (t f u c h l : Bool)
-    → not (l && not (t || (f || (u || (c || (h || false))))))
+atom-met : (t f u c h l b : Bool)
+    → not (l && not ((t || (f || (u || (c || (h || false))))) || b))
     ≡ cond (has_box (cond t TrueGoal (cond f FailGoal (cond u FailGoal (cond c CutGoal BoxedGoal)))))
-    (not (l && not (t || (f || (u || (c || (h || false))))))) true
-atom-met true f u c h true = refl
-atom-met true f u c h false = refl
-atom-met false true u c h true = refl
-atom-met false true u c h false = refl
-atom-met false false true c h true = refl
-atom-met false false true c h false = refl
-atom-met false false false true h true = refl
-atom-met false false false true h false = refl
-atom-met false false false false h l = refl
+    (not (l && not ((t || (f || (u || (c || (h || false))))) || b))) true
+atom-met true f u c h true b = refl
+atom-met true f u c h false b = refl
+atom-met false true u c h true b = refl
+atom-met false true u c h false b = refl
+atom-met false false true c h true b = refl
+atom-met false false true c h false b = refl
+atom-met false false false true h true b = refl
+atom-met false false false true h false b = refl
+atom-met false false false false h l b = refl
 
 and-one : (a b : Bool) → (a && (b && true)) ≡ (a && b)
 and-one true true = refl
@@ -156,7 +157,7 @@ other-part names (int i) e = refl
 other-part names (node f no_args) e =
     let g : Text = name_at names f in
     atom-met (text_eq g (codes "true")) (text_eq g (codes "fail")) (text_eq g (codes "false")) (text_eq g (codes "!"))
-    (text_eq g (codes "halt")) (is_locked Program (name_arity g 0))
+    (text_eq g (codes "halt")) (is_locked Program (name_arity g 0)) (is_builtin g 0)
 other-part names (node f (arg a no_args)) e = refl
 other-part names (node f (arg a (arg b no_args))) e =
     let g : Text = name_at names f in

@@ -7,7 +7,7 @@ use Rattle.op_trace.specs.World as trace
 use Rattle.op_trace.specs.Run.{run}
 use Rattle.op_store.specs.declared.names.locked.Locked.TheVariants.{Program}
 use Rattle.op_trace.specs.Database.{Database}
-use Rattle.op_trace.specs.Builtins.{setup_for}
+use Rattle.op_machine.specs.Acts.{setup_for}
 use Rattle.op_store.specs.Load.{Query, Found, Loaded, load_text, goal_of}
 use Rattle.op_session.specs.declared.status.Status.{Status}
 use Rattle.op_session.specs.declared.status.Status.TheVariants as status

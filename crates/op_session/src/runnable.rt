@@ -14,6 +14,7 @@ ghost use Rattle.op_session.specs.inner.Parts.{is_control_pair_name as the_contr
 ghost use Rattle.op_session.specs.inner.Parts.{all_runnable};
 
 use op_base::Memory;
+use op_inspect::is_inspected;
 use op_store::{Goal, Pi, Snapshot, Store};
 use op_term::{Node, Term, Tree, Whole};
 use std::alloc::Global;
@@ -24,7 +25,7 @@ fn is_among(name: &str, names: &[&str]) -> bool
     names.iter().any(|n| name == *n)
 }
 
-// Whether a control construct or a builtin of this name, with so many arguments, is built.
+// Whether a control construct or a builtin of control of this name, with so many arguments, is built.
 fn is_built_name(name: &str, arity: u64) -> bool
     ensures { result ≡ the_among (built arity) name.now }
 {
@@ -47,7 +48,8 @@ fn is_built(store: &Store, pi: Pi) -> bool
     requires name { pi.name.0 < length store.now.names }
     ensures { result ≡ the_built (Some (indicator_named store.now.names pi)) }
 {
-    let built = is_built_name(store.symbols().name_of(pi.name), pi.arity);
+    let name = store.symbols().name_of(pi.name);
+    let built = is_built_name(name, pi.arity) || is_inspected(name, pi.arity);
     let locked = store.is_locked(pi);
     !(locked && !built)
 }

@@ -1,6 +1,6 @@
 use crate::sessions;
 use op_base::Memory;
-use op_case_lines::Cases;
+use op_case_lines::{Cases, Line};
 
 /// Cases none of which leaves anything for the next.
 #[derive(Drop)]
@@ -10,13 +10,13 @@ impl Cases for SessionCases {
     fn add_result(
         &mut self,
         rt: HostRuntime,
-        line: &mut String,
+        line: &mut Line,
         word: &str,
         text: &str,
     ) -> Result<(), Memory> {
         match word {
             "session" => sessions::session(rt.alloc(), line, text),
-            _ => Ok(line.push_str("no case")?),
+            _ => Ok(line.add("no case")),
         }
     }
 }

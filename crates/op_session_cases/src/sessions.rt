@@ -3,7 +3,7 @@ ghost use Rattle.op_desk.specs.Frame.{Each};
 ghost use Rattle.op_desk.specs.Memory.{fresh_of};
 
 use op_base::{Memory, Steps};
-use op_case_lines::{bytes_of, decoded, escaped, failing, field};
+use op_case_lines::{Line, bytes_of, decoded, failing, field};
 use op_desk::{Bytes, Chan, Fail, MemoryDesk, Shelf};
 use op_session::{Status, opium};
 use std::alloc::Global;
@@ -79,34 +79,21 @@ fn desk_in(alloc: Global, text: &str) -> Result<MemoryDesk, Memory>
 
 /// A call over a desk in memory: the call of the desk that fails, the words, the program `p.pl` and the commands. The status, what was
 /// written to Talk, and what is left of the commands.
-pub fn session(alloc: Global, line: &mut String, text: &str) -> Result<(), Memory> {
+pub fn session(alloc: Global, line: &mut Line, text: &str) -> Result<(), Memory> {
     let words = words_of(alloc, field(text, 1))?;
     let desk = desk_in(alloc, text)?;
-    called(alloc, line, &words, desk)
+    called(alloc, line, &words, desk);
+    Ok(())
 }
 
 // A call over a desk of its own, and what it leaves.
-fn called(
-    alloc: Global,
-    line: &mut String,
-    words: &[String],
-    mut desk: MemoryDesk,
-) -> Result<(), Memory>
+fn called(alloc: Global, line: &mut Line, words: &[String], mut desk: MemoryDesk)
     requires { Each (λ c. fresh_of desk c ≡ true) }
 {
     let status = call(alloc, words, &mut desk);
-    add_left(alloc, line, status, &desk)
-}
-
-fn add_left(
-    alloc: Global,
-    line: &mut String,
-    status: Status,
-    desk: &MemoryDesk,
-) -> Result<(), Memory> {
-    let status = status_word(status);
-    let talk = escaped(alloc, desk.bytes_written(Chan::Talk))?;
-    let commands = escaped(alloc, desk.bytes_left(Chan::Commands))?;
-    write!(line, "{status} § {talk} § {commands}")?;
-    Ok(())
+    line.add(status_word(status));
+    line.add(" § ");
+    line.add_bytes(desk.bytes_written(Chan::Talk));
+    line.add(" § ");
+    line.add_bytes(desk.bytes_left(Chan::Commands));
 }

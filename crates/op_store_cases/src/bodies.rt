@@ -2,62 +2,54 @@ ghost use Rattle.std.specs.Prelude.{length};
 ghost use Rattle.op_logic.specs.Names.{HasNames};
 
 use op_base::Memory;
-use op_case_lines::{decoded, name_of, numbered};
+use op_case_lines::{Line, decoded, name_of, numbered};
 use op_reader::{DoubleQuotes, Reading, read_term};
 use op_store::{BodyFault, BodyNode, body_of};
 use op_term::{Builder, Fuel, Node, Ops, Symbols, Term, Whole};
 use std::alloc::Global;
 
 // Adds the outermost node of a term.
-fn add_head(line: &mut String, symbols: &Symbols, head: Node) -> Result<(), Memory> {
+fn add_head(line: &mut Line, symbols: &Symbols, head: Node) {
     match head {
-        Node::Var(v) => write!(line, "_{v}")?,
-        Node::Int(i) => write!(line, "{i}")?,
-        Node::Atom(name) => line.push_str(name_of(symbols, name))?,
+        Node::Var(v) => line.add_number("_", v),
+        Node::Int(i) => line.add_integer("", i),
+        Node::Atom(name) => line.add(name_of(symbols, name)),
         Node::Struct(name, arity) => {
-            let name = name_of(symbols, name);
-            write!(line, "{name}/{arity}")?;
+            line.add(name_of(symbols, name));
+            line.add_number("/", arity);
         }
     }
-    Ok(())
 }
 
-fn add_goal(line: &mut String, symbols: &Symbols, nodes: &Builder, at: u64) -> Result<(), Memory> {
+// Adds a word and two numbers.
+fn add_two(line: &mut Line, word: &str, a: u64, b: u64) {
+    line.add_number(word, a);
+    line.add_number(" ", b);
+}
+
+// Adds a word and the outermost node of a goal.
+fn add_goal(line: &mut Line, word: &str, symbols: &Symbols, nodes: &Builder, at: u64) {
+    line.add(word);
     if at < nodes.len() {
-        add_head(line, symbols, nodes.node(at))?;
+        add_head(line, symbols, nodes.node(at));
     }
-    Ok(())
 }
 
-fn add_word(line: &mut String, node: BodyNode<u64>) -> Result<(), Memory> {
+fn add_node(line: &mut Line, symbols: &Symbols, nodes: &Builder, node: BodyNode<u64>) {
     match node {
-        BodyNode::Goal(_) => line.push_str("goal ")?,
-        BodyNode::CallOf(_) => line.push_str("call ")?,
-        BodyNode::And(a, b) => write!(line, "and {a} {b}")?,
-        BodyNode::Or(a, b) => write!(line, "or {a} {b}")?,
-        BodyNode::Then(a, b) => write!(line, "then {a} {b}")?,
+        BodyNode::Goal(at) => add_goal(line, "goal ", symbols, nodes, at),
+        BodyNode::CallOf(at) => add_goal(line, "call ", symbols, nodes, at),
+        BodyNode::And(a, b) => add_two(line, "and ", a, b),
+        BodyNode::Or(a, b) => add_two(line, "or ", a, b),
+        BodyNode::Then(a, b) => add_two(line, "then ", a, b),
     }
-    Ok(())
-}
-
-fn add_node(
-    line: &mut String,
-    symbols: &Symbols,
-    nodes: &Builder,
-    node: BodyNode<u64>,
-) -> Result<(), Memory> {
-    add_word(line, node)?;
-    match node {
-        BodyNode::Goal(at) | BodyNode::CallOf(at) => add_goal(line, symbols, nodes, at)?,
-        _ => {}
-    }
-    Ok(line.push_str("|")?)
+    line.add("|");
 }
 
 // The nodes of a term's body, or why there are none, and the steps that are left.
 fn add_body(
     alloc: Global,
-    line: &mut String,
+    line: &mut Line,
     symbols: &Symbols,
     term: &Term,
     steps: u64,
@@ -69,21 +61,20 @@ fn add_body(
     match body_of(alloc, &whole, &whole.root(), symbols, &mut fuel) {
         Ok(body) => {
             for i in 0..body.len() {
-                add_node(line, symbols, whole.nodes(), body.node(i))?;
+                add_node(line, symbols, whole.nodes(), body.node(i));
             }
         }
         Err(BodyFault::Memory) => return Err(Memory),
-        Err(BodyFault::Spent) => line.push_str("spent|")?,
-        Err(BodyFault::NotCallable) => line.push_str("not callable|")?,
+        Err(BodyFault::Spent) => line.add("spent|"),
+        Err(BodyFault::NotCallable) => line.add("not callable|"),
     }
-    let left = fuel.left();
-    write!(line, "{left}")?;
+    line.add_number("", fuel.left());
     Ok(())
 }
 
 fn read_body(
     alloc: Global,
-    line: &mut String,
+    line: &mut Line,
     ops: &Ops,
     steps: u64,
     text: &[u8],
@@ -91,12 +82,12 @@ fn read_body(
     let mut symbols = Symbols::new(alloc);
     match read_term(alloc, ops, DoubleQuotes::Codes, &mut symbols, text) {
         Ok(Reading::Term(read)) => add_body(alloc, line, &symbols, &read.term, steps),
-        _ => Ok(line.push_str("no term")?),
+        _ => Ok(line.add("no term")),
     }
 }
 
 /// The body of a term that is read with the standard's operators, by so many steps.
-pub fn body(alloc: Global, line: &mut String, text: &str) -> Result<(), Memory> {
+pub fn body(alloc: Global, line: &mut Line, text: &str) -> Result<(), Memory> {
     let (steps, term) = numbered(text).unwrap_or((0, text));
     let term = decoded(alloc, term)?;
     let ops = Ops::iso(alloc)?;

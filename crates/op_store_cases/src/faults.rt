@@ -1,33 +1,29 @@
-use op_base::Memory;
-use op_case_lines::{add_read_kind, name_of};
+use op_case_lines::{Line, add_read_kind, name_of};
 use op_reader::DoubleQuotes;
 use op_store::{Flags, LoadFaultKind, Store};
 
 /// Adds the words for what a term of a program is refused for.
-pub fn add_load_kind(line: &mut String, store: &Store, kind: LoadFaultKind) -> Result<(), Memory> {
+pub fn add_load_kind(line: &mut Line, store: &Store, kind: LoadFaultKind) {
     match kind {
-        LoadFaultKind::Syntax(kind) => add_read_kind(line, kind)?,
-        LoadFaultKind::Trailing => line.push_str("trailing")?,
-        LoadFaultKind::Head => line.push_str("head")?,
-        LoadFaultKind::Body => line.push_str("body")?,
+        LoadFaultKind::Syntax(kind) => add_read_kind(line, kind),
+        LoadFaultKind::Trailing => line.add("trailing"),
+        LoadFaultKind::Head => line.add("head"),
+        LoadFaultKind::Body => line.add("body"),
         LoadFaultKind::Locked(pi) => {
-            let name = name_of(store.symbols(), pi.name);
-            let arity = pi.arity;
-            write!(line, "locked {name}/{arity}")?;
+            line.add("locked ");
+            line.add(name_of(store.symbols(), pi.name));
+            line.add_number("/", pi.arity);
         }
-        LoadFaultKind::Directive => line.push_str("directive")?,
+        LoadFaultKind::Directive => line.add("directive"),
     }
-    Ok(())
 }
 
 /// Adds the flags: what double quotes stand for, and what a goal without a procedure does.
-pub fn add_flags(line: &mut String, flags: Flags) -> Result<(), Memory> {
-    let quotes = match flags.quotes {
-        DoubleQuotes::Codes => "codes",
-        DoubleQuotes::Chars => "chars",
-        DoubleQuotes::Atom => "atom",
-    };
-    let unknown = if flags.unknown_fails { "fail" } else { "error" };
-    write!(line, "{quotes} {unknown}")?;
-    Ok(())
+pub fn add_flags(line: &mut Line, flags: Flags) {
+    line.add(match flags.quotes {
+        DoubleQuotes::Codes => "codes ",
+        DoubleQuotes::Chars => "chars ",
+        DoubleQuotes::Atom => "atom ",
+    });
+    line.add(if flags.unknown_fails { "fail" } else { "error" });
 }

@@ -2,6 +2,7 @@ ghost use Rattle.std.specs.Prelude.{◌≡◌, []};
 
 use op_base::Memory;
 use op_bind::{Bindings, Mark, Ref};
+use op_case_lines::Line;
 use op_frames::{Choice, Frames};
 use op_term::Builder;
 use std::alloc::Global;
@@ -24,27 +25,18 @@ fn push_boxes(frames: &mut Frames<u64>, goal: Ref, mark: Mark) -> Result<(), Mem
     frames.push_box(5, 3, goal, mark)
 }
 
-fn push_four(alloc: Global, frames: &mut Frames<u64>) -> Result<(), Memory>
-    requires { frames.old.boxes ≡ [] }
-{
+/// Of the boxes 1, 2 and 3 in it, and 5 in 3, the open ones of a number, inner to outer, once those from another number on are dropped.
+pub fn open_boxes(alloc: Global, line: &mut Line, from: u64, number: u64) -> Result<(), Memory> {
     let mut bindings = Bindings::new(alloc);
     let goal = variable(alloc, &mut bindings)?;
-    push_boxes(frames, goal, bindings.mark())
-}
-
-fn add_open(line: &mut String, frames: &Frames<u64>, number: u64) -> Result<(), Memory> {
+    let mut frames: Frames<u64> = Frames::new(alloc);
+    push_boxes(&mut frames, goal, bindings.mark())?;
+    frames.drop_boxes(from);
     'boxes: for (open, _) in frames.open_boxes(number) {
-        write!(line, "{open} ")?;
+        line.add_number("", open);
+        line.add(" ");
     }
     Ok(())
-}
-
-/// Of the boxes 1, 2 and 3 in it, and 5 in 3, the open ones of a number, inner to outer, once those from another number on are dropped.
-pub fn open_boxes(alloc: Global, line: &mut String, from: u64, number: u64) -> Result<(), Memory> {
-    let mut frames: Frames<u64> = Frames::new(alloc);
-    push_four(alloc, &mut frames)?;
-    frames.drop_boxes(from);
-    add_open(line, &frames, number)
 }
 
 fn push_choices(frames: &mut Frames<u64>, mark: Mark) -> Result<(), Memory> {
@@ -58,22 +50,17 @@ fn push_choices(frames: &mut Frames<u64>, mark: Mark) -> Result<(), Memory> {
     Ok(())
 }
 
-fn add_choices(line: &mut String, frames: &mut Frames<u64>, barrier: u64) -> Result<(), Memory> {
+/// Of four choice points how many a cut leaves, and what they keep, the last first.
+pub fn choices(alloc: Global, line: &mut Line, barrier: u64) -> Result<(), Memory> {
+    let mut frames: Frames<u64> = Frames::new(alloc);
+    push_choices(&mut frames, Bindings::new(alloc).mark())?;
     frames.cut_to(barrier);
-    let count = frames.choices().len();
-    write!(line, "{count}:")?;
+    line.add_number("", frames.choices().len() as u64);
+    line.add(":");
     for _ in 0..5 {
         if let Some(choice) = frames.pop_choice() {
-            let kept = choice.kept;
-            write!(line, " {kept}")?;
+            line.add_number(" ", choice.kept);
         }
     }
     Ok(())
-}
-
-/// Of four choice points how many a cut leaves, and what they keep, the last first.
-pub fn choices(alloc: Global, line: &mut String, barrier: u64) -> Result<(), Memory> {
-    let mut frames: Frames<u64> = Frames::new(alloc);
-    push_choices(&mut frames, Bindings::new(alloc).mark())?;
-    add_choices(line, &mut frames, barrier)
 }

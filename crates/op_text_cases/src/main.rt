@@ -1,15 +1,14 @@
 //! The cases of the layers that know no program: tokens, names, terms read and written, operators, bindings, arithmetic, boxes and desks.
 #![tactic(auto)]
 
-mod arithmetic;
-mod bindings;
 mod case;
 mod desks;
 mod frames;
+mod loaded;
 mod names;
 mod read_terms;
-mod reading;
 mod show;
+mod shown;
 mod table;
 mod terms;
 mod tokens;

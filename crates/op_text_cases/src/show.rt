@@ -1,11 +1,11 @@
 use op_base::Memory;
 use op_base::characters::{is_small, is_symbol, is_word};
-use op_case_lines::name_of;
+use op_case_lines::{Line, name_of};
 use op_term::{Builder, Node, Symbols, Term, Whole};
 use std::alloc::Global;
 
 // What is still to be shown of a term.
-#[derive(Drop)]
+#[derive(Clone, Copy)]
 enum ToShow {
     Node(u64),
     Text(&'static str),
@@ -13,87 +13,76 @@ enum ToShow {
 
 // A name that no other name, number or variable is shown as.
 fn is_bare(name: &str) -> bool {
-    let bytes = name.as_bytes();
-    if bytes.is_empty() {
-        return false;
+    match name {
+        "" => false,
+        "[]" | "{}" | "!" | ";" | "," => true,
+        _ => {
+            let bytes = name.as_bytes();
+            bytes.iter().all(|b| is_symbol(*b))
+                || bytes.iter().take(1).all(|b| is_small(*b)) && bytes.iter().all(|b| is_word(*b))
+        }
     }
-    name == "[]"
-        || name == "{}"
-        || name == "!"
-        || name == ";"
-        || name == ","
-        || (is_small(bytes[0]) && bytes.iter().all(|b| is_word(*b)))
-        || bytes.iter().all(|b| is_symbol(*b))
 }
 
 // A name, in quotes unless it is bare; a quote in it is doubled.
-fn show_name(name: &str, out: &mut String) -> Result<(), Memory> {
+fn add_name(line: &mut Line, name: &str) {
     if is_bare(name) {
-        return Ok(out.push_str(name)?);
+        line.add(name);
+        return;
     }
-    out.push_str("'")?;
+    line.add("'");
     for c in name.chars() {
-        if c == '\'' {
-            out.push_str("'")?;
-        }
-        out.push(c)?;
+        line.add(if c == '\'' { "'" } else { "" });
+        line.push(c);
     }
-    Ok(out.push_str("'")?)
+    line.add("'");
 }
 
-fn show_parts(nodes: &Builder, at: u64, stack: &mut Vec<ToShow>) -> Result<(), Memory> {
+fn push_parts(nodes: &Builder, at: u64, stack: &mut Vec<ToShow>) -> Result<(), Memory> {
     if at >= nodes.len() {
         return Ok(());
     }
-    stack.push(ToShow::Text(")"))?;
-    let mut is_first = true;
-    for part in nodes.parts(at).iter().rev() {
-        if !is_first {
-            stack.push(ToShow::Text(","))?;
-        }
+    for (i, part) in nodes.parts(at).iter().rev().enumerate() {
+        stack.push(ToShow::Text(if i == 0 { ")" } else { "," }))?;
         stack.push(ToShow::Node(*part))?;
-        is_first = false;
     }
     Ok(())
 }
 
-fn show_node(
-    symbols: &Symbols,
-    nodes: &Builder,
-    at: u64,
-    stack: &mut Vec<ToShow>,
-    out: &mut String,
-) -> Result<(), Memory> {
-    if at >= nodes.len() {
-        return Ok(());
-    }
-    match nodes.node(at) {
-        Node::Var(n) => write!(out, "_{n}")?,
-        Node::Int(i) => write!(out, "{i}")?,
-        Node::Atom(name) => show_name(name_of(symbols, name), out)?,
+fn add_node(line: &mut Line, symbols: &Symbols, node: Node) {
+    match node {
+        Node::Var(n) => line.add_number("_", n),
+        Node::Int(i) => line.add_integer("", i),
+        Node::Atom(name) => add_name(line, name_of(symbols, name)),
         Node::Struct(name, _) => {
-            show_name(name_of(symbols, name), out)?;
-            out.push_str("(")?;
-            show_parts(nodes, at, stack)?;
+            add_name(line, name_of(symbols, name));
+            line.add("(");
         }
     }
-    Ok(())
 }
 
-/// A term in functional notation; of a large one the beginning.
-pub fn shown(alloc: Global, symbols: &Symbols, term: &Term) -> Result<String, Memory> {
+/// Adds a term in functional notation; of a large one the beginning.
+pub fn add_term(
+    alloc: Global,
+    line: &mut Line,
+    symbols: &Symbols,
+    term: &Term,
+) -> Result<(), Memory> {
     let whole = Whole::new(term);
     let nodes = whole.nodes();
     let mut stack = Vec::new(alloc);
-    let mut out = String::new(alloc);
     stack.push(ToShow::Node(whole.root()))?;
     for _ in 0..1000 {
         match stack.pop() {
-            Some(ToShow::Text(text)) => out.push_str(text)?,
-            Some(ToShow::Node(at)) => show_node(symbols, nodes, at, &mut stack, &mut out)?,
-            None => return Ok(out),
+            Some(ToShow::Text(text)) => line.add(text),
+            Some(ToShow::Node(at)) if at < nodes.len() => {
+                add_node(line, symbols, nodes.node(at));
+                push_parts(nodes, at, &mut stack)?;
+            }
+            Some(ToShow::Node(_)) => {}
+            None => return Ok(()),
         }
     }
-    out.push_str("...")?;
-    Ok(out)
+    line.add("...");
+    Ok(())
 }

@@ -1,12 +1,12 @@
 ghost use Rattle.std.specs.Prelude.{◌≡◌, ◌<◌, length};
+ghost use Rattle.op_bind.specs.State.{value_of};
 ghost use Rattle.op_logic.specs.Names.{HasNames};
-ghost use Rattle.op_reader.specs.Variables.{HasVariables};
 
-use crate::bindings::{add_value, answer_of, ended, load_read};
-use crate::table::Table;
+use crate::loaded::{add_resolved, answer_of};
 use op_base::Memory;
 use op_bind::{Bindings, Ref};
-use op_reader::{Read, Reading, read_term};
+use op_case_lines::{Line, name_of};
+use op_inspect::{EvalFault, evaluate};
 use op_term::{Fuel, Node, Symbols, Term, Tree, WalkFault, Whole, compare, is_ground, size};
 use std::alloc::Global;
 use std::cmp::Ordering;
@@ -22,10 +22,10 @@ fn order_word(answer: Result<Ordering, WalkFault>) -> Result<&'static str, Memor
     }
 }
 
-// The order of an equation's two sides, and the steps that are left.
-fn add_order(
+/// The order of an equation's two sides by so many steps, and how many are left.
+pub fn add_order(
     alloc: Global,
-    line: &mut String,
+    line: &mut Line,
     symbols: &Symbols,
     term: &Term,
     steps: u64,
@@ -35,172 +35,108 @@ fn add_order(
     let tree = Whole::new(term);
     let root = tree.root();
     let Node::Struct(_, 2) = tree.node(&root) else {
-        return Ok(line.push_str("no equation")?);
+        return Ok(line.add("no equation"));
     };
     let left = tree.part(&root, 0);
     let right = tree.part(&root, 1);
     let mut fuel = Fuel::new(steps);
     let word = order_word(compare(alloc, &tree, &left, &right, symbols, &mut fuel))?;
-    let rest = fuel.left();
-    write!(line, "{word} {rest}")?;
+    line.add(word);
+    line.add_number(" ", fuel.left());
     Ok(())
 }
 
-/// The standard order of the two sides of an equation, by so many steps.
-pub fn order(
-    alloc: Global,
-    line: &mut String,
-    table: &Table,
-    steps: u64,
-    text: &str,
-) -> Result<(), Memory> {
-    let mut symbols = Symbols::new(alloc);
-    match read_term(
-        alloc,
-        &table.ops,
-        table.quotes,
-        &mut symbols,
-        &ended(alloc, text)?,
-    ) {
-        Ok(Reading::Term(read)) => add_order(alloc, line, &symbols, &read.term, steps),
-        _ => Ok(line.push_str("no term")?),
+fn add_fault(line: &mut Line, symbols: &Symbols, fault: EvalFault) {
+    match fault {
+        EvalFault::Memory => line.note(Err(Memory)),
+        EvalFault::Spent => line.add("spent"),
+        EvalFault::Unbound => line.add("unbound"),
+        EvalFault::Overflow => line.add("overflow"),
+        EvalFault::ZeroDivisor => line.add("zero"),
+        EvalFault::Undefined => line.add("undefined"),
+        EvalFault::Evaluable(name, arity) => {
+            line.add("evaluable ");
+            line.add(name_of(symbols, name));
+            line.add_number("/", arity);
+        }
     }
 }
 
-// How many nodes a value has, and the steps that are left.
-fn add_size(
+/// The value of an expression by so many steps or why there is none, and how many steps are left.
+pub fn add_value(
     alloc: Global,
-    line: &mut String,
+    line: &mut Line,
+    symbols: &Symbols,
     bindings: &Bindings,
-    value: &Ref,
+    at: &Ref,
     steps: u64,
 ) -> Result<(), Memory>
-    requires { value.now < length bindings.now.terms }
+    requires there { at.now < length bindings.now.terms }
+    requires names { HasNames (length symbols.now) (value_of bindings.now at.now) }
 {
     let mut fuel = Fuel::new(steps);
-    match size(alloc, bindings, value, &mut fuel) {
-        Ok(n) => write!(line, "{n}")?,
-        Err(WalkFault::Spent) => line.push_str("spent")?,
-        Err(WalkFault::Memory) => return Err(Memory),
+    match evaluate(alloc, at, bindings, symbols, &mut fuel) {
+        Ok(value) => line.add_integer("", value),
+        Err(fault) => add_fault(line, symbols, fault),
     }
-    let left = fuel.left();
-    write!(line, " {left}")?;
+    line.add_number(" ", fuel.left());
     Ok(())
 }
 
-// Whether a value has no variable, and the steps that are left.
-fn add_ground(
+// The word for whether a value has no variable.
+fn ground_word(answer: Result<bool, WalkFault>) -> Result<&'static str, Memory> {
+    match answer {
+        Ok(true) => Ok(" yes"),
+        Ok(false) => Ok(" no"),
+        Err(WalkFault::Spent) => Ok(" spent"),
+        Err(WalkFault::Memory) => Err(Memory),
+    }
+}
+
+/// How many nodes an equation has once its sides are unified, and whether it has no variable, each by so many steps, with those that are left.
+pub fn add_sizes(
     alloc: Global,
-    line: &mut String,
-    bindings: &Bindings,
-    value: &Ref,
+    line: &mut Line,
+    bindings: &mut Bindings,
+    equation: &Ref,
     steps: u64,
 ) -> Result<(), Memory>
-    requires { value.now < length bindings.now.terms }
+    requires { equation.now < length bindings.old.terms }
 {
+    answer_of(bindings, equation, &mut Fuel::new(1000))?;
     let mut fuel = Fuel::new(steps);
-    match is_ground(alloc, bindings, value, &mut fuel) {
-        Ok(true) => line.push_str(" yes")?,
-        Ok(false) => line.push_str(" no")?,
-        Err(WalkFault::Spent) => line.push_str(" spent")?,
+    match size(alloc, bindings, equation, &mut fuel) {
+        Ok(n) => line.add_number("", n),
+        Err(WalkFault::Spent) => line.add("spent"),
         Err(WalkFault::Memory) => return Err(Memory),
     }
-    let left = fuel.left();
-    write!(line, " {left}")?;
+    line.add_number(" ", fuel.left());
+    let mut fuel = Fuel::new(steps);
+    line.add(ground_word(is_ground(alloc, bindings, equation, &mut fuel))?);
+    line.add_number(" ", fuel.left());
     Ok(())
 }
 
-// The size of an equation's value once its sides are unified, and whether the value has no variable.
-fn size_read(alloc: Global, line: &mut String, read: &Read, steps: u64) -> Result<(), Memory>
-    requires { HasVariables read.now.vars read.now.term read.now.names }
-{
-    let mut bindings = Bindings::new(alloc);
-    let at = load_read(&mut bindings, read)?;
-    let mut fuel = Fuel::new(1000);
-    answer_of(&mut bindings, &at, &mut fuel)?;
-    add_size(alloc, line, &bindings, &at, steps)?;
-    add_ground(alloc, line, &bindings, &at, steps)
-}
-
-/// The size of an equation's value, and whether it has no variable, each by so many steps, once its sides are unified.
-pub fn sizes(
+/// A copy of an equation once its sides are unified, by so many steps, how many are left, and how many variables were given out then.
+pub fn add_copy(
     alloc: Global,
-    line: &mut String,
-    table: &Table,
-    steps: u64,
-    text: &str,
-) -> Result<(), Memory> {
-    let mut symbols = Symbols::new(alloc);
-    match read_term(
-        alloc,
-        &table.ops,
-        table.quotes,
-        &mut symbols,
-        &ended(alloc, text)?,
-    ) {
-        Ok(Reading::Term(read)) => size_read(alloc, line, &read, steps),
-        _ => Ok(line.push_str("no term")?),
-    }
-}
-
-// A copy of a value by so many steps, how many are left, and how many variables were given out then.
-fn add_copy(
-    alloc: Global,
-    line: &mut String,
+    line: &mut Line,
     symbols: &Symbols,
     bindings: &mut Bindings,
-    value: &Ref,
+    equation: &Ref,
     steps: u64,
 ) -> Result<(), Memory>
-    requires { value.now < length bindings.old.terms }
+    requires { equation.now < length bindings.old.terms }
 {
+    answer_of(bindings, equation, &mut Fuel::new(1000))?;
     let mut fuel = Fuel::new(steps);
-    let copied = bindings.copy(value, &mut fuel);
-    let left = fuel.left();
-    write!(line, "{left}")?;
+    let copied = bindings.copy(equation, &mut fuel);
+    line.add_number("", fuel.left());
     match copied {
-        Ok(copy) => add_value(alloc, line, symbols, bindings, &copy, &mut Fuel::new(100))?,
-        Err(WalkFault::Spent) => line.push_str(" spent")?,
+        Ok(copy) => add_resolved(alloc, line, symbols, bindings, &copy, &mut Fuel::new(100))?,
+        Err(WalkFault::Spent) => line.add(" spent"),
         Err(WalkFault::Memory) => return Err(Memory),
     }
-    let count = bindings.fresh(0)?;
-    write!(line, " {count}")?;
+    line.add_number(" ", bindings.fresh(0)?);
     Ok(())
-}
-
-fn copy_read(
-    alloc: Global,
-    line: &mut String,
-    symbols: &Symbols,
-    read: &Read,
-    steps: u64,
-) -> Result<(), Memory>
-    requires { HasVariables read.now.vars read.now.term read.now.names }
-{
-    let mut bindings = Bindings::new(alloc);
-    let at = load_read(&mut bindings, read)?;
-    let mut fuel = Fuel::new(1000);
-    answer_of(&mut bindings, &at, &mut fuel)?;
-    add_copy(alloc, line, symbols, &mut bindings, &at, steps)
-}
-
-/// A copy of an equation by so many steps, once its sides are unified.
-pub fn copy(
-    alloc: Global,
-    line: &mut String,
-    table: &Table,
-    steps: u64,
-    text: &str,
-) -> Result<(), Memory> {
-    let mut symbols = Symbols::new(alloc);
-    match read_term(
-        alloc,
-        &table.ops,
-        table.quotes,
-        &mut symbols,
-        &ended(alloc, text)?,
-    ) {
-        Ok(Reading::Term(read)) => copy_read(alloc, line, &symbols, &read, steps),
-        _ => Ok(line.push_str("no term")?),
-    }
 }

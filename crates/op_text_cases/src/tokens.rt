@@ -2,7 +2,7 @@ ghost use Rattle.std.specs.Prelude.{OnOk};
 ghost use Rattle.op_token.specs.Cut.{IsOpen};
 
 use op_base::Memory;
-use op_case_lines::{escaped, token_word};
+use op_case_lines::{Line, token_word};
 use op_token::{Cutter, Piece, Scanner, Token, TokenFault, TokenKind, cut};
 use std::alloc::Global;
 
@@ -26,105 +26,94 @@ fn kind_text(kind: TokenKind) -> &'static str {
 }
 
 // A token as its kind, the magnitude of an integer, and its span, with `_` before it where layout stands there.
-fn add_token(line: &mut String, token: Token) -> Result<(), Memory> {
-    let before = if token.layout_before { "_" } else { "" };
-    let kind = kind_text(token.kind);
-    let Token { from, to, .. } = token;
-    match token.kind {
-        TokenKind::Integer(magnitude) => write!(line, "{before}{kind}{magnitude}:{from}-{to}")?,
-        _ => write!(line, "{before}{kind}{from}-{to}")?,
+fn add_token(line: &mut Line, token: Token) {
+    line.add(if token.layout_before { "_" } else { "" });
+    line.add(kind_text(token.kind));
+    if let TokenKind::Integer(magnitude) = token.kind {
+        line.add_number("", magnitude);
+        line.add(":");
     }
-    Ok(())
+    line.add_number("", token.from);
+    line.add_number("-", token.to);
 }
 
-fn add_fault(line: &mut String, fault: TokenFault) -> Result<(), Memory> {
-    let kind = token_word(fault.kind);
-    let place = fault.place;
-    write!(line, "{kind}@{place}")?;
-    Ok(())
-}
-
-// Adds a space behind what stands before it.
-fn add_space(line: &mut String) -> Result<(), Memory> {
-    if !line.is_empty() {
-        line.push_str(" ")?;
-    }
-    Ok(())
-}
-
-// Adds the next token or fault; whether there may be a further one. A fault comes again each time.
-fn add_next(line: &mut String, scanner: &mut Scanner<'_>) -> Result<bool, Memory> {
+// Adds the next token or fault behind a text; whether there may be a further one. A fault comes again each time.
+fn add_next(line: &mut Line, before: &str, scanner: &mut Scanner<'_>) -> bool {
     match scanner.next() {
-        Ok(None) => Ok(false),
+        Ok(None) => false,
         Ok(Some(token)) => {
-            add_space(line)?;
-            add_token(line, token)?;
-            Ok(true)
+            line.add(before);
+            add_token(line, token);
+            true
         }
         Err(fault) => {
-            add_space(line)?;
-            add_fault(line, fault)?;
+            line.add(before);
+            line.add(token_word(fault.kind));
+            line.add_number("@", fault.place);
             if scanner.next() != Err(fault) {
-                line.push_str(" and then another")?;
+                line.add(" and then another");
             }
-            Ok(false)
+            false
         }
     }
 }
 
 /// The tokens of a text, and the fault behind them.
-pub fn tokens(line: &mut String, text: &[u8]) -> Result<(), Memory> {
+pub fn tokens(line: &mut Line, text: &[u8]) {
     let mut scanner = Scanner::new(text);
-    for _ in 0..=text.len() {
-        if !add_next(line, &mut scanner)? {
+    for i in 0..=text.len() {
+        if !add_next(line, if i == 0 { "" } else { " " }, &mut scanner) {
             break;
         }
     }
-    Ok(())
 }
 
 /// The text that the first token stands for.
-pub fn token_text(alloc: Global, line: &mut String, text: &[u8]) -> Result<(), Memory> {
+pub fn token_text(alloc: Global, line: &mut Line, text: &[u8]) -> Result<(), Memory> {
     let mut scanner = Scanner::new(text);
     let mut out = Vec::new(alloc);
     if let Ok(Some(token)) = scanner.next() {
         scanner.text_of(&token, &mut out)?;
     }
-    Ok(line.push_str(escaped(alloc, &out)?.as_str())?)
-}
-
-fn add_piece(line: &mut String, piece: Piece) -> Result<(), Memory> {
-    match piece {
-        Piece::Text(from, to) => write!(line, "text {from} {to}")?,
-        Piece::NoEnd => line.push_str("no_end")?,
-        Piece::Empty => line.push_str("empty")?,
-    }
+    line.add_bytes(&out);
     Ok(())
 }
 
+fn add_piece(line: &mut Line, piece: Piece) {
+    match piece {
+        Piece::Text(from, to) => {
+            line.add_number("text ", from);
+            line.add_number(" ", to);
+        }
+        Piece::NoEnd => line.add("no_end"),
+        Piece::Empty => line.add("empty"),
+    }
+}
+
 /// The first term text.
-pub fn piece(line: &mut String, text: &[u8]) -> Result<(), Memory> {
-    add_piece(line, cut(text))
+pub fn piece(line: &mut Line, text: &[u8]) {
+    add_piece(line, cut(text));
 }
 
 // Gives a byte to the cutter, and adds the text that ended.
-fn add_byte(alloc: Global, line: &mut String, cutter: &mut Cutter, byte: u8) -> Result<(), Memory>
+fn add_byte(line: &mut Line, cutter: &mut Cutter, byte: u8) -> Result<(), Memory>
     requires { IsOpen cutter.old }
     ensures { OnOk result (IsOpen cutter.new) }
 {
     if cutter.push(byte)? {
-        line.push_str(escaped(alloc, cutter.text())?.as_str())?;
-        line.push_str("|")?;
+        line.add_bytes(cutter.text());
+        line.add("|");
         cutter.restart();
     }
     Ok(())
 }
 
 /// The term texts of a text that is given byte by byte, and what is left.
-pub fn pieces(alloc: Global, line: &mut String, text: &[u8]) -> Result<(), Memory> {
+pub fn pieces(alloc: Global, line: &mut Line, text: &[u8]) -> Result<(), Memory> {
     let mut cutter = Cutter::new(alloc);
     'bytes: for byte in text {
-        add_byte(alloc, line, &mut cutter, *byte)?;
+        add_byte(line, &mut cutter, *byte)?;
     }
-    add_piece(line, cutter.piece())
+    add_piece(line, cutter.piece());
+    Ok(())
 }

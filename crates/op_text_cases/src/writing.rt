@@ -4,7 +4,7 @@ ghost use Rattle.op_reader.specs.Variables.{HasVariables};
 
 use crate::table::Table;
 use op_base::Memory;
-use op_case_lines::escaped;
+use op_case_lines::Line;
 use op_desk::Bytes;
 use op_readback::written_and_read;
 use op_reader::Read;
@@ -15,7 +15,7 @@ use std::alloc::Global;
 /// Adds a term's text in a style, of at most so many bytes.
 pub fn add_text(
     alloc: Global,
-    line: &mut String,
+    line: &mut Line,
     table: &Table,
     style: Style,
     symbols: &Symbols,
@@ -37,8 +37,8 @@ pub fn add_text(
         limit,
         &mut out,
     ) {
-        Ok(()) => line.push_str(escaped(alloc, out.as_slice())?.as_str())?,
-        Err(TextFault::TooLong) => write!(line, "too_long")?,
+        Ok(()) => line.add_bytes(out.as_slice()),
+        Err(TextFault::TooLong) => line.add("too_long"),
         Err(TextFault::Memory) => return Err(Memory),
     }
     Ok(())
@@ -47,7 +47,7 @@ pub fn add_text(
 /// Adds the plain, the quoted and the canonical text.
 pub fn add_texts(
     alloc: Global,
-    line: &mut String,
+    line: &mut Line,
     table: &Table,
     symbols: &Symbols,
     term: &Term,
@@ -55,16 +55,16 @@ pub fn add_texts(
     requires { HasNames (length symbols.now) term.now }
 {
     add_text(alloc, line, table, Style::Plain, symbols, term, 100)?;
-    line.push_str(" § ")?;
+    line.add(" § ");
     add_text(alloc, line, table, Style::Quoted, symbols, term, 100)?;
-    line.push_str(" § ")?;
+    line.add(" § ");
     add_text(alloc, line, table, Style::Canonical, symbols, term, 100)
 }
 
 /// Writes a term that was read in the canonical style and reads it again, and adds the canonical text of what was read.
 pub fn add_again(
     alloc: Global,
-    line: &mut String,
+    line: &mut Line,
     table: &Table,
     symbols: &mut Symbols,
     read: &Read,
@@ -74,51 +74,46 @@ pub fn add_again(
     requires variables { HasVariables read.now.vars read.now.term read.now.names }
 {
     if read.vars > 0 {
-        return Ok(line.push_str("variables")?);
+        return Ok(line.add("variables"));
     }
+    let style = Style::Canonical;
     match written_and_read(
         alloc,
         &table.ops,
-        Style::Canonical,
+        style,
         table.quotes,
         symbols,
         &read.term,
         1200,
         limit,
     ) {
-        Ok(again) => add_text(
-            alloc,
-            line,
-            table,
-            Style::Canonical,
-            symbols,
-            &again.term,
-            limit,
-        ),
-        Err(TextFault::TooLong) => Ok(line.push_str("too_long")?),
+        Ok(again) => add_text(alloc, line, table, style, symbols, &again.term, limit),
+        Err(TextFault::TooLong) => Ok(line.add("too_long")),
         Err(TextFault::Memory) => Err(Memory),
     }
 }
 
 // Adds a text of at most 100 bytes; of a longer one how many bytes it has, and the last eight characters.
-fn add_short(alloc: Global, line: &mut String, text: &[u8]) -> Result<(), Memory> {
-    let shown = escaped(alloc, text)?;
+fn add_short(alloc: Global, line: &mut Line, text: &[u8]) {
     if text.len() <= 100 {
-        return Ok(line.push_str(shown.as_str())?);
+        line.add_bytes(text);
+        return;
     }
-    let count = text.len();
-    write!(line, "{count} bytes ")?;
-    let characters = shown.as_str().chars().count();
-    for c in shown.as_str().chars().skip(characters.saturating_sub(8)) {
-        line.push(c)?;
+    let mut shown = Line::new(alloc);
+    shown.add_bytes(text);
+    line.note(shown.done());
+    line.add_number("", text.len() as u64);
+    line.add(" bytes ");
+    let characters = shown.text().chars().count();
+    for c in shown.text().chars().skip(characters.saturating_sub(8)) {
+        line.push(c);
     }
-    Ok(())
 }
 
 /// Adds the cut text of a term behind some bytes.
 pub fn add_cut(
     alloc: Global,
-    line: &mut String,
+    line: &mut Line,
     table: &Table,
     symbols: &Symbols,
     term: &Term,
@@ -139,5 +134,6 @@ pub fn add_cut(
         operand,
         &mut out,
     )?;
-    add_short(alloc, line, out.as_slice())
+    add_short(alloc, line, out.as_slice());
+    Ok(())
 }

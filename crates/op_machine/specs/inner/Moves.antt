@@ -1,5 +1,5 @@
 -- What one move of the machine does to its parts.
-use Rattle.std.specs.Prelude.{◌≡◌, ℕ, ◌-◌, ◌≤◌, List, [], ◌∷◌, if◌then◌else◌, Option}
+use Rattle.std.specs.Prelude.{◌≡◌, ℕ, ◌-◌, ◌≤◌, List, [], ◌∷◌, length, take, if◌then◌else◌, Option}
 use Rattle.op_logic.specs.Term.{Term, shift, Args, no_args, args_of, nth_arg}
 use Rattle.op_term.specs.Places.{term_at}
 use Rattle.op_logic.specs.Bind.{apply, follow, unify, Solved as Result}
@@ -10,7 +10,8 @@ use Rattle.op_trace.specs.Database.{Text, text_eq}
 use Rattle.op_trace.specs.World.{World, Turn, Shown, Solved}
 use Rattle.op_trace.specs.Act.{Act}
 use Rattle.op_trace.specs.Body.{divided}
-use Rattle.op_trace.specs.Builtins.{act_of_goal, throw, run_goal, run_division, alone}
+use Rattle.op_trace.specs.Builtins.{throw, run_goal, run_division, alone}
+use Rattle.op_machine.specs.Acts.{act_of_goal}
 use Rattle.op_trace.specs.Visit.{control, inside, is_true}
 use Rattle.op_trace.specs.Visit as visit
 use Rattle.op_bind.specs.declared.places.Clause.{Clause as NumberedClause}
@@ -23,7 +24,7 @@ use Rattle.op_machine.specs.Meaning.{ball_text, open_in}
 use Rattle.op_machine.specs.inner.Invariant.{IsGood, IsSeen, HasGoal}
 use Rattle.op_bind.specs.Grown.{Grows}
 use Rattle.op_bind.specs.State.{bindings}
-use Rattle.op_store.specs.Stored.{database_of}
+use Rattle.op_store.specs.Stored.{Stored, database_of}
 use Rattle.op_machine.specs.declared.builtin_kind.Around.{Around}
 use Rattle.op_machine.specs.inner.BuiltinKinds.{body_around, first_argument, more_arguments}
 use Rattle.op_machine.specs.Resume.{State, entered_state, Moved, Forward, Backward, Throwing, silent, pay}
@@ -172,6 +173,17 @@ pub record Keeps (old new : Core) : Type 0 where
   pub names : new.names ≡ old.names
   pub later : old.steps ≤ new.steps
 
+-- names have joined those of a program, and nothing else of it has changed
+pub record HasGrown (old new : Stored) : Type 0 where
+  pub rest : new ≡ record old { names = new.names }
+  pub names : take (length old.names) new.names ≡ old.names
+
+-- the same as of Keeps where names may have joined those of the program
+pub record KeepsProgram (old new : Core) : Type 0 where
+  pub store : HasGrown old.store new.store
+  pub names : new.names ≡ old.names
+  pub later : old.steps ≤ new.steps
+
 -- a term was made, and all else is as it was
 pub record Makes (old new : Core) (r : ℕ) : Type 0 where
   pub rest : new ≡ record old { bindings = new.bindings }
@@ -187,6 +199,17 @@ pub record Advances (old new : Core) (m : Moved) (s : Step) : Type 0 where
   pub good : IsGood new
   pub looked : IsLooked s new
   pub store : new.store ≡ old.store
+  pub names : new.names ≡ old.names
+  pub budget : new.budget ≡ old.budget
+  pub wanted : new.wanted ≡ old.wanted
+
+-- the same where names may have joined those of the program
+pub record Proceeds (old new : Core) (m : Moved) (s : Step) : Type 0 where
+  pub turns : turns_of s new ≡ m.turns
+  pub state : state_of new ≡ m.state
+  pub good : IsGood new
+  pub looked : IsLooked s new
+  pub store : HasGrown old.store new.store
   pub names : new.names ≡ old.names
   pub budget : new.budget ≡ old.budget
   pub wanted : new.wanted ≡ old.wanted

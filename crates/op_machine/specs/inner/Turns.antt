@@ -3,7 +3,7 @@ use Rattle.std.specs.Prelude.{◌≡◌, ℕ, ◌+◌, ◌≤◌, List, [], ◌�
 use Rattle.op_trace.specs.declared.barrier.Barrier.TheVariants.{Call}
 use Rattle.op_trace.specs.World.{Turn, Shown, Solved, Goal, loaded}
 use Rattle.op_trace.specs.Outside.{Outside, at}
-use Rattle.op_trace.specs.Builtins.{setup_for}
+use Rattle.op_machine.specs.Acts.{setup_for}
 use Rattle.op_trace.specs.Run.{started, ending_of}
 use Rattle.op_trace.specs.Visit.{Verdict, gives, with_turns}
 use Rattle.op_machine.specs.declared.core_state.Core.{Core}
@@ -11,9 +11,10 @@ use Rattle.op_machine.specs.declared.turn.Ending.{Ending}
 use Rattle.op_machine.specs.declared.turn.Turn as declared
 use Rattle.op_machine.specs.declared.turn.Turn.TheVariants as turn
 use Rattle.op_logic.specs.Term.{Term}
-use Rattle.op_machine.specs.Meaning.{setup_of, world_in, state_of, event_seen, bindings_now}
+use Rattle.op_machine.specs.Meaning.{setup_of, world_left, state_of, event_seen, bindings_now}
 use Rattle.op_machine.specs.inner.Invariant.{IsSound, IsSeen}
 use Rattle.op_machine.specs.Resume.{owed, Forward}
+use Rattle.op_machine.specs.inner.Moves.{HasGrown}
 use Rattle.op_machine.specs.Outer.{state_at, turn_at}
 use Rattle.op_machine.specs.Machine.{ending_for, HasBallNames}
 use Rattle.op_store.specs.Stored.{Stored, database_of}
@@ -26,7 +27,7 @@ turns_in c = c.events + c.solutions
 -- the same run goes on from one to the other
 pub record Follows (old new : Core) : Type 0 where
   pub sound : IsSound new
-  pub store : new.store ≡ old.store
+  pub store : HasGrown old.store new.store
   pub names : new.names ≡ old.names
   pub budget : new.budget ≡ old.budget
   pub wanted : new.wanted ≡ old.wanted
@@ -51,12 +52,12 @@ pub record Ended (old new : Core) (e : Ending) : Type 0 where
   pub walked : Walked old new
   pub verdict : Verdict
   pub is : ending_of verdict ≡ ending_for new.store.names e
-  pub owed : (h : Outside) (o : List ℕ) → owed (setup_of old) (state_at h o (state_of old)) ≡ gives verdict (at h o (world_in new))
+  pub owed : (h : Outside) (o : List ℕ) → owed (setup_of old) (state_at h o (state_of old)) ≡ gives verdict (at h o (world_left new))
   pub names : HasBallNames (length new.store.names) e
 
 abbrev pub Turned : Core → Core → declared.Turn → Type 0
-Turned old new turn.Event = Showed old new (Shown (event_seen new.store new.bindings new.seen) (world_in new)) × IsSeen new
-Turned old new turn.Solution = Showed old new (Solved (bindings_now new) (world_in new))
+Turned old new turn.Event = Showed old new (Shown (event_seen new.store new.bindings new.seen) (world_left new)) × IsSeen new
+Turned old new turn.Solution = Showed old new (Solved (bindings_now new) (world_left new))
 Turned old new (turn.Ended e) = Ended old new e
 
 -- nothing was done yet

@@ -1,33 +1,45 @@
-use Rattle.std.proofs.Common.{◌<◌, ◌∙◌, arith}
-use Rattle.op_term.proofs.Heads.{head-atom, head-struct}
-use Rattle.op_machine.proofs.BuiltinLaws.{atom-act, single-act, longer-act}
+use Rattle.std.proofs.Common.{◌≡◌, subst}
+use Rattle.op_trace.specs.Builtins as control
+use Rattle.op_machine.specs.Program.{goal_named}
+use Rattle.op_machine.specs.declared.builtin_kind.Builtin.{Builtin}
+use Rattle.op_machine.specs.inner.BuiltinKinds.{act_of_kind, IsOfControl}
+use Rattle.op_machine.proofs.BuiltinNames.{other-act, other-terms, other-known, own-act, own-terms}
 use Rattle.op_machine.proofs.builtin_kind.builtin_of.Goals as goal
 
-pub returns-in-Atom-clause-act : goal.returns-in-Atom-clause-act
-returns-in-Atom-clause-act c =
-    λ g e left σ w.
-    let b = c.atom_builtin.ensures in
-    atom-act c.args.store.now c.names_law.ensures.table c.names_law.ensures.begins left σ w c.in-Atom.name c.atom_builtin.result g
-    (record { halt = b.halt; other = b.other }) (head-atom g c.in-Atom.name (e ∙ c.in-Atom.is))
+pub other_builtin-requires : goal.other_builtin-requires
+other_builtin-requires c =
+    let g = c.requires.0 in
+    c.control_of.ensures.known g c.in-Unknown.name c.in-Unknown.arity c.requires.1 c.requires.2 c.in-Unknown.is
 
-pub returns-in-Struct-default-eq1-clause-act : goal.returns-in-Struct-default-eq1-clause-act
-returns-in-Struct-default-eq1-clause-act c =
+pub returns-in-Unknown-clause-act : goal.returns-in-Unknown-clause-act
+returns-in-Unknown-clause-act c =
     λ g e left σ w.
-    let one = c.in-Struct-default-eq1 in
-    let h = head-struct g one.name one.field-1 (e ∙ one.is) in
-    let b = c.single_builtin.ensures in
-    let count = rw one.is at one.field-1-test in
-    single-act c.args.store.now c.names_law.ensures.table c.names_law.ensures.begins left σ w one.name c.single_builtin.result g
-    (record { call = b.call; once = b.once; not = b.not; throw = b.throw; halt = b.halt; other = b.other }) h.0 (h.1 ∙ count)
+    let t = c.args.store.now in
+    other-act t c.in-Unknown.name c.in-Unknown.arity c.other_builtin.result g c.other_builtin.ensures.yes c.other_builtin.ensures.no
+    (subst (λ (b : Builtin). IsOfControl t b g) c.in-Unknown.is (c.control_of.ensures.own g e)) left σ w
+    (subst (λ (b : Builtin). control.act_of_goal left (goal_named t g) σ w ≡ act_of_kind t b (goal_named t g) left σ w) c.in-Unknown.is
+    (c.control_of.ensures.act g e left σ w))
 
-pub returns-in-Struct-clause-act : goal.returns-in-Struct-clause-act
-returns-in-Struct-clause-act c =
+pub returns-in-Unknown-clause-known : goal.returns-in-Unknown-clause-known
+returns-in-Unknown-clause-known c =
+    λ g f n e names is.
+    let t = c.args.store.now in
+    other-known t c.in-Unknown.name c.in-Unknown.arity c.other_builtin.result g c.other_builtin.ensures.yes c.other_builtin.ensures.no
+    (subst (λ (b : Builtin). IsOfControl t b g) c.in-Unknown.is (c.control_of.ensures.own g e)) f n names is
+
+pub returns-in-Unknown-clause-terms : goal.returns-in-Unknown-clause-terms
+returns-in-Unknown-clause-terms c =
+    λ g f n e is.
+    let t = c.args.store.now in
+    other-terms t c.in-Unknown.name c.in-Unknown.arity c.other_builtin.result g c.other_builtin.ensures.yes c.other_builtin.ensures.no
+    (subst (λ (b : Builtin). IsOfControl t b g) c.in-Unknown.is (c.control_of.ensures.own g e)) f n is
+
+pub returns-in_default-clause-act : goal.returns-in_default-clause-act
+returns-in_default-clause-act c =
     λ g e left σ w.
-    let more = c.in-Struct in
-    let h = head-struct g more.name more.arity (e ∙ more.is) in
-    let b = c.longer_builtin.ensures in
-    let count = rw more.is at more.arity-test in
-    let many : 1 < more.arity = omega (arith, h.1, h.2, count.1) in
-    longer-act c.args.store.now c.names_law.ensures.table c.names_law.ensures.begins left σ w more.name more.arity
-    c.longer_builtin.result g
-    (record { call = b.call; long = b.long; catch = b.catch; other_catch = b.other_catch; other = b.other }) h.0 h.1 many
+    own-act c.args.store.now c.control_of.result g (c.control_of.ensures.own g e) c.in_default.not-Unknown left σ w
+    (c.control_of.ensures.act g e left σ w)
+
+pub returns-in_default-clause-terms : goal.returns-in_default-clause-terms
+returns-in_default-clause-terms c =
+    λ g f n e is. own-terms c.args.store.now c.control_of.result g f n (c.control_of.ensures.own g e) is

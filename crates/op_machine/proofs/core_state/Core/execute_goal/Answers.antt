@@ -4,13 +4,13 @@ use Rattle.op_machine.specs.declared.builtin_kind.Builtin.TheVariants as builtin
 use Rattle.op_machine.specs.declared.core_state.Core.{Core}
 use Rattle.op_machine.specs.declared.core_state.Step.TheVariants as step
 use Rattle.op_machine.specs.inner.BuiltinKinds.{HasArgument}
-use Rattle.op_machine.proofs.ExecutedGoals.{act-as, act-same, executed-kind, fails-advances}
+use Rattle.op_machine.proofs.ExecutedGoals.{act-proceeds, same-proceeds, goal-proceeds, executed-kind, fails-advances}
 use Rattle.op_machine.proofs.core_state.Core.execute_goal.Goals as goal
 
 pub returns-in-Run-clause-advances : goal.returns-in-Run-clause-advances
 returns-in-Run-clause-advances c =
     let old : Core = c.args.self.now in
-    act-as old c.run_argument.new.self _ _ c.args.call c.args.goal c.args.rest c.run_argument.result
+    act-proceeds old c.run_argument.new.self _ _ c.args.call c.args.goal c.args.rest c.run_argument.result
     (executed-kind old c.builtin_of.result (builtin.Run c.in-Run.around) c.args.goal
     (c.builtin_of.ensures.act (term_at old.bindings.terms c.args.goal) (sym c.outline.ensures)) c.in-Run.is) c.run_argument.ensures.advances
 
@@ -23,7 +23,7 @@ run_argument-requires-clause-argument c =
 pub returns-in-Catch-clause-advances : goal.returns-in-Catch-clause-advances
 returns-in-Catch-clause-advances c =
     let old : Core = c.args.self.now in
-    act-as old c.run_part.new.self _ _ c.args.call c.args.goal c.args.rest c.run_part.result
+    act-proceeds old c.run_part.new.self _ _ c.args.call c.args.goal c.args.rest c.run_part.result
     (executed-kind old c.builtin_of.result builtin.Catch c.args.goal
     (c.builtin_of.ensures.act (term_at old.bindings.terms c.args.goal) (sym c.outline.ensures)) c.in-Catch.is)
     c.run_part.ensures.advances
@@ -37,7 +37,7 @@ run_part-requires-clause-argument c =
 pub returns-in-Throw-clause-advances : goal.returns-in-Throw-clause-advances
 returns-in-Throw-clause-advances c =
     let old : Core = c.args.self.now in
-    act-as old c.throw_argument.new.self _ _ c.args.call c.args.goal c.args.rest c.throw_argument.result
+    act-proceeds old c.throw_argument.new.self _ _ c.args.call c.args.goal c.args.rest c.throw_argument.result
     (executed-kind old c.builtin_of.result builtin.Throw c.args.goal
     (c.builtin_of.ensures.act (term_at old.bindings.terms c.args.goal) (sym c.outline.ensures)) c.in-Throw.is)
     c.throw_argument.ensures.advances
@@ -51,7 +51,7 @@ throw_argument-requires-clause-argument c =
 pub returns-in-Halt-clause-advances : goal.returns-in-Halt-clause-advances
 returns-in-Halt-clause-advances c =
     let old : Core = c.args.self.now in
-    act-same old c.halt.new.self _ _ c.args.call c.args.goal c.args.rest c.halt.result
+    same-proceeds old c.halt.new.self _ _ c.args.call c.args.goal c.args.rest c.halt.result
     (executed-kind old c.builtin_of.result builtin.Halt c.args.goal
     (c.builtin_of.ensures.act (term_at old.bindings.terms c.args.goal) (sym c.outline.ensures)) c.in-Halt.is)
     (c.halt.ensures.advances c.args.call c.args.goal c.args.rest)
@@ -59,7 +59,7 @@ returns-in-Halt-clause-advances c =
 pub returns-in-HaltWith-clause-advances : goal.returns-in-HaltWith-clause-advances
 returns-in-HaltWith-clause-advances c =
     let old : Core = c.args.self.now in
-    act-as old c.halt_with.new.self _ _ c.args.call c.args.goal c.args.rest c.halt_with.result
+    act-proceeds old c.halt_with.new.self _ _ c.args.call c.args.goal c.args.rest c.halt_with.result
     (executed-kind old c.builtin_of.result builtin.HaltWith c.args.goal
     (c.builtin_of.ensures.act (term_at old.bindings.terms c.args.goal) (sym c.outline.ensures)) c.in-HaltWith.is)
     c.halt_with.ensures.advances
@@ -73,7 +73,7 @@ halt_with-requires-clause-argument c =
 pub returns-in-Unknown-clause-advances : goal.returns-in-Unknown-clause-advances
 returns-in-Unknown-clause-advances c =
     let old : Core = c.args.self.now in
-    act-as old c.meet_unknown.new.self _ _ c.args.call c.args.goal c.args.rest c.meet_unknown.result
+    act-proceeds old c.meet_unknown.new.self _ _ c.args.call c.args.goal c.args.rest c.meet_unknown.result
     (executed-kind old c.builtin_of.result (builtin.Unknown c.in-Unknown.name c.in-Unknown.arity) c.args.goal
     (c.builtin_of.ensures.act (term_at old.bindings.terms c.args.goal) (sym c.outline.ensures)) c.in-Unknown.is)
     c.meet_unknown.ensures.advances
@@ -87,7 +87,23 @@ meet_unknown-requires-clause-name c =
 pub returns-in-NoGoal-clause-advances : goal.returns-in-NoGoal-clause-advances
 returns-in-NoGoal-clause-advances c =
     let old : Core = c.args.self.now in
-    act-same old _ _ _ c.args.call c.args.goal c.args.rest step.Silent
+    same-proceeds old _ _ _ c.args.call c.args.goal c.args.rest step.Silent
     (executed-kind old c.builtin_of.result builtin.NoGoal c.args.goal
     (c.builtin_of.ensures.act (term_at old.bindings.terms c.args.goal) (sym c.outline.ensures)) c.in-NoGoal.is)
     (fails-advances old c.args.call c.args.goal c.args.rest c.requires.good c.requires.steps)
+
+pub builtin_of-requires : goal.builtin_of-requires
+builtin_of-requires c = (term_at c.args.self.now.bindings.terms c.args.goal, sym c.outline.ensures, c.requires.goal.1)
+
+pub returns-in-OnTerms-clause-advances : goal.returns-in-OnTerms-clause-advances
+returns-in-OnTerms-clause-advances c =
+    let old : Core = c.args.self.now in
+    goal-proceeds old c.inspect_goal.new.self _ _ c.args.call c.args.goal c.args.rest c.inspect_goal.result
+    (executed-kind old c.builtin_of.result (builtin.OnTerms c.in-OnTerms.name c.in-OnTerms.count) c.args.goal
+    (c.builtin_of.ensures.act (term_at old.bindings.terms c.args.goal) (sym c.outline.ensures)) c.in-OnTerms.is)
+    c.inspect_goal.ensures.advances
+
+pub inspect_goal-requires-clause-builtin : goal.inspect_goal-requires-clause-builtin
+inspect_goal-requires-clause-builtin c =
+    let old : Core = c.args.self.now in
+    c.builtin_of.ensures.terms (term_at old.bindings.terms c.args.goal) c.in-OnTerms.name c.in-OnTerms.count (sym c.outline.ensures) c.in-OnTerms.is

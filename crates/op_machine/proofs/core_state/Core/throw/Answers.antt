@@ -5,7 +5,7 @@ use Rattle.op_machine.specs.declared.core_state.Step.TheVariants as step
 use Rattle.op_machine.specs.inner.Moves.{Advances, ball_raised}
 use Rattle.op_machine.proofs.HeadUnification.{bound_on}
 use Rattle.op_machine.proofs.ThrownBalls.{copied-good, copied-goal, thrown-copied, thrown-spent}
-use Rattle.op_machine.proofs.CopiedVariables.{copied-within}
+use Rattle.op_inspect.proofs.CopiedVariables.{copied-within}
 use Rattle.op_machine.proofs.core_state.Core.throw.Goals as goal
 
 pub raise-requires-clause-good : goal.raise-requires-clause-good

@@ -1,0 +1,1 @@
+sum([],0). sum([X|L],S) :- sum(L,T), S is T+X.
