@@ -9,6 +9,9 @@ pub mod StoppedWalks
 pub mod WokenFeeds
 pub mod MovedCursors
 pub mod ShownPlaces
-pub mod MatchingLoop
+mod LackedCursors
+mod MatchingLoop
 pub mod PairStacks
 pub mod OwnTables
+pub mod FoundSearches
+pub mod PaidMoves

@@ -50,7 +50,7 @@ nth-some (x ∷ xs) zero h f = f x refl
 nth-some (x ∷ xs) (suc i) h f = nth-some xs i (omega (arith, h)) f
 
 module _ (test : Event → Test) (behind_them : ℕ → ℕ → Outcome) where
-  event-paid : (j : ℕ) (e : Event) (xs : List (ℕ × Event)) (f fuel mid left : ℕ) → fuel ≡ mid + 1 → mid ≡ left + (test e).cost
+  pub event-paid : (j : ℕ) (e : Event) (xs : List (ℕ × Event)) (f fuel mid left : ℕ) → fuel ≡ mid + 1 → mid ≡ left + (test e).cost
       → search test ((j, e) ∷ xs) behind_them f fuel
       ≡ cond (test e).yes (outcome (moves.At j) (max f j) left) (search test xs behind_them (max f j) left)
   event-paid j e xs f fuel mid left h k =
@@ -62,7 +62,7 @@ module _ (test : Event → Test) (behind_them : ℕ → ℕ → Outcome) where
       ∙ (ap (λ (l : ℕ). pay (test e).cost (max f j) l tell) n
       ∙ (pay-there (test e).cost (max f j) mid tell (omega (arith, k)) ∙ ap tell m))
 
-  event-dear : (j : ℕ) (e : Event) (xs : List (ℕ × Event)) (f fuel mid : ℕ) → fuel ≡ mid + 1 → mid < (test e).cost
+  pub event-dear : (j : ℕ) (e : Event) (xs : List (ℕ × Event)) (f fuel mid : ℕ) → fuel ≡ mid + 1 → mid < (test e).cost
       → search test ((j, e) ∷ xs) behind_them f fuel ≡ outcome moves.Spent (max f j) 0
   event-dear j e xs f fuel mid h k =
       let tell : ℕ → Outcome =
@@ -71,7 +71,7 @@ module _ (test : Event → Test) (behind_them : ℕ → ℕ → Outcome) where
       pay-there 1 f fuel (λ rest. pay (test e).cost (max f j) rest tell) (omega (arith, h))
       ∙ (ap (λ (l : ℕ). pay (test e).cost (max f j) l tell) n ∙ pay-short (test e).cost (max f j) mid tell k)
 
-  event-short : (j : ℕ) (e : Event) (xs : List (ℕ × Event)) (f fuel : ℕ) → fuel < 1
+  pub event-short : (j : ℕ) (e : Event) (xs : List (ℕ × Event)) (f fuel : ℕ) → fuel < 1
       → search test ((j, e) ∷ xs) behind_them f fuel ≡ outcome moves.Spent f 0
   event-short j e xs f fuel h =
       pay-short 1 f fuel (λ left. pay (test e).cost (max f j) left

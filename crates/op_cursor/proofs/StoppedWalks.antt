@@ -4,7 +4,7 @@ use Rattle.std.proofs.Common.{[], ◌++◌, append-nil}
 use Rattle.std.proofs.KnownBytes.{Appends-nil}
 use Rattle.std.proofs.Common.{◌∙◌, subst, arith, Err, IsErrOf}
 use Rattle.op_desk.specs.declared.chan.Chan.TheVariants.{Input, Output}
-use Rattle.op_trace.specs.Outside.{follow, nothing}
+use Rattle.op_trace.specs.Outside.{Taking, follow, nothing}
 use Rattle.op_trace.specs.Run.{Run, output_at}
 use Rattle.op_machine.specs.declared.turn.Ending.{Ending}
 use Rattle.op_moves.specs.Places.{event_count}
@@ -135,9 +135,9 @@ stops-reset f old new a n from limit none sound e proper ends =
     }
 
 -- a place that was looked at stays one
-pub places-by : (P : Run → Type 0) (old new : Fed) (a b : Sight) → Goes old new a b → Comes P old new a b
+pub places-same : (old new : Fed) (a b : Sight) (taking : Taking) → Goes old new a b → new.run [] ≡ old.run (follow taking [])
     → (p : ℕ) → IsPlaceOf old p → IsPlaceOf new p
-places-by P old new a b goes comes p i = record {
+places-same old new a b taking goes same p i = record {
   within = let l = i.within in let f = goes.furthest in omega arith;
   below = below;
 }
@@ -152,13 +152,16 @@ places-by P old new a b goes comes p i = record {
 
     below : is_some new.ending ≡ true → p < new.furthest
     below s =
-        let o = comes.over [] in
-        let r : Run = old.run (follow comes.taking []) in
-        let one : Stands old r = goes.sound goes.none (follow comes.taking []) in
-        let two : Stands new r = subst (λ (q : Run). Stands new q) o.run (goes.still_sound goes.still_none []) in
+        let r : Run = old.run (follow taking []) in
+        let one : Stands old r = goes.sound goes.none (follow taking []) in
+        let two : Stands new r = subst (λ (q : Run). Stands new q) same (goes.still_sound goes.still_none []) in
         let n = events old r old.ending refl one.looked i in
         let f = at_end r new.ending refl two.looked s in
         omega arith
+
+pub places-by : (P : Run → Type 0) (old new : Fed) (a b : Sight) → Goes old new a b → Comes P old new a b
+    → (p : ℕ) → IsPlaceOf old p → IsPlaceOf new p
+places-by P old new a b goes comes p i = places-same old new a b comes.taking goes (comes.over []).run p i
 
 pub places-on : (from : ℕ) (old new : Fed) (a b : Sight) (before after : ℕ) → Walks from old new a b before after
     → (p : ℕ) → IsPlaceOf old p → IsPlaceOf new p

@@ -6,3 +6,4 @@ pub mod Stacks
 pub mod Walks
 pub mod Finds
 pub mod Does
+pub mod Seeks

@@ -14,6 +14,8 @@ ghost use Rattle.op_cursor.specs.inner.Does.{IsAwake, CannotWake};
 use crate::fault::CursorFault;
 use crate::find::{find_before, find_behind, find_last, find_place, find_start};
 use crate::found::Found;
+use crate::pattern::Pattern;
+use crate::search::{SearchFault, find_accepted};
 use crate::walk::{arrive, wake};
 use op_base::Steps;
 use op_desk::Desk;
@@ -253,6 +255,41 @@ impl<F: Feed + Drop> Cursor<F> {
             Ok(()) => match find_place(&mut self.feed, n, desk, fuel, steps) {
                 Ok(found) => Ok(self.settle(found)),
                 Err(fault) => Err(CursorFault::Feed(fault)),
+            },
+            Err(fault) => Err(CursorFault::Feed(fault)),
+        }
+    }
+
+    /// To the next event that a pattern accepts. The pattern's size is paid first, and then each look with its test.
+    pub fn seek<D: Desk, L: Ledger>(
+        &mut self,
+        pattern: &Pattern,
+        desk: &mut D,
+        fuel: &mut Fuel,
+        steps: &mut Steps<L>,
+    ) -> Result<Move, CursorFault>
+        requires { CanStand (seen F.fed self.old) }
+        ensures moves { IfOk result (λ m. Moves any_run (moves.seek pattern.now) m
+            (moment (seen F.fed self.old) (sight D.Desk desk.old) fuel.old steps.old)
+            (moment (seen F.fed self.new) (sight D.Desk desk.new) fuel.new steps.new)) }
+        ensures breaks { OnErr result (cause_in (seen F.fed self.old) ≡ None → Breaks (moves.seek pattern.now)
+            (moment (seen F.fed self.old) (sight D.Desk desk.old) fuel.old steps.old)
+            (moment (seen F.fed self.new) (sight D.Desk desk.new) fuel.new steps.new)) }
+        ensures forward { IfOk result (λ m. GoesForward m
+            (moment (seen F.fed self.old) (sight D.Desk desk.old) fuel.old steps.old)
+            (moment (seen F.fed self.new) (sight D.Desk desk.new) fuel.new steps.new)) }
+        ensures leaves { Leaves (of_feed result)
+            (moment (seen F.fed self.old) (sight D.Desk desk.old) fuel.old steps.old)
+            (moment (seen F.fed self.new) (sight D.Desk desk.new) fuel.new steps.new) }
+    {
+        match self.wake() {
+            Ok(()) => match find_accepted(pattern, &mut self.feed, self.place, desk, fuel, steps) {
+                Ok(found) => Ok(self.settle(found)),
+                Err(SearchFault::Feed(fault)) => Err(CursorFault::Feed(fault)),
+                Err(SearchFault::Memory) => {
+                    self.exhausted = true;
+                    Err(CursorFault::Feed(FeedFault::Memory))
+                }
             },
             Err(fault) => Err(CursorFault::Feed(fault)),
         }

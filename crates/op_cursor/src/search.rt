@@ -2,15 +2,20 @@ ghost use Rattle.std.specs.Prelude.{◌≡◌, ◌+◌, ◌<◌, ◌≤◌, ◌=
 ghost use Rattle.std.specs.Prelude.{List, IfOk, OnOk, IfErr, None, true, Err};
 ghost use Rattle.op_event.specs.View.{event_in};
 ghost use Rattle.op_machine.specs.Machine.{event_now};
+ghost use Rattle.op_moves.specs.Moves as moves;
 ghost use Rattle.op_moves.specs.Moves.{is_leaving};
 ghost use Rattle.op_retrace.specs.Fed.{IsSound, shows_event};
 ghost use Rattle.op_retrace.specs.Sight.{sight};
 ghost use Rattle.op_cursor.specs.inner.Walks.{Walks};
 ghost use Rattle.op_cursor.specs.inner.Finds.{sought_test, Tells, Looks, Finds, BreaksOff};
+ghost use Rattle.op_cursor.specs.Seen.{IsPlaceOf};
+ghost use Rattle.op_cursor.specs.Moving.{any_run};
+ghost use Rattle.op_cursor.specs.inner.Does.{Does, Forward};
+ghost use Rattle.op_cursor.specs.inner.Seeks.{searching, Misses};
 
 use crate::found::{Found, end_found, is_short};
 use crate::pattern::Pattern;
-use crate::walk::step;
+use crate::walk::{arrive, step};
 use op_base::{Memory, Steps};
 use op_desk::Desk;
 use op_event::EventView;
@@ -20,6 +25,7 @@ use op_trace::Port;
 use std::sync::ledger::Ledger;
 
 /// What a search is for: an event that a pattern accepts, or one at which a box is left.
+#[derive(Drop)]
 pub(crate) enum Sought<'a> {
     Accepted(&'a Pattern),
     Left(u64),
@@ -142,5 +148,65 @@ pub(crate) fn search<F: Feed, D: Desk, L: Ledger>(
             Ok(None) => {}
             Err(fault) => return Err(fault),
         }
+    }
+}
+
+/// The next event behind a place that is sought. The feed goes to the place first, which takes no fuel.
+pub(crate) fn find_sought<F: Feed, D: Desk, L: Ledger>(
+    sought: &Sought<'_>,
+    feed: &mut F,
+    place: u64,
+    desk: &mut D,
+    fuel: &mut Fuel,
+    steps: &mut Steps<L>,
+) -> Result<Found, SearchFault>
+    requires none { (F.fed feed.old).fault ≡ None }
+    requires sound { IsSound (F.fed feed.old) }
+    requires place { IsPlaceOf (F.fed feed.old) place }
+    ensures does { IfOk result (λ y. Does any_run (searching sought.now) place y (F.fed feed.old) (F.fed feed.new)
+        (sight D.Desk desk.old) (sight D.Desk desk.new) steps.old steps.new fuel.old fuel.new) }
+    ensures forward { IfOk result (λ y. Forward place y (F.fed feed.old) (F.fed feed.new) steps.old steps.new) }
+    ensures misses { IfErr result (λ f. Misses (searching sought.now) place f (F.fed feed.old) (F.fed feed.new)
+        (sight D.Desk desk.old) (sight D.Desk desk.new) steps.old steps.new fuel.old) }
+    ensures falls { fuel.new ≤ fuel.old }
+{
+    match arrive(feed, place, desk, steps) {
+        Ok(()) => {}
+        Err(fault) => return Err(SearchFault::Feed(fault)),
+    }
+    match search(sought, feed, desk, fuel, steps) {
+        Ok(found) => Ok(found),
+        Err(fault) => Err(fault),
+    }
+}
+
+/// The next event behind a place that a pattern accepts. The pattern's size is paid first.
+pub(crate) fn find_accepted<F: Feed, D: Desk, L: Ledger>(
+    pattern: &Pattern,
+    feed: &mut F,
+    place: u64,
+    desk: &mut D,
+    fuel: &mut Fuel,
+    steps: &mut Steps<L>,
+) -> Result<Found, SearchFault>
+    requires none { (F.fed feed.old).fault ≡ None }
+    requires sound { IsSound (F.fed feed.old) }
+    requires place { IsPlaceOf (F.fed feed.old) place }
+    ensures does { IfOk result (λ y. Does any_run (moves.seek pattern.now) place y (F.fed feed.old) (F.fed feed.new)
+        (sight D.Desk desk.old) (sight D.Desk desk.new) steps.old steps.new fuel.old fuel.new) }
+    ensures forward { IfOk result (λ y. Forward place y (F.fed feed.old) (F.fed feed.new) steps.old steps.new) }
+    ensures misses { IfErr result (λ f. Misses (moves.seek pattern.now) place f (F.fed feed.old) (F.fed feed.new)
+        (sight D.Desk desk.old) (sight D.Desk desk.new) steps.old steps.new fuel.old) }
+    ensures falls { fuel.new ≤ fuel.old }
+{
+    match pattern.size(fuel) {
+        Ok(_) => {}
+        Err(WalkFault::Spent) => return Ok(Found::Spent),
+        Err(WalkFault::Memory) => return Err(SearchFault::Memory),
+    }
+    let sought = Sought::Accepted(pattern);
+    match find_sought(&sought, feed, place, desk, fuel, steps) {
+        Ok(found) => Ok(found),
+        Err(fault) => Err(fault),
     }
 }

@@ -1,3 +1,5 @@
+pub mod CalledBoxes
+pub mod CountedCalls
 pub mod MatchedPairs
 pub mod MoveCosts
 pub mod PatternUnifiers

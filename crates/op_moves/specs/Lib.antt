@@ -1,3 +1,4 @@
+pub mod Boxes
 pub mod EventTerm
 pub mod Examples
 pub mod Laws

@@ -13,9 +13,10 @@ ghost use Rattle.op_moves.specs.Moves.{parent, retry, search_on, search_back, se
 ghost use Rattle.op_moves.specs.Laws.{IsUnification, Costs, price, accepted, calls};
 ghost use Rattle.op_trace.specs.Act.{Setup};
 ghost use Rattle.op_trace.specs.Builtins.{setup_for};
-ghost use Rattle.op_trace.specs.Run.{run, started};
+ghost use Rattle.op_trace.specs.Run.{run, started, events_of};
 ghost use Rattle.op_trace.specs.World.{World};
 ghost use Rattle.op_moves.specs.Places.{ActsGoOn, IsCourse, Rising, IsNumbered};
+ghost use Rattle.op_moves.specs.Boxes.{AreCalled};
 
 /// A pattern accepts an event exactly where it has a unifier with the event's term, and the test costs the pairs that unification takes.
 pub fn tests_are_unification()
@@ -124,4 +125,9 @@ pub fn runs_rise()
 /// The acts of a program take back nothing.
 pub fn program_acts_go_on()
     ensures { (budget wanted : ℕ) → ActsGoOn (setup_for budget wanted) }
+{}
+
+/// In a run each box is called once, before it is seen at another port and before a box is called in it.
+pub fn boxes_are_called()
+    ensures { (s : Setup) (g : Term Text) (n : ℕ) (w : World) → AreCalled (events_of (run s g n w).turns) }
 {}
