@@ -15,3 +15,4 @@ pub mod PairStacks
 pub mod OwnTables
 pub mod FoundSearches
 pub mod PaidMoves
+pub mod FinishedBoxes

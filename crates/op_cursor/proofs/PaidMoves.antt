@@ -1,5 +1,5 @@
 -- Moves that come to another one, once something was paid.
-use Rattle.std.proofs.Common.{◌≡◌, ℕ, ◌+◌, ◌-◌, ◌*◌, ◌<◌, ◌≤◌, None, sym, ap, ◌∙◌, subst, arith}
+use Rattle.std.proofs.Common.{◌≡◌, List, ℕ, ◌+◌, ◌-◌, ◌*◌, ◌<◌, ◌≤◌, None, sym, ap, ◌∙◌, subst, arith}
 use Rattle.op_logic.specs.Term.{Term, size}
 use Rattle.op_trace.specs.Database.{Text}
 use Rattle.op_trace.specs.Run.{Run, events_of, steps_at}
@@ -22,7 +22,7 @@ use Rattle.op_cursor.proofs.FoundPlaces.{does-short}
 use Rattle.op_cursor.proofs.FoundSearches.{comes-broke}
 
 module _ (k n : Moving) (p : ℕ) (old new : Fed) (a b : Sight) (before after fuel mid : ℕ)
-    (same : (r : Run) (f : ℕ) → from_stand k r p f fuel ≡ from_stand n r p f mid) where
+    (same : (rest : List ℕ) (f : ℕ) → from_stand k (new.run rest) p f fuel ≡ from_stand n (new.run rest) p f mid) where
   pub does-paid : (y : Found) (left : ℕ) → Does any_run n p y old new a b before after mid left
       → Does any_run k p y old new a b before after fuel left
   does-paid y left d = record {
@@ -33,10 +33,10 @@ module _ (k n : Moving) (p : ℕ) (old new : Fed) (a b : Sight) (before after fu
         (λ rest t z o.
         let r : Run = new.run rest in
         record {
-          answer = λ q. same r old.furthest ∙ o.answer q;
+          answer = λ q. same rest old.furthest ∙ o.answer q;
           steps =
               subst (λ (u : Outcome). Bounded old.keeps r (2 * steps_at r u.furthest) old.place new.place before after)
-              (sym (same r p)) o.steps;
+              (sym (same rest p)) o.steps;
         })
         d.comes;
   }
@@ -48,12 +48,12 @@ module _ (k n : Moving) (p : ℕ) (old new : Fed) (a b : Sight) (before after fu
         broke-so _ _ _ _ old new a b l.goes.sound l.goes.none
         (λ rest t o.
         let r : Run = new.run rest in
-        let far = ap (λ (u : Outcome). u.furthest) (same r old.furthest) in
+        let far = ap (λ (u : Outcome). u.furthest) (same rest old.furthest) in
         let w = o.within in (
           omega arith,
           record {
             within = omega arith;
-            most = subst (λ (u : Outcome). after ≤ before + 2 * steps_at r u.furthest) (sym (same r p)) o.most;
+            most = subst (λ (u : Outcome). after ≤ before + 2 * steps_at r u.furthest) (sym (same rest p)) o.most;
           },
         ))
         l.comes;
@@ -72,12 +72,12 @@ module _ (k n : Moving) (p : ℕ) (old new : Fed) (a b : Sight) (before after fu
         broke-so _ _ _ _ old new a b s.sound s.none
         (λ rest t o.
         let r : Run = new.run rest in
-        let far = ap (λ (u : Outcome). u.furthest) (same r old.furthest) in
+        let far = ap (λ (u : Outcome). u.furthest) (same rest old.furthest) in
         let w = o.within in (
           omega arith,
           record {
             within = omega arith;
-            most = subst (λ (u : Outcome). after ≤ before + 2 * steps_at r u.furthest) (sym (same r p)) o.most;
+            most = subst (λ (u : Outcome). after ≤ before + 2 * steps_at r u.furthest) (sym (same rest p)) o.most;
           },
         ))
         s.broke;

@@ -15,7 +15,7 @@ use crate::fault::CursorFault;
 use crate::find::{find_before, find_behind, find_last, find_place, find_start};
 use crate::found::Found;
 use crate::pattern::Pattern;
-use crate::search::{SearchFault, find_accepted};
+use crate::search::{SearchFault, find_accepted, find_leaving};
 use crate::walk::{arrive, wake};
 use op_base::Steps;
 use op_desk::Desk;
@@ -255,6 +255,41 @@ impl<F: Feed + Drop> Cursor<F> {
             Ok(()) => match find_place(&mut self.feed, n, desk, fuel, steps) {
                 Ok(found) => Ok(self.settle(found)),
                 Err(fault) => Err(CursorFault::Feed(fault)),
+            },
+            Err(fault) => Err(CursorFault::Feed(fault)),
+        }
+    }
+
+    /// To the next event behind the place at which the box of the present event is left: its exit, fail or exception. At place 0 there
+    /// is none.
+    pub fn finish<D: Desk, L: Ledger>(
+        &mut self,
+        desk: &mut D,
+        fuel: &mut Fuel,
+        steps: &mut Steps<L>,
+    ) -> Result<Move, CursorFault>
+        requires { CanStand (seen F.fed self.old) }
+        ensures moves { IfOk result (λ m. Moves any_run moves.finish m
+            (moment (seen F.fed self.old) (sight D.Desk desk.old) fuel.old steps.old)
+            (moment (seen F.fed self.new) (sight D.Desk desk.new) fuel.new steps.new)) }
+        ensures breaks { OnErr result (cause_in (seen F.fed self.old) ≡ None → Breaks moves.finish
+            (moment (seen F.fed self.old) (sight D.Desk desk.old) fuel.old steps.old)
+            (moment (seen F.fed self.new) (sight D.Desk desk.new) fuel.new steps.new)) }
+        ensures forward { IfOk result (λ m. GoesForward m
+            (moment (seen F.fed self.old) (sight D.Desk desk.old) fuel.old steps.old)
+            (moment (seen F.fed self.new) (sight D.Desk desk.new) fuel.new steps.new)) }
+        ensures leaves { Leaves (of_feed result)
+            (moment (seen F.fed self.old) (sight D.Desk desk.old) fuel.old steps.old)
+            (moment (seen F.fed self.new) (sight D.Desk desk.new) fuel.new steps.new) }
+    {
+        match self.wake() {
+            Ok(()) => match find_leaving(&mut self.feed, self.place, desk, fuel, steps) {
+                Ok(found) => Ok(self.settle(found)),
+                Err(SearchFault::Feed(fault)) => Err(CursorFault::Feed(fault)),
+                Err(SearchFault::Memory) => {
+                    self.exhausted = true;
+                    Err(CursorFault::Feed(FeedFault::Memory))
+                }
             },
             Err(fault) => Err(CursorFault::Feed(fault)),
         }

@@ -210,3 +210,47 @@ pub(crate) fn find_accepted<F: Feed, D: Desk, L: Ledger>(
         Err(fault) => Err(fault),
     }
 }
+
+// The number of the box whose event the feed shows.
+fn call_here<F: Feed>(feed: &F) -> u64
+    requires { shows_event (F.fed feed.now) ≡ true }
+    ensures { result ≡ (event_now (F.fed feed.now).machine).call }
+{
+    match feed.event() {
+        Some(view) => view.call(),
+        None => 0,
+    }
+}
+
+/// The next place behind a place at which the box of the event there is left. The feed goes to the place first, which takes no fuel; at
+/// place 0 there is no event.
+pub(crate) fn find_leaving<F: Feed, D: Desk, L: Ledger>(
+    feed: &mut F,
+    place: u64,
+    desk: &mut D,
+    fuel: &mut Fuel,
+    steps: &mut Steps<L>,
+) -> Result<Found, SearchFault>
+    requires none { (F.fed feed.old).fault ≡ None }
+    requires sound { IsSound (F.fed feed.old) }
+    requires place { IsPlaceOf (F.fed feed.old) place }
+    ensures does { IfOk result (λ y. Does any_run moves.finish place y (F.fed feed.old) (F.fed feed.new)
+        (sight D.Desk desk.old) (sight D.Desk desk.new) steps.old steps.new fuel.old fuel.new) }
+    ensures forward { IfOk result (λ y. Forward place y (F.fed feed.old) (F.fed feed.new) steps.old steps.new) }
+    ensures misses { IfErr result (λ f. Misses moves.finish place f (F.fed feed.old) (F.fed feed.new)
+        (sight D.Desk desk.old) (sight D.Desk desk.new) steps.old steps.new fuel.old) }
+    ensures falls { fuel.new ≤ fuel.old }
+{
+    if place == 0 {
+        return Ok(Found::NoEvent);
+    }
+    match arrive(feed, place, desk, steps) {
+        Ok(()) => {}
+        Err(fault) => return Err(SearchFault::Feed(fault)),
+    }
+    let sought = Sought::Left(call_here(feed));
+    match search(&sought, feed, desk, fuel, steps) {
+        Ok(found) => Ok(found),
+        Err(fault) => Err(fault),
+    }
+}

@@ -19,11 +19,15 @@ returns-in-Err-Memory-clause-misses g c =
 pub returns-in-Ok-find_sought-clause-does : goal.returns-in-Ok-find_sought-clause-does
 returns-in-Ok-find_sought-clause-does g c =
     does-paid (moves.seek c.args.pattern.now) (searching (sought.Accepted c.args.pattern)) c.args.place _ _ _ _ _ _ c.args.fuel.now
-    c.size.new.fuel (λ r f. seek-paid c.args.pattern.now r c.args.place f c.args.fuel.now c.size.new.fuel c.in-Ok.ensures.paid)
+    c.size.new.fuel
+    (λ rest f. seek-paid c.args.pattern.now ((g.F.Feed.fed c.find_sought.new.feed).run rest) c.args.place f c.args.fuel.now c.size.new.fuel
+    c.in-Ok.ensures.paid)
     c.in-Ok-find_sought.found _ c.in-Ok-find_sought.ensures.does
 
 pub returns-in-Err-clause-misses : goal.returns-in-Err-clause-misses
 returns-in-Err-clause-misses g c =
     misses-paid (moves.seek c.args.pattern.now) (searching (sought.Accepted c.args.pattern)) c.args.place _ _ _ _ _ _ c.args.fuel.now
-    c.size.new.fuel (λ r f. seek-paid c.args.pattern.now r c.args.place f c.args.fuel.now c.size.new.fuel c.in-Ok.ensures.paid)
+    c.size.new.fuel
+    (λ rest f. seek-paid c.args.pattern.now ((g.F.Feed.fed c.find_sought.new.feed).run rest) c.args.place f c.args.fuel.now c.size.new.fuel
+    c.in-Ok.ensures.paid)
     c.in-Err.fault c.in-Err.ensures.misses
