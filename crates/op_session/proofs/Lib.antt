@@ -1,10 +1,12 @@
 pub mod BetweenBytes
 pub mod CallEnds
 pub mod CallOutcomes
+pub mod CommandMoves
 pub mod CommandTexts
 pub mod FeedMoves
 pub mod GoingOn
 pub mod MostSteps
+pub mod MoveTexts
 pub mod RunnableBodies
 pub mod SaidToCommands
 pub mod SessionEnds

@@ -1,4 +1,6 @@
 pub mod Call
+pub mod CommandExamples
+pub mod Commands
 pub mod MostSteps
 pub mod Promise
 pub mod Runnable

@@ -2,12 +2,17 @@
 #![tactic(auto)]
 
 mod answer;
+mod argument;
 mod call;
 mod command;
 mod decimal;
 mod feed;
+mod move_reply;
+mod place;
+mod reply;
 mod runnable;
 mod session;
+mod show;
 mod status;
 mod talk;
 mod words;
